@@ -1,0 +1,6 @@
+mod Blank
+mod DeskSet
+mod Order
+mod Sections
+mod States
+mod Tables

@@ -1,0 +1,9 @@
+pub mod Calls
+pub mod Folds
+pub mod Judging
+pub mod Names
+pub mod Regions
+pub mod Seen
+pub mod SingleMachine
+pub mod Stages
+pub mod Tables

@@ -1,0 +1,26 @@
+//! What all crates of the region library speak of: names, bytes, calls and entries, and the single
+//! machine with one array of byte regions that every history is judged against.
+#![tactic(auto)]
+
+pub mod bytes;
+pub mod call;
+pub mod collective;
+pub mod desk;
+pub mod entry;
+pub mod machine;
+pub mod name;
+pub mod region;
+
+pub use std::alloc::AllocError as OutOfMemory;
+
+/// The number of a node: 0 to 63.
+pub type NodeNo = u16;
+
+/// The largest number of nodes.
+pub const NODE_LIMIT: NodeNo = 64;
+
+/// The largest region, in bytes.
+pub const REGION_LIMIT: u32 = 65_536;
+
+/// The most bytes that a broadcast sends.
+pub const BROADCAST_LIMIT: usize = 65_536;

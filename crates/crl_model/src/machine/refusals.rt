@@ -1,0 +1,140 @@
+//! The refusals of the table of legal steps.
+ghost use Rattle.std.specs.Prelude.{◌≡◌, ◌+◌, ◌-◌, ◌^◌, ◌<◌, ◌≢◌, ◌⊎◌, min, true};
+ghost use Rattle.std.specs.Bool.{MatchBool};
+ghost use Rattle.crl_model.specs.declared.entry.What.{What};
+ghost use Rattle.crl_model.specs.declared.entry.Place.{Place};
+ghost use Rattle.crl_model.specs.Names.{at_node};
+ghost use Rattle.crl_model.specs.Judging.{Judges};
+ghost use Rattle.crl_model.specs.SingleMachine.{IsFree, IsRefusedSerial, IsRefusedAt};
+ghost use Rattle.crl_model.specs.Seen.{state};
+
+use crate::NodeNo;
+use crate::call::{CallKind, Refusal};
+use crate::machine::Machine;
+use crate::name::Name;
+use crate::region::Stage;
+
+impl Machine {
+    pub(crate) fn refused_at(
+        &mut self,
+        node: NodeNo,
+        why: Refusal,
+        kind: CallKind,
+        name: &Name,
+    ) -> bool
+        requires node { node < self.old.nodes }
+        requires free { IsFree (state self.old) node }
+        ensures { Judges (state self.old) node (What.Refused kind (Place.Region name.now) why) (state self.new) result }
+    {
+        if !self.is_refused_at(node, why, kind, name) {
+            return false;
+        }
+        if why == Refusal::BadSize {
+            self.use_serial(node);
+        }
+        true
+    }
+
+    pub(crate) fn refused_in(
+        &self,
+        node: NodeNo,
+        why: Refusal,
+        kind: CallKind,
+        round: u64,
+    ) -> bool
+        requires node { node < self.now.nodes }
+        requires free { IsFree (state self.now) node }
+        ensures wrong_size { result ≡ true → why ≡ Refusal.WrongSize }
+        ensures judged { why ≢ Refusal.Mixed → Judges (state self.now) node (What.Refused kind (Place.Round round) why) (state self.now) result }
+    {
+        why == Refusal::WrongSize
+            && kind == CallKind::Send
+            && round == self.desks[node as usize].came.len() as u64 + 1
+    }
+
+    fn is_refused_at(&self, node: NodeNo, why: Refusal, kind: CallKind, name: &Name) -> bool
+        requires { node < self.now.nodes }
+        ensures { MatchBool result (IsRefusedAt (state self.now) node why kind name.now) (IsRefusedAt (state self.now) node why kind name.now → ⊥) }
+    {
+        match why {
+            Refusal::BadSize | Refusal::NamesSpent => self.is_refused_create(node, why, kind, name),
+            Refusal::Unknown => kind.asks_the_home() && self.stage(name) == Stage::Unknown,
+            Refusal::Deleted => kind.asks_the_home() && self.stage(name).is_deleted(),
+            Refusal::NotMapped => kind.needs_map() && self.seat(node, name).maps == 0,
+            Refusal::SectionOpen => self.is_refused_section(node, kind, name),
+            Refusal::NotReading => {
+                let seat = self.seat(node, name);
+                kind == CallKind::EndRead && seat.maps > 0 && seat.reads == 0
+            }
+            Refusal::NotWriting => {
+                kind.needs_write()
+                    && self.seat(node, name).maps > 0
+                    && !self.is_writing(node, name)
+            }
+            Refusal::InSection => {
+                let seat = self.seat(node, name);
+                kind.needs_close()
+                    && seat.maps > 0
+                    && (seat.reads > 0 || self.is_writing(node, name))
+            }
+            Refusal::OutOfRange => kind.has_range() && self.is_writing(node, name),
+            Refusal::TooMany => self.is_refused_count(node, kind, name),
+            Refusal::WrongSize | Refusal::Mixed => false,
+        }
+    }
+
+    /// A create that is refused uses the node's next serial, or none where all are used.
+    fn is_refused_create(&self, node: NodeNo, why: Refusal, kind: CallKind, name: &Name) -> bool
+        requires node { node < self.now.nodes }
+        requires why { (why ≡ Refusal.BadSize) ⊎ (why ≡ Refusal.NamesSpent) }
+        ensures { MatchBool result (IsRefusedAt (state self.now) node why kind name.now) (IsRefusedAt (state self.now) node why kind name.now → ⊥) }
+    {
+        let used = self.desks[node as usize].used;
+        if kind != CallKind::Create || name.home != node {
+            return false;
+        }
+        if used == u32::MAX {
+            name.serial == 0
+        } else {
+            why == Refusal::BadSize && name.serial == used + 1
+        }
+    }
+
+    /// A section is refused beside one that is open at the node and excludes it.
+    fn is_refused_section(&self, node: NodeNo, kind: CallKind, name: &Name) -> bool
+        requires { node < self.now.nodes }
+        ensures { MatchBool result (IsRefusedAt (state self.now) node Refusal.SectionOpen kind name.now) (IsRefusedAt (state self.now) node Refusal.SectionOpen kind name.now → ⊥) }
+    {
+        let seat = self.seat(node, name);
+        let writing = self.is_writing(node, name);
+        match kind {
+            CallKind::Read => seat.maps > 0 && writing,
+            CallKind::Write => seat.maps > 0 && (seat.reads > 0 || writing),
+            _ => false,
+        }
+    }
+
+    /// A map, or a read section, is refused past the last that is counted.
+    fn is_refused_count(&self, node: NodeNo, kind: CallKind, name: &Name) -> bool
+        requires { node < self.now.nodes }
+        ensures { MatchBool result (IsRefusedAt (state self.now) node Refusal.TooMany kind name.now) (IsRefusedAt (state self.now) node Refusal.TooMany kind name.now → ⊥) }
+    {
+        let seat = self.seat(node, name);
+        match kind {
+            CallKind::Map => seat.maps == u32::MAX && self.stage(name) != Stage::Gone,
+            CallKind::Read => {
+                seat.maps > 0 && !self.is_writing(node, name) && seat.reads == u32::MAX
+            }
+            _ => false,
+        }
+    }
+
+    /// A create that is refused for its size uses its serial.
+    fn use_serial(&mut self, node: NodeNo)
+        requires { node < self.old.nodes }
+        ensures { state self.new ≡ record (state self.old) { used = at_node (state self.old).used node (min ((state self.old).used node + 1) (2 ^ 32 - 1)) } }
+    {
+        let desk = &mut self.desks[node as usize];
+        desk.used = desk.used.saturating_add(1);
+    }
+}
