@@ -1,6 +1,7 @@
 mod Blank
 mod DeskSet
 mod Order
+mod Runs
 mod Sections
 mod States
 mod Tables

@@ -1,7 +1,9 @@
 pub mod Calls
 pub mod Folds
 pub mod Judging
+pub mod Laws
 pub mod Names
+pub mod Patches
 pub mod Regions
 pub mod Seen
 pub mod SingleMachine

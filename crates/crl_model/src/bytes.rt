@@ -1,5 +1,6 @@
 //! Lists of bytes.
-ghost use Rattle.std.specs.Prelude.{◌≡◌, IfOk, IsTrue, ◌↔◌, length, replicate};
+ghost use Rattle.std.specs.Prelude.{◌≡◌, ◌+◌, ◌≤◌, IfOk, IsTrue, ◌↔◌, length, replicate};
+ghost use Rattle.crl_model.specs.Patches.{put_at};
 
 use crate::OutOfMemory;
 use std::alloc::Global;
@@ -81,6 +82,23 @@ impl Bytes {
     {
         self.items.as_mut_slice().copy_from_slice(bytes);
     }
+
+    /// Puts these bytes in the place of as many from `offset` on.
+    pub fn put(&mut self, offset: usize, bytes: &[u8])
+        requires { offset + length bytes.now ≤ length self.old }
+        ensures { self.new ≡ put_at offset bytes.now self.old }
+    {
+        put_into(self.items.as_mut_slice(), offset, bytes);
+    }
+}
+
+/// Puts these bytes into the slice from `offset` on.
+fn put_into(items: &mut [u8], offset: usize, bytes: &[u8])
+    requires { offset + length bytes.now ≤ length items.old }
+    ensures { items.new ≡ put_at offset bytes.now items.old }
+{
+    let end = offset + bytes.len();
+    items[offset..end].copy_from_slice(bytes);
 }
 
 impl PartialEq for Bytes {

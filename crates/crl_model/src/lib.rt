@@ -7,6 +7,7 @@ pub mod call;
 pub mod collective;
 pub mod desk;
 pub mod entry;
+pub mod laws;
 pub mod machine;
 pub mod name;
 pub mod region;

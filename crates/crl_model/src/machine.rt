@@ -111,6 +111,21 @@ impl Machine {
         }
     }
 
+    /// The number of nodes.
+    pub fn nodes(&self) -> NodeNo
+        ensures { result ≡ (state self.now).nodes }
+    {
+        self.nodes
+    }
+
+    /// The last serial that the node has used, 0 at first.
+    pub fn used(&self, node: NodeNo) -> u32
+        requires { node < (state self.now).nodes }
+        ensures { result ≡ (state self.now).used node }
+    {
+        self.desks[node as usize].used
+    }
+
     /// The row of the entry, for a node that there is.
     fn judge_row(&mut self, node: NodeNo, what: &What) -> Result<bool, Judged>
         requires node { node < self.old.nodes }

@@ -1,0 +1,10 @@
+use Rattle.std.proofs.Common.{◌≡◌, [], sym, arith, append-nil}
+use Rattle.crl_script.specs.Text.{lines_of}
+use Rattle.crl_script.proofs.TextLemmas.{line_none}
+use Rattle.crl_script.proofs.sentence.sentences.Goals as goal
+
+pub returns : goal.returns
+returns c =
+    let none : lines_of c.loop-rest.rest.now ≡ [] = line_none c.loop-rest.rest.now (grind arith) in
+    let all = rw none at c.loop-rest.invariant in
+    sym (rw append-nil at all)

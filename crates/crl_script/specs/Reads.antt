@@ -1,0 +1,11 @@
+-- What reading a script answers.
+use Rattle.std.specs.Prelude.{◌≡◌, Result, Ok, Err}
+use Rattle.crl_script.specs.declared.fault.ScriptFault.{ScriptFault}
+use Rattle.crl_script.specs.declared.fault.ScriptFault.TheVariants.{Bad, OutOfMemory}
+use Rattle.crl_script.specs.Program.{Program, Fault}
+
+-- the answer is what the text says, unless memory ran out
+abbrev pub Reads : Result Program ScriptFault → Result Program Fault → Type 0
+Reads (Ok script) says = says ≡ Ok script
+Reads (Err (Bad line why)) says = says ≡ Err (record { line = line; why = why })
+Reads (Err OutOfMemory) says = Unit {0}

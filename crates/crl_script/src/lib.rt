@@ -1,0 +1,14 @@
+//! Reads scripts: texts that say what each node calls, in order.
+#![tactic(auto)]
+
+pub mod fault;
+mod label;
+mod line;
+mod reading;
+pub mod script;
+mod sentence;
+mod word;
+
+pub use fault::{ScriptFault, ScriptWhy};
+pub use reading::read_script;
+pub use script::{Script, Statement};

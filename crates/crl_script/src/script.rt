@@ -1,0 +1,109 @@
+//! Scripts, and what they consist of.
+ghost use Rattle.std.specs.Prelude.{◌≡◌, ◌<◌, ◌≤◌, ◌^◌, ◌↔◌, IsTrue, length, map, sum, slice_get};
+
+use crl_model::NodeNo;
+use crl_model::bytes::Bytes;
+use crl_model::call::Call;
+use crl_model::name::Name;
+use std::marker::Model;
+
+/// One statement of a script. A label is seen as the name of the region that its `create` makes.
+#[derive(Debug, Drop, PartialEq)]
+pub enum Statement {
+    /// A call. That of `endwrite` has an empty `after`.
+    Call(Call),
+    /// Puts these bytes into the open write section, from `offset` on.
+    Put {
+        name: Name,
+        offset: u32,
+        bytes: Bytes,
+    },
+    /// Adds to the eight bytes of the open write section from `offset` on, which are a number, the
+    /// highest byte first. The sum is taken modulo 2^64.
+    Add {
+        name: Name,
+        offset: u32,
+        number: u64,
+    },
+}
+
+/// The most statements that a script may have to be run.
+const STATEMENT_LIMIT: usize = 1 << 40;
+
+/// A script: how many nodes there are, how many copies a node keeps, and what each node does.
+#[derive(Drop)]
+pub struct Script {
+    nodes: NodeNo,
+    cache: u16,
+    blocks: Vec<Vec<Statement>>,
+}
+
+impl Model for Script {
+    ghost use Rattle.std.specs.Prelude.{◌≡◌, map, length};
+    ghost use Rattle.crl_script.specs.Program.{Program};
+
+    ghost Value = { Program };
+
+    ghost view = { λ s. record { nodes = s.nodes; cache = s.cache; blocks = map (λ b. b.items) s.blocks.items } };
+
+    ghost invariant = { λ s. length s.blocks.items ≡ s.nodes };
+}
+
+impl Script {
+    /// The script with these blocks, one per node.
+    pub(crate) fn new(nodes: NodeNo, cache: u16, blocks: Vec<Vec<Statement>>) -> Script
+        requires { length blocks.items ≡ nodes }
+        ensures nodes { result.nodes ≡ nodes }
+        ensures cache { result.cache ≡ cache }
+        ensures blocks { result.blocks ≡ map (λ b. b.items) blocks.items }
+    {
+        Script {
+            nodes,
+            cache,
+            blocks,
+        }
+    }
+
+    /// The number of nodes.
+    pub fn nodes(&self) -> NodeNo
+        ensures { result ≡ self.now.nodes }
+    {
+        self.nodes
+    }
+
+    /// How many copies of regions a node keeps.
+    pub fn cache(&self) -> u16
+        ensures { result ≡ self.now.cache }
+    {
+        self.cache
+    }
+
+    /// The statements of a node, in order.
+    pub fn statements(&self, node: NodeNo) -> &[Statement]
+        requires { node < self.now.nodes }
+        ensures { slice_get self.now.blocks node ≡ Some result.now }
+    {
+        self.blocks[node as usize].as_slice()
+    }
+
+    /// Whether the script has at most 2^40 statements in all.
+    pub fn fits(&self) -> bool
+        ensures { IsTrue result ↔ (sum (map length self.now.blocks) ≤ 2 ^ 40) }
+    {
+        within_limit(self.blocks.as_slice())
+    }
+}
+
+/// Whether these blocks have at most 2^40 statements in all.
+fn within_limit(blocks: &[Vec<Statement>]) -> bool
+    ensures { IsTrue result ↔ (sum (map length (map (λ b. b.items) blocks.now)) ≤ 2 ^ 40) }
+{
+    let mut left = STATEMENT_LIMIT;
+    for block in blocks {
+        if block.len() > left {
+            return false;
+        }
+        left -= block.len();
+    }
+    true
+}
