@@ -1,5 +1,6 @@
 mod Blank
 mod DeskSet
+pub mod Histories
 mod Order
 mod Runs
 mod Sections

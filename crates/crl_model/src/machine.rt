@@ -111,6 +111,26 @@ impl Machine {
         }
     }
 
+    /// The size of the region, in bytes; 0 where the name was never created.
+    pub fn size(&self, name: Name) -> u32
+        ensures { result ≡ length ((state self.now).bytes name) }
+    {
+        match self.regions.get(&name) {
+            Some(region) => region.size(),
+            None => 0,
+        }
+    }
+
+    /// The bytes that the region has or, where it was deleted, had; none where the name was never created.
+    pub fn last_bytes(&self, name: Name) -> &[u8]
+        ensures { result.now ≡ (state self.now).bytes name }
+    {
+        match self.regions.get(&name) {
+            Some(region) => region.bytes.as_slice(),
+            None => &[],
+        }
+    }
+
     /// The number of nodes.
     pub fn nodes(&self) -> NodeNo
         ensures { result ≡ (state self.now).nodes }

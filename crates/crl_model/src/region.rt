@@ -1,10 +1,11 @@
 //! A region of the single machine, and what each node has of it.
 ghost use Rattle.std.specs.Prelude.{◌≡◌, ◌<◌, ◌≤◌, IsTrue, IfOk, None, replicate, slice_get, slice_set, length, ◌↔◌};
 ghost use Rattle.crl_model.specs.Tables.{blank, readers_of};
+ghost use Rattle.crl_model.specs.declared.TheConstants.{REGION_LIMIT};
 ghost use Rattle.crl_model.specs.Stages.{is_there, is_deleted};
 
 use crate::bytes::Bytes;
-use crate::{NodeNo, OutOfMemory};
+use crate::{NodeNo, OutOfMemory, REGION_LIMIT};
 use std::alloc::Global;
 
 /// Where a name stands: no region has it; its region is there; the region is being deleted, by this
@@ -49,6 +50,7 @@ pub struct Region {
     /// The node with a write section open.
     pub writer: Option<NodeNo>,
     ghost readers_fit: { readers ≡ readers_of seats.items },
+    ghost size_fits: { length bytes ≤ REGION_LIMIT },
 }
 
 impl Region {
@@ -58,6 +60,7 @@ impl Region {
     ///
     /// `OutOfMemory`.
     pub fn new(alloc: Global, size: u32, nodes: NodeNo) -> Result<Region, OutOfMemory>
+        requires { size ≤ REGION_LIMIT }
         ensures stage { IfOk result (λ r. r.stage ≡ Stage.Live) }
         ensures bytes { IfOk result (λ r. r.bytes ≡ replicate size 0) }
         ensures seats { IfOk result (λ r. r.seats.items ≡ replicate nodes blank) }
@@ -73,6 +76,13 @@ impl Region {
             readers: 0,
             writer: None,
         })
+    }
+
+    /// The number of its bytes.
+    pub fn size(&self) -> u32
+        ensures { result ≡ length self.now.bytes }
+    {
+        self.bytes.len() as u32
     }
 
     /// What the node has of the region.

@@ -89,7 +89,7 @@ impl Machine {
         let Some(region) = self.regions.get(name) else {
             return false;
         };
-        if !region.is_there() || region.bytes.len() != size as usize {
+        if !region.is_there() || region.size() != size {
             return false;
         }
         let seat = self.seat(node, name);

@@ -1,0 +1,6 @@
+use Rattle.std.proofs.Common.{◌∙◌, ◌++◌, ap, sym, append_assoc, refl}
+use Rattle.std.proofs.lemmas.Grind.{common_steps}
+use Rattle.crl_cli.proofs.outcome.bad_script.Goals as goal
+
+pub returns-clause-text : goal.returns-clause-text
+returns-clause-text c = ap (λ v. v.items) c.into_bytes.ensures.value ∙ c.in_ok-text.ensures.ok ∙ simp append_assoc refl

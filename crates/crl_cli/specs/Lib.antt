@@ -1,0 +1,7 @@
+pub mod Answers
+pub mod Codes
+pub mod OneNode
+pub mod Outcome
+pub mod Report
+pub mod Steps
+pub mod Texts

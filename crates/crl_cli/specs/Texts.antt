@@ -1,0 +1,34 @@
+-- What is printed in the place of an account.
+use Rattle.std.specs.Prelude.{ℕ, List, ◌++◌, codes, decimal}
+use Rattle.crl_script.specs.declared.fault.ScriptWhy.{ScriptWhy}
+use Rattle.crl_script.specs.declared.fault.ScriptWhy.TheVariants.{NotYet, NoNodes, BadNodes, BadWord, BadNumber, BadHex, UnknownLabel, TwiceLabel, BadSize, BadNode, TwiceNode, LineTooLong}
+
+abbrev pub usage_text : List ℕ
+usage_text = codes "usage: crl COMMAND\n"
+
+abbrev pub read_fault_text : List ℕ
+read_fault_text = codes "read fault\n"
+
+abbrev pub why_word : ScriptWhy → List ℕ
+why_word NotYet = codes "NotYet"
+why_word NoNodes = codes "NoNodes"
+why_word BadNodes = codes "BadNodes"
+why_word BadWord = codes "BadWord"
+why_word BadNumber = codes "BadNumber"
+why_word BadHex = codes "BadHex"
+why_word UnknownLabel = codes "UnknownLabel"
+why_word TwiceLabel = codes "TwiceLabel"
+why_word BadSize = codes "BadSize"
+why_word BadNode = codes "BadNode"
+why_word TwiceNode = codes "TwiceNode"
+why_word LineTooLong = codes "LineTooLong"
+
+-- `bad script LINE WHY`: the line is 0 where the fault is the whole text's
+abbrev pub bad_script_text : ℕ → List ℕ → List ℕ
+bad_script_text line why = codes "bad script " ++ decimal line ++ codes " " ++ why ++ codes "\n"
+
+abbrev pub too_long_text : List ℕ
+too_long_text = bad_script_text 0 (codes "TooLong")
+
+abbrev pub not_yet_text : List ℕ
+not_yet_text = bad_script_text 0 (codes "NotYet")

@@ -1,0 +1,61 @@
+//! The calls that the program makes.
+ghost use Rattle.std.specs.Prelude.{◌≡◌, ◌≤◌, map, string_bytes};
+ghost use Rattle.crl_outside.specs.Faults.{Rose};
+ghost use Rattle.crl_cli.specs.Answers.{Prints, IsHeadline};
+ghost use Rattle.crl_cli.specs.Outcome.{IsOrderFirst, asked};
+
+use crate::outcome::outcome_of;
+use crate::status::Status;
+use crl_outside::sink::Sink;
+use crl_outside::source::Source;
+use crl_outside::whole::push_all;
+use std::alloc::Global;
+use std::sync::Wait;
+use std::thread::Threads;
+
+/// Does what the words say: `order first` reads a script from the source to its end, or up to the first
+/// byte that is too many, runs it, and prints its account to the sink. The whole text is made before the
+/// first push. It waits for nobody and always returns.
+pub fn quiet<S: Source, K: Sink>(
+    alloc: Global,
+    words: &[String],
+    source: &mut S,
+    sink: &mut K,
+) -> Status
+    // Status 0: what the sink took is one history of a single machine with one array of byte regions.
+    ensures headline { result ≡ Status.Ok → IsHeadline (S.left source.old) (S.left source.new) (K.held sink.old) (K.held sink.new) }
+
+    // Each status comes exactly where the table of causes says, with its text.
+    ensures prints { Prints (asked (map string_bytes words.now) (S.left source.old) (S.left source.new) (S.faults source.old) (S.faults source.new)) (K.held sink.old) (K.held sink.new) result }
+    ensures write_fault { result ≡ Status.WriteFault → Rose (K.faults sink.old) (K.faults sink.new) }
+    ensures unprinted { result ≡ Status.OutOfMemory → sink.new ≡ sink.old }
+    ensures unpulled { (IsOrderFirst (map string_bytes words.now) → ⊥) → source.new ≡ source.old }
+    ensures faults { (S.faults source.old ≤ S.faults source.new) × (K.faults sink.old ≤ K.faults sink.new) }
+{
+    let Ok(outcome) = outcome_of(alloc, words, source) else {
+        return Status::OutOfMemory;
+    };
+    match push_all(sink, outcome.text.as_slice()) {
+        Ok(()) => outcome.status,
+        Err(_) => Status::WriteFault,
+    }
+}
+
+/// The call that the program makes: what `quiet` does. It is given the leave to start threads and to wait
+/// for them, and doesn't use it yet.
+pub fn top<R: Threads + Wait + Sync, S: Source, K: Sink>(
+    _rt: &R,
+    alloc: Global,
+    words: &[String],
+    source: &mut S,
+    sink: &mut K,
+) -> Status
+    ensures headline { result ≡ Status.Ok → IsHeadline (S.left source.old) (S.left source.new) (K.held sink.old) (K.held sink.new) }
+    ensures prints { Prints (asked (map string_bytes words.now) (S.left source.old) (S.left source.new) (S.faults source.old) (S.faults source.new)) (K.held sink.old) (K.held sink.new) result }
+    ensures write_fault { result ≡ Status.WriteFault → Rose (K.faults sink.old) (K.faults sink.new) }
+    ensures unprinted { result ≡ Status.OutOfMemory → sink.new ≡ sink.old }
+    ensures unpulled { (IsOrderFirst (map string_bytes words.now) → ⊥) → source.new ≡ source.old }
+    ensures faults { (S.faults source.old ≤ S.faults source.new) × (K.faults sink.old ≤ K.faults sink.new) }
+{
+    quiet(alloc, words, source, sink)
+}

@@ -1,0 +1,36 @@
+//! How a command ended.
+ghost use Rattle.std.specs.Prelude.{◌≡◌};
+ghost use Rattle.crl_cli.specs.Codes.{code_of};
+
+/// How a command ended, and what it printed.
+#[derive(Clone, Copy, Debug, PartialEq, Eq)]
+pub enum Status {
+    /// The account of the run, the final regions and the counts.
+    Ok,
+    /// The words are no command: `usage: crl COMMAND`.
+    Usage,
+    /// The bytes aren't a script that can be run: `bad script LINE WHY`.
+    BadScript,
+    /// A pull failed: `read fault`.
+    ReadFault,
+    /// A push failed: a first part of the text.
+    WriteFault,
+    /// There was no memory: nothing.
+    OutOfMemory,
+}
+
+impl Status {
+    /// The exit status of the program.
+    pub fn code(self) -> u8
+        ensures { result ≡ code_of self }
+    {
+        match self {
+            Status::Ok => 0,
+            Status::Usage => 1,
+            Status::BadScript => 2,
+            Status::ReadFault => 4,
+            Status::WriteFault => 5,
+            Status::OutOfMemory => 6,
+        }
+    }
+}
