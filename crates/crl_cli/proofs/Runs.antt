@@ -1,12 +1,12 @@
 -- The run of all statements, one by one.
-use Rattle.std.proofs.Common.{◌≡◌, ℕ, zero, suc, ◌+◌, ◌<◌, List, [], ◌∷◌, ◌++◌, length, drop, get_or, refl, sym, ap, ◌∙◌, arith, append_assoc, append-nil, subst}
+use Rattle.std.proofs.Common.{◌≡◌, ℕ, ◌+◌, ◌<◌, List, [], ◌∷◌, ◌++◌, length, drop, get_or, refl, sym, ap, ◌∙◌, append_assoc, append-nil, subst}
 use Rattle.std.proofs.lemmas.List.{drop_more}
 use Rattle.std.specs.declared.option.Option.{Option}
 use Rattle.std.specs.declared.option.Option.TheVariants.{None, Some}
 use Rattle.crl_model.specs.declared.call.Call.TheVariants as call
 use Rattle.crl_model.specs.declared.entry.What.{What}
 use Rattle.crl_model.specs.declared.entry.Entry.{Entry}
-use Rattle.crl_model.specs.SingleMachine.{State, IsLegal, IsHistory, after, after_all}
+use Rattle.crl_model.specs.SingleMachine.{State, IsLegal, IsHistory, after_all}
 use Rattle.crl_model.proofs.Histories.{history_push, after_push}
 use Rattle.crl_script.specs.declared.script.Statement.{Statement}
 use Rattle.crl_script.specs.declared.script.Statement.TheVariants.{Call, Put, Add}

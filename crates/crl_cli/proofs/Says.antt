@@ -1,5 +1,5 @@
 -- What is said of the bytes that were read, from what is said of their parts.
-use Rattle.std.proofs.Common.{◌≡◌, ◌≤◌, ℕ, List, length, sym, Ok, Err}
+use Rattle.std.proofs.Common.{◌≡◌, ◌≤◌, ℕ, List, length, Ok, Err}
 use Rattle.std.specs.Prelude.{IfOk, Result}
 use Rattle.crl_script.specs.Program.{Program}
 use Rattle.crl_script.specs.Sentence.{script_of}

@@ -4,7 +4,7 @@ use Rattle.std.specs.declared.option.Option.{Option}
 use Rattle.std.specs.Io.KnownBytes.{Appends}
 use Rattle.crl_outside.specs.Faults.{AppendsFront}
 use Rattle.crl_cli.specs.declared.status.Status.{Status}
-use Rattle.crl_cli.specs.declared.status.Status.TheVariants.{Ok, Usage, BadScript, ReadFault, WriteFault, OutOfMemory}
+use Rattle.crl_cli.specs.declared.status.Status.TheVariants.{WriteFault, OutOfMemory}
 use Rattle.crl_cli.specs.Outcome.{Asked, Comes, IsInput, IsRun}
 
 -- The text of the status was printed whole; a fault of the sink left a first part of the text of some

@@ -1,6 +1,6 @@
 -- The run of a script of one node: each statement in turn makes its call, and each call's answer is known
 -- at once. It is said by the single machine alone.
-use Rattle.std.specs.Prelude.{◌≡◌, ℕ, ◌+◌, ◌≤◌, List, [], ◌∷◌, ◌++◌, length, unwrap_or, IsSome}
+use Rattle.std.specs.Prelude.{ℕ, ◌+◌, ◌≤◌, List, [], ◌∷◌, ◌++◌, length, unwrap_or, IsSome}
 use Rattle.std.specs.declared.option.Option.{Option}
 use Rattle.std.specs.declared.option.Option.TheVariants.{None, Some}
 use Rattle.crl_model.specs.declared.name.Name.{Name}
@@ -12,7 +12,7 @@ use Rattle.crl_model.specs.Names.{at_name}
 use Rattle.crl_model.specs.Patches.{put_at}
 use Rattle.crl_model.specs.SingleMachine.{State, IsLegal, after}
 use Rattle.crl_script.specs.declared.script.Statement.{Statement}
-use Rattle.crl_script.specs.declared.script.Statement.TheVariants.{Call, Put, Add}
+use Rattle.crl_script.specs.declared.script.Statement.TheVariants.{Call, Put}
 
 -- The bytes that the node's open write sections are to leave: those with which the section began, as the
 -- puts since then have changed them.

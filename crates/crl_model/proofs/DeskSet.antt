@@ -1,14 +1,11 @@
 -- A desk written into the list of desks.
-use Rattle.std.proofs.Common.{◌≡◌, ℕ, zero, suc, ◌+◌, ◌<◌, ◌≤◌, Bool, true, false, cond, eqb, List, [], ◌∷◌, length, set, refl, sym, ap, ◌∙◌, arith}
+use Rattle.std.proofs.Common.{◌≡◌, ℕ, zero, suc, ◌<◌, true, false, cond, eqb, List, [], ◌∷◌, length, set, refl, sym, ap, ◌∙◌, arith}
 use Rattle.std.specs.Prelude.{slice_get}
 use Rattle.std.proofs.Common.{get_or}
 use Rattle.std.proofs.lemmas.Option.{slice_get_read}
 use Rattle.std.specs.Option.{option_map_or}
-use Rattle.std.specs.declared.option.Option.{Option}
-use Rattle.std.specs.declared.option.Option.TheVariants.{None, Some}
+use Rattle.std.specs.declared.option.Option.TheVariants.{Some}
 use Rattle.crl_model.specs.declared.desk.Desk.{Desk}
-use Rattle.crl_model.specs.Tables.{used_at}
-use Rattle.crl_model.specs.Names.{at_node}
 
 set_here : (ds : List Desk) (n : ℕ) (d : Desk) → n < length ds → slice_get (set ds n d) n ≡ Some d
 set_here [] n d h = absurd (omega arith)

@@ -1,11 +1,11 @@
 -- When two states are one, and how a write to a table changes the state.
-use Rattle.std.proofs.Common.{◌≡◌, ℕ, zero, suc, Bool, true, false, cond, refl, sym, ap, ◌∙◌, arith, ◌+◌, ◌<◌, List, [], length, get_or, set, replicate, is_eq, eqb, ◌&&◌, true≢false}
+use Rattle.std.proofs.Common.{◌≡◌, ℕ, zero, suc, Bool, true, false, cond, refl, sym, ap, ◌∙◌, arith, ◌+◌, ◌<◌, List, [], length, get_or, set, replicate, eqb, ◌&&◌, true≢false}
 use Rattle.std.specs.Option.{option_map_or}
 use Rattle.std.specs.List.{All}
 use Rattle.std.specs.declared.option.Option.{Option}
 use Rattle.std.specs.declared.option.Option.TheVariants.{None, Some}
 use Rattle.std.proofs.Common.{get_or-set_other}
-use Rattle.std.proofs.lemmas.Grind.{get_or-set_at, common_steps}
+use Rattle.std.proofs.lemmas.Grind.{get_or-set_at}
 use Rattle.crl_model.specs.declared.name.Name.{Name}
 use Rattle.crl_model.specs.declared.region.Region.{Region}
 use Rattle.crl_model.specs.declared.region.Seat.{Seat}
@@ -13,7 +13,7 @@ use Rattle.crl_model.specs.declared.region.Stage.{Stage}
 use Rattle.crl_model.specs.declared.region.Stage.TheVariants.{Unknown, Live}
 use Rattle.crl_model.specs.declared.desk.Desk.{Desk}
 use Rattle.crl_model.specs.declared.collective.Part.{Part}
-use Rattle.crl_model.specs.Names.{name_cmp, name_eq, at_node, at_name, at_pair}
+use Rattle.crl_model.specs.Names.{name_eq, at_node, at_name, at_pair}
 use Rattle.crl_model.specs.Judging.{with_seat, the_seat}
 use Rattle.crl_model.specs.Tables.{blank, is_writer, used_at, came_at, told_at}
 use Rattle.crl_model.specs.Seen.{state_of, seat_of}

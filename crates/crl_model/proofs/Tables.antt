@@ -1,6 +1,5 @@
 -- A region or a desk written into its table, and a new region added.
-use Rattle.std.proofs.Common.{◌≡◌, ℕ, zero, suc, ◌+◌, ◌<◌, ◌≤◌, Bool, true, false, cond, eqb, List, [], ◌∷◌, length, set, get_or, refl, sym, ap, ◌∙◌, arith, is_eq, true≢false}
-use Rattle.std.specs.Prelude.{slice_get}
+use Rattle.std.proofs.Common.{◌≡◌, ℕ, ◌+◌, ◌<◌, ◌≤◌, Bool, true, false, cond, eqb, List, length, set, get_or, refl, sym, ap, ◌∙◌, arith, is_eq, true≢false}
 use Rattle.std.proofs.lemmas.Grind.{common_steps}
 use Rattle.std.specs.Option.{option_map_or}
 use Rattle.std.specs.declared.option.Option.{Option}
@@ -10,7 +9,7 @@ use Rattle.crl_model.specs.declared.region.Region.{Region}
 use Rattle.crl_model.specs.declared.region.Stage.{Stage}
 use Rattle.crl_model.specs.declared.region.Stage.TheVariants.{Unknown, Live, Going, Gone}
 use Rattle.crl_model.specs.declared.desk.Desk.{Desk}
-use Rattle.crl_model.specs.Names.{name_cmp, name_eq, at_node, at_name}
+use Rattle.crl_model.specs.Names.{name_cmp, name_eq}
 use Rattle.crl_model.specs.Tables.{used_at, deletes_at}
 use Rattle.crl_model.specs.Regions.{Agree, TablesAgree, stage_in, writer_in, is_in}
 use Rattle.crl_model.proofs.Order.{same_name, name_eq_is}
@@ -124,10 +123,13 @@ agree_begun nodes G H ds n name r w d p inside live going writer used deletes no
   where
     not_both : {q : Name} {o : Option Name} → o ≡ None → o ≡ Some q → ⊥
     not_both e h = cc
+
     not_live : {m : ℕ} → Live ≡ Going m → ⊥
     not_live e = cc
+
     name_self : (a : Name) → name_eq a a ≡ true
     name_self a = grind arith
+
     at_found : (q : Name) → name_eq name q ≡ true → stage_in G q ≡ r.stage
     at_found q same = ap (λ o. option_map_or (λ (r : Region). r.stage) o Unknown) (ap G (sym (same_name name q same)) ∙ p.found)
 
@@ -165,12 +167,16 @@ agree_ended nodes G H ds n name r w d p inside going gone writer used deletes a 
   where
     not_some : {q : Name} → ◌≡◌ {A = Option Name} None (Some q) → ⊥
     not_some e = cc
+
     not_gone : {m : ℕ} → Gone ≡ Going m → ⊥
     not_gone e = cc
+
     name_self : (a : Name) → name_eq a a ≡ true
     name_self a = grind arith
+
     at_found : (q : Name) → name_eq name q ≡ true → stage_in G q ≡ r.stage
     at_found q same = ap (λ o. option_map_or (λ (r : Region). r.stage) o Unknown) (ap G (sym (same_name name q same)) ∙ p.found)
+
     this : deletes_at ds n ≡ Some name
     this = a.going name n (ap (λ o. option_map_or (λ (r : Region). r.stage) o Unknown) p.found ∙ going)
 
@@ -229,10 +235,13 @@ agree_added nodes G H ds n name w d a absent live writer t = record {
   where
     not_some : {m : ℕ} → ◌≡◌ {A = Option ℕ} None (Some m) → ⊥
     not_some e = cc
+
     not_live : {m : ℕ} → Live ≡ Going m → ⊥
     not_live e = cc
+
     not_unknown : {m : ℕ} → Unknown ≡ Going m → ⊥
     not_unknown e = cc
+
     more : (m k : ℕ) → k ≤ used_at ds m → k ≤ used_at (set ds n d) m
     more m k h = rw (desk_set (λ (d : Desk). d.used) 0 ds n m d a.inside) (elim (eqb n m) as (λ b. eqb n m ≡ b → k ≤ cond b d.used (used_at ds m)) [
       | true ↦ λ here. let same : used_at ds n ≡ used_at ds m = ap (used_at ds) (node_is n m here) in omega (arith, a.used)
@@ -265,8 +274,10 @@ agree_start nodes G ds none quiet = record {
   where
     not_some : {m : ℕ} → ◌≡◌ {A = Option ℕ} None (Some m) → ⊥
     not_some e = cc
+
     not_name : {q : Name} → ◌≡◌ {A = Option Name} None (Some q) → ⊥
     not_name e = cc
+
     not_going : {m : ℕ} → Unknown ≡ Going m → ⊥
     not_going e = cc
 

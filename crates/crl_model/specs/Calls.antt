@@ -1,7 +1,7 @@
 -- Which calls a refusal may meet, and the call of a part.
 use Rattle.std.specs.Prelude.{Bool, true, false}
 use Rattle.crl_model.specs.declared.call.CallKind.{CallKind}
-use Rattle.crl_model.specs.declared.call.CallKind.TheVariants.{Create, Delete, Map, Unmap, Read, EndRead, Write, Put, Add, EndWrite, Flush, Barrier, Send, Receive, Sum, Min, Max}
+use Rattle.crl_model.specs.declared.call.CallKind.TheVariants.{Delete, Map, Unmap, Read, EndRead, Write, Put, Add, EndWrite, Flush, Barrier, Send, Receive, Sum, Min, Max}
 use Rattle.crl_model.specs.declared.collective.Part.{Part}
 use Rattle.crl_model.specs.declared.collective.Part.TheVariants as part
 

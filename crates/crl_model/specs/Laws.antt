@@ -1,11 +1,11 @@
 -- What holds of every legal history, in words of its own.
-use Rattle.std.specs.Prelude.{◌≡◌, ◌≢◌, ℕ, ◌<◌, ◌≤◌, Bool, true, false, List, [], ◌∷◌, if◌then◌else◌, replicate}
+use Rattle.std.specs.Prelude.{◌≡◌, ℕ, ◌<◌, true, List, [], ◌∷◌, if◌then◌else◌, replicate}
 use Rattle.crl_model.specs.declared.name.Name.{Name}
 use Rattle.crl_model.specs.declared.entry.What.{What}
 use Rattle.crl_model.specs.declared.entry.What.TheVariants.{Create, Map, Unmap, StartRead, Read, StartWrite, Write, Flush, Deleting, Deleted, Come, Came, Refused}
 use Rattle.crl_model.specs.declared.entry.Entry.{Entry}
 use Rattle.crl_model.specs.Names.{name_eq}
-use Rattle.crl_model.specs.SingleMachine.{State, start, IsHistory, after_all}
+use Rattle.crl_model.specs.SingleMachine.{State}
 
 -- the bytes that the newest create or write section of the region left, in a history that follows these bytes
 abbrev pub left_by : Name → What → List ℕ → List ℕ

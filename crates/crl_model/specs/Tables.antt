@@ -1,12 +1,10 @@
 -- What the machine's tables keep, and what they stand for.
-use Rattle.std.specs.Prelude.{◌≡◌, ◌≢◌, ℕ, Bool, true, false, ◌==◌, ◌<◌, ◌≤◌, nat_lt, List, [], slice_get, slice_index_or, count_by}
+use Rattle.std.specs.Prelude.{ℕ, Bool, false, ◌==◌, nat_lt, List, [], slice_get, count_by}
 use Rattle.std.specs.Option.{option_map_or}
 use Rattle.std.specs.declared.option.Option.{Option}
 use Rattle.std.specs.declared.option.Option.TheVariants.{None, Some}
 use Rattle.crl_model.specs.declared.name.Name.{Name}
 use Rattle.crl_model.specs.declared.collective.Part.{Part}
-use Rattle.crl_model.specs.declared.region.Stage.{Stage}
-use Rattle.crl_model.specs.declared.region.Stage.TheVariants.{Going}
 use Rattle.crl_model.specs.declared.region.Seat.{Seat}
 use Rattle.crl_model.specs.declared.desk.Desk.{Desk}
 

@@ -19,17 +19,32 @@ pub enum Place {
 #[derive(Debug, Drop, PartialEq)]
 pub enum What {
     /// It made a region of zeros.
-    Create { name: Name, size: u32 },
+    Create {
+        name: Name,
+        size: u32,
+    },
     /// It mapped the region, which has this size.
-    Map { name: Name, size: u32 },
+    Map {
+        name: Name,
+        size: u32,
+    },
     /// It undid one map.
-    Unmap { name: Name },
+    Unmap {
+        name: Name,
+    },
     /// Its read section opened.
-    StartRead { name: Name },
+    StartRead {
+        name: Name,
+    },
     /// Its read section ended, and showed these bytes.
-    Read { name: Name, seen: Bytes },
+    Read {
+        name: Name,
+        seen: Bytes,
+    },
     /// Its write section opened.
-    StartWrite { name: Name },
+    StartWrite {
+        name: Name,
+    },
     /// Its write section ended: it showed `before` and left `after`.
     Write {
         name: Name,
@@ -37,15 +52,26 @@ pub enum What {
         after: Bytes,
     },
     /// It sent its copy of the region back.
-    Flush { name: Name },
+    Flush {
+        name: Name,
+    },
     /// Its delete of the region began.
-    Deleting { name: Name },
+    Deleting {
+        name: Name,
+    },
     /// Its delete of the region is done.
-    Deleted { name: Name },
+    Deleted {
+        name: Name,
+    },
     /// It came to its next round with this part.
-    Come { part: Part },
+    Come {
+        part: Part,
+    },
     /// It was told what this round, from 1, gives.
-    Came { round: u64, fold: Fold },
+    Came {
+        round: u64,
+        fold: Fold,
+    },
     /// Its call was refused.
     Refused {
         kind: CallKind,

@@ -259,8 +259,8 @@ impl Machine {
         requires len { length ((state self.old).bytes name.now) ≡ length after.now }
         requires there { IsSome (get name_cmp self.old.regions name.now) }
         ensures { state self.new ≡ record (state self.old) {
-            writes = at_pair (state self.old).writes node name.now false;
-            bytes = at_name (state self.old).bytes name.now after.now;
+          writes = at_pair (state self.old).writes node name.now false;
+          bytes = at_name (state self.old).bytes name.now after.now;
         } }
     {
         match self.regions.get_mut(name) {

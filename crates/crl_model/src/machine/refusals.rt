@@ -35,13 +35,7 @@ impl Machine {
         true
     }
 
-    pub(crate) fn refused_in(
-        &self,
-        node: NodeNo,
-        why: Refusal,
-        kind: CallKind,
-        round: u64,
-    ) -> bool
+    pub(crate) fn refused_in(&self, node: NodeNo, why: Refusal, kind: CallKind, round: u64) -> bool
         requires node { node < self.now.nodes }
         requires free { IsFree (state self.now) node }
         ensures wrong_size { result ≡ true → why ≡ Refusal.WrongSize }
@@ -67,9 +61,7 @@ impl Machine {
                 kind == CallKind::EndRead && seat.maps > 0 && seat.reads == 0
             }
             Refusal::NotWriting => {
-                kind.needs_write()
-                    && self.seat(node, name).maps > 0
-                    && !self.is_writing(node, name)
+                kind.needs_write() && self.seat(node, name).maps > 0 && !self.is_writing(node, name)
             }
             Refusal::InSection => {
                 let seat = self.seat(node, name);

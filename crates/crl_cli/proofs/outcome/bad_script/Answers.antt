@@ -1,5 +1,4 @@
-use Rattle.std.proofs.Common.{◌∙◌, ◌++◌, ap, sym, append_assoc, refl}
-use Rattle.std.proofs.lemmas.Grind.{common_steps}
+use Rattle.std.proofs.Common.{◌∙◌, ap, append_assoc, refl}
 use Rattle.crl_cli.proofs.outcome.bad_script.Goals as goal
 
 pub returns-clause-text : goal.returns-clause-text

@@ -1,7 +1,4 @@
-use Rattle.std.proofs.Common.{arith, drop, refl, ◌≡◌, [], length}
-use Rattle.std.proofs.lemmas.Grind.{common_steps}
 use Rattle.crl_model.specs.SingleMachine.{start}
-use Rattle.crl_script.specs.declared.script.Statement.{Statement}
 use Rattle.crl_cli.proofs.Runs.{at_start, one_more, stopped}
 use Rattle.crl_cli.proofs.runner.Runner.run.Goals as goal
 

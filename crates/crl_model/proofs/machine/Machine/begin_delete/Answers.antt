@@ -1,13 +1,9 @@
-use Rattle.std.proofs.Common.{◌≡◌, ◌<◌, ◌∙◌, arith, sym, ap, length, refl, [], None, Some}
-use Rattle.std.specs.BTreeMap.{get}
+use Rattle.std.proofs.Common.{◌≡◌, ◌∙◌, arith, sym, ap, length, refl, [], None, Some}
 use Rattle.std.specs.Prelude.{IsSome}
 use Rattle.std.specs.declared.option.Option.{Option}
-use Rattle.std.proofs.lemmas.Grind.{common_steps}
-use Rattle.crl_model.specs.Names.{name_cmp}
 use Rattle.crl_model.specs.declared.name.Name.{Name}
 use Rattle.crl_model.specs.declared.region.Region.{Region}
-use Rattle.crl_model.specs.declared.region.Stage.TheVariants.{Live, Going, Gone}
-use Rattle.crl_model.specs.Tables.{used_at, deletes_at}
+use Rattle.crl_model.specs.Tables.{deletes_at}
 use Rattle.crl_model.proofs.DeskSet.{at_desk}
 use Rattle.crl_model.proofs.States.{same_state, stage_written}
 use Rattle.crl_model.proofs.Tables.{agree_begun, fit_written}

@@ -1,4 +1,4 @@
-use Rattle.std.proofs.Common.{◌≡◌, ℕ, ◌<◌, ◌∙◌, arith, sym, ap, length, None, Some}
+use Rattle.std.proofs.Common.{◌≡◌, ℕ, ◌<◌, ◌∙◌, sym, ap, length, None, Some}
 use Rattle.std.specs.declared.option.Option.{Option}
 use Rattle.crl_model.proofs.States.{same_state, write_closed}
 use Rattle.crl_model.proofs.Tables.{agree_writer, fit_written}

@@ -1,4 +1,4 @@
-use Rattle.std.proofs.Common.{◌≡◌, ◌<◌, ◌∙◌, [], ◌∷◌, ◌++◌, arith, sym, ap, refl, rules, None, Ok, Err}
+use Rattle.std.proofs.Common.{◌∙◌, [], arith, sym, refl, rules, None, Ok, Err}
 use Rattle.std.specs.Prelude.{OnErr, Result}
 use Rattle.std.specs.BTreeMap.{get}
 use Rattle.crl_model.specs.Names.{name_cmp}

@@ -1,9 +1,9 @@
-use Rattle.std.proofs.Common.{◌≡◌, ◌<◌, ◌+◌, ◌∙◌, [], length, arith, refl, sym, ap, None}
+use Rattle.std.proofs.Common.{◌≡◌, ◌+◌, [], arith, sym, None}
 use Rattle.std.specs.BTreeMap.{get}
 use Rattle.std.proofs.Math.ListN.{length-replicate}
 use Rattle.std.proofs.lemmas.Grind.{common_steps}
 use Rattle.crl_model.specs.Names.{name_cmp}
-use Rattle.crl_model.specs.Tables.{used_at, blank}
+use Rattle.crl_model.specs.Tables.{blank}
 use Rattle.crl_model.proofs.DeskSet.{at_desk}
 use Rattle.crl_model.proofs.States.{same_state, created}
 use Rattle.crl_model.proofs.Tables.{Adds, adds_of, agree_added, fit_written, was_absent}

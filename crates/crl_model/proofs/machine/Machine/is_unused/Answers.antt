@@ -1,4 +1,4 @@
-use Rattle.std.proofs.Common.{sym, false}
+use Rattle.std.proofs.Common.{sym}
 use Rattle.std.specs.BTreeMap.{get}
 use Rattle.crl_model.specs.Names.{name_cmp}
 use Rattle.crl_model.proofs.Sections.{unused_or_not, used_by_writer}

@@ -1,4 +1,4 @@
-use Rattle.std.proofs.Common.{◌≡◌, ◌<◌, ◌∙◌, length, arith, sym, ap}
+use Rattle.std.proofs.Common.{◌<◌, ◌∙◌, length, arith, sym, ap}
 use Rattle.std.proofs.lemmas.Grind.{common_steps}
 use Rattle.crl_model.proofs.States.{same_state, seat_written}
 use Rattle.crl_model.proofs.Tables.{agree_written, fit_written}

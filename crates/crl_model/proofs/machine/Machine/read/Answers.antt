@@ -1,4 +1,4 @@
-use Rattle.std.proofs.Common.{rules, ap, ◌∙◌, ◌-◌, ◌+◌}
+use Rattle.std.proofs.Common.{rules, ap, ◌∙◌, ◌-◌}
 use Rattle.crl_model.specs.declared.region.Seat.{Seat}
 use Rattle.crl_model.proofs.States.{put_reads}
 use Rattle.crl_model.proofs.machine.Machine.read.Goals as goal

@@ -1,4 +1,4 @@
-use Rattle.std.proofs.Common.{◌≡◌, ◌<◌, ◌∙◌, [], arith, sym, ap, min, ◌+◌}
+use Rattle.std.proofs.Common.{◌∙◌, [], arith, sym, ap, min, ◌+◌}
 use Rattle.crl_model.proofs.DeskSet.{at_desk}
 use Rattle.crl_model.proofs.States.{same_state, serial_used}
 use Rattle.crl_model.proofs.Tables.{agree_desk}
