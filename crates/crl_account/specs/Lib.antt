@@ -1,1 +1,6 @@
 pub mod Text
+pub mod Reading
+pub mod Words
+pub mod Guess
+pub mod Account
+pub mod Step

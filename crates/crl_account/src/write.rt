@@ -144,7 +144,7 @@ fn space_what(what: &What, out: &mut Vec<u8>) -> Result<(), OutOfMemory>
 }
 
 /// The line of an entry.
-fn push_entry(entry: &Entry, out: &mut Vec<u8>) -> Result<(), OutOfMemory>
+pub(crate) fn push_entry(entry: &Entry, out: &mut Vec<u8>) -> Result<(), OutOfMemory>
     ensures { OnOk result (out.new.items ≡ out.old.items ++ entry_text entry.now) }
 {
     push_number(entry.node, out)?;
@@ -198,6 +198,66 @@ fn append_line(entry: &Entry, line: &mut Vec<u8>, out: &mut Vec<u8>) -> Result<(
     out.extend_from_slice(line.as_slice())
 }
 
+/// The line of a region.
+pub(crate) fn push_region(name: Name, bytes: &[u8], out: &mut Vec<u8>) -> Result<(), OutOfMemory>
+    ensures { OnOk result (out.new.items ≡ out.old.items ++ region_text name bytes.now) }
+{
+    out.extend_from_slice(b"region")?;
+    space_name(name, out)?;
+    space_bytes(bytes, out)?;
+    out.push(b'\n')?;
+    Ok(())
+}
+
+/// The line of a node that waits for a section.
+pub(crate) fn push_stuck_section(
+    node: NodeNo,
+    name: Name,
+    holder: NodeNo,
+    out: &mut Vec<u8>,
+) -> Result<(), OutOfMemory>
+    ensures { OnOk result (out.new.items ≡ out.old.items ++ stuck_section_text node name holder) }
+{
+    out.extend_from_slice(b"stuck")?;
+    space_number(node, out)?;
+    space_name(name, out)?;
+    space_word("by", out)?;
+    space_number(holder, out)?;
+    out.push(b'\n')?;
+    Ok(())
+}
+
+/// The line of a node that waits for a round.
+pub(crate) fn push_stuck_round(
+    node: NodeNo,
+    round: u64,
+    absent: NodeNo,
+    out: &mut Vec<u8>,
+) -> Result<(), OutOfMemory>
+    ensures { OnOk result (out.new.items ≡ out.old.items ++ stuck_round_text node round absent) }
+{
+    out.extend_from_slice(b"stuck")?;
+    space_number(node, out)?;
+    space_word("round", out)?;
+    space_number(round, out)?;
+    space_word("without", out)?;
+    space_number(absent, out)?;
+    out.push(b'\n')?;
+    Ok(())
+}
+
+/// The line of counts.
+pub(crate) fn push_counts(events: u64, messages: u64, out: &mut Vec<u8>) -> Result<(), OutOfMemory>
+    ensures { OnOk result (out.new.items ≡ out.old.items ++ counts_text events messages) }
+{
+    out.extend_from_slice(b"events")?;
+    space_number(events, out)?;
+    space_word("messages", out)?;
+    space_number(messages, out)?;
+    out.push(b'\n')?;
+    Ok(())
+}
+
 /// Puts `region NAME BYTES`, what a region has at the end, at the end of `out`.
 ///
 /// # Errors
@@ -208,10 +268,7 @@ pub fn write_region(name: Name, bytes: &[u8], out: &mut Vec<u8>) -> Result<(), O
     ensures err { OnErr result (out.new.items ≡ out.old.items) }
 {
     let mut line = Vec::new(*out.allocator());
-    line.extend_from_slice(b"region")?;
-    space_name(name, &mut line)?;
-    space_bytes(bytes, &mut line)?;
-    line.push(b'\n')?;
+    push_region(name, bytes, &mut line)?;
     out.extend_from_slice(line.as_slice())
 }
 
@@ -231,12 +288,7 @@ pub fn write_stuck_section(
     ensures err { OnErr result (out.new.items ≡ out.old.items) }
 {
     let mut line = Vec::new(*out.allocator());
-    line.extend_from_slice(b"stuck")?;
-    space_number(node, &mut line)?;
-    space_name(name, &mut line)?;
-    space_word("by", &mut line)?;
-    space_number(holder, &mut line)?;
-    line.push(b'\n')?;
+    push_stuck_section(node, name, holder, &mut line)?;
     out.extend_from_slice(line.as_slice())
 }
 
@@ -256,13 +308,7 @@ pub fn write_stuck_round(
     ensures err { OnErr result (out.new.items ≡ out.old.items) }
 {
     let mut line = Vec::new(*out.allocator());
-    line.extend_from_slice(b"stuck")?;
-    space_number(node, &mut line)?;
-    space_word("round", &mut line)?;
-    space_number(round, &mut line)?;
-    space_word("without", &mut line)?;
-    space_number(absent, &mut line)?;
-    line.push(b'\n')?;
+    push_stuck_round(node, round, absent, &mut line)?;
     out.extend_from_slice(line.as_slice())
 }
 
@@ -276,10 +322,6 @@ pub fn write_counts(events: u64, messages: u64, out: &mut Vec<u8>) -> Result<(),
     ensures err { OnErr result (out.new.items ≡ out.old.items) }
 {
     let mut line = Vec::new(*out.allocator());
-    line.extend_from_slice(b"events")?;
-    space_number(events, &mut line)?;
-    space_word("messages", &mut line)?;
-    space_number(messages, &mut line)?;
-    line.push(b'\n')?;
+    push_counts(events, messages, &mut line)?;
     out.extend_from_slice(line.as_slice())
 }

@@ -28,15 +28,15 @@ draft drafts name = unwrap_or (drafts name) []
 -- What the call of the statement leaves in the account, in a state of the single machine: to a map it
 -- tells the region's size, to a section the region's bytes. A put has no line: its bytes are in the Write.
 -- The other statements can't be run yet.
-abbrev pub told : State → Drafts → Statement → Option What
-told s drafts (Call (call.Create size)) = Some (what.Create (record { home = 0; serial = s.used 0 + 1 }) size)
-told s drafts (Call (call.Map name)) = Some (what.Map name (length (s.bytes name)))
-told s drafts (Call (call.Unmap name)) = Some (what.Unmap name)
-told s drafts (Call (call.StartRead name)) = Some (what.StartRead name)
-told s drafts (Call (call.EndRead name)) = Some (what.Read name (s.bytes name))
-told s drafts (Call (call.StartWrite name)) = Some (what.StartWrite name)
-told s drafts (Call (call.EndWrite name unused)) = Some (what.Write name (s.bytes name) (draft drafts name))
-told s drafts _ = None
+abbrev pub what_of : State → Drafts → Statement → Option What
+what_of s drafts (Call (call.Create size)) = Some (what.Create (record { home = 0; serial = s.used 0 + 1 }) size)
+what_of s drafts (Call (call.Map name)) = Some (what.Map name (length (s.bytes name)))
+what_of s drafts (Call (call.Unmap name)) = Some (what.Unmap name)
+what_of s drafts (Call (call.StartRead name)) = Some (what.StartRead name)
+what_of s drafts (Call (call.EndRead name)) = Some (what.Read name (s.bytes name))
+what_of s drafts (Call (call.StartWrite name)) = Some (what.StartWrite name)
+what_of s drafts (Call (call.EndWrite name unused)) = Some (what.Write name (s.bytes name) (draft drafts name))
+what_of s drafts _ = None
 
 -- what the statement does to the drafts
 abbrev pub drafted : State → Drafts → Statement → Drafts
@@ -65,15 +65,15 @@ state_after s (Some what) = after s (by_node_0 what)
 abbrev pub CanRun : State → Drafts → Statement → Type 0
 CanRun s drafts (Put name offset bytes) = IsSome (drafts name) × (offset + length bytes ≤ length (draft drafts name))
 CanRun s drafts (Call (call.EndWrite name unused)) = IsSome (drafts name) × IsLegal s (by_node_0 (what.Write name (s.bytes name) (draft drafts name)))
-CanRun s drafts statement = IsLegalLine s (told s drafts statement)
+CanRun s drafts statement = IsLegalLine s (what_of s drafts statement)
 
 abbrev pub CanRunAll : State → Drafts → List Statement → Type 0
 CanRunAll s drafts [] = Unit {0}
 CanRunAll s drafts (statement ∷ statements) =
-    CanRun s drafts statement × CanRunAll (state_after s (told s drafts statement)) (drafted s drafts statement) statements
+    CanRun s drafts statement × CanRunAll (state_after s (what_of s drafts statement)) (drafted s drafts statement) statements
 
 -- the account of the statements: each call stands once, in order, with its answer
 abbrev pub account_from : State → Drafts → List Statement → List Entry
 account_from s drafts [] = []
 account_from s drafts (statement ∷ statements) =
-    lines (told s drafts statement) ++ account_from (state_after s (told s drafts statement)) (drafted s drafts statement) statements
+    lines (what_of s drafts statement) ++ account_from (state_after s (what_of s drafts statement)) (drafted s drafts statement) statements

@@ -29,12 +29,13 @@ pub record IsInput (left later : Option (List ℕ)) (bytes : List ℕ) : Type 0 
 abbrev pub IsAlone : Program → List Statement → Type 0
 IsAlone program statements = (program.nodes ≡ 1) × (slice_get program.blocks 0 ≡ Some statements)
 
--- What is printed of a script is one history of the single machine, and then its array: each entry is a
--- legal step after those before it, the script's calls stand once, in order, with their answers, and the
--- final regions are the array's.
+-- What is printed of a script is one history of the single machine, and then its array: each statement
+-- can be run, each entry is a legal step after those before it, the script's calls stand once, in order,
+-- with their answers, and the final regions are the array's.
 pub record IsAccountOf (program : Program) (text : List ℕ) : Type 0 where
   pub statements : List Statement
   pub alone : IsAlone program statements
+  pub can : CanRunAll (start program.nodes) no_drafts statements
   pub history : List Entry
   pub legal : IsHistory (start program.nodes) history
   pub calls : history ≡ account_from (start program.nodes) no_drafts statements

@@ -15,7 +15,10 @@ use std::thread::Threads;
 
 /// Does what the words say: `order first` reads a script from the source to its end, or up to the first
 /// byte that is too many, runs it, and prints its account to the sink. The whole text is made before the
-/// first push. It waits for nobody and always returns.
+/// first push. It waits for nobody, and returns where the pulls and pushes do.
+///
+/// The clauses on bytes say nothing of a source or a sink that doesn't tell its bytes, as std's standard
+/// input and output.
 pub fn quiet<S: Source, K: Sink>(
     alloc: Global,
     words: &[String],

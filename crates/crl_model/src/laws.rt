@@ -11,8 +11,9 @@ pub fn one_writer()
     ensures { (n : ℕ) (es : List Entry) → IsHistory (start n) es → IsExclusive (after_all (start n) es) }
 {}
 
-/// After a history each region has the bytes that its last write section left, or else its create.
-pub fn last_bytes()
+/// After any entries, legal or not, each region has the bytes that its last write section left, or else
+/// the zeros of its create.
+pub fn last_write_stays()
     ensures { (n : ℕ) (q : Name) (es : List Entry) → (after_all (start n) es).bytes q ≡ last_left q es [] }
 {}
 

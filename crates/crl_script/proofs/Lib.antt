@@ -1,2 +1,3 @@
-pub mod SentenceLemmas
+pub mod BlockLemmas
+pub mod ReadingLemmas
 pub mod TextLemmas

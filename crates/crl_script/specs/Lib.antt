@@ -1,8 +1,12 @@
+pub mod Canonical
 pub mod Labels
 pub mod Program
+pub mod Progress
 pub mod Reading
 pub mod Reads
+pub mod Seen
 pub mod Sentence
 pub mod Shape
+pub mod Statements
 pub mod Text
 pub mod Words

@@ -1,5 +1,5 @@
 -- Reading may fail.
-use Rattle.std.specs.Prelude.{◌≡◌, List, ◌++◌, Result, Ok, Err}
+use Rattle.std.specs.Prelude.{◌≡◌, Result, Ok, Err}
 use Rattle.crl_script.specs.declared.fault.ScriptWhy.{ScriptWhy}
 use Rattle.crl_script.specs.declared.fault.LineFault.{LineFault}
 use Rattle.crl_script.specs.declared.fault.LineFault.TheVariants.{Bad, Memory}
@@ -20,7 +20,8 @@ abbrev pub Gives : {X Y : Type 0} → (X → Y) → Result X LineFault → Resul
 Gives view (Ok x) read = read ≡ Ok (view x)
 Gives view (Err fault) read = Fails fault read
 
--- what is read, behind what was read before
-abbrev pub behind : {A : Type 0} → List A → Result (List A) ScriptWhy → Result (List A) ScriptWhy
-behind front (Ok xs) = Ok (front ++ xs)
-behind front (Err why) = Err why
+-- what a step changes is then this, unless memory ran out
+abbrev pub Changes : {X Y : Type 0} → Result X LineFault → Y → Y → Type 0
+Changes (Ok x) new is = new ≡ is
+Changes (Err (Bad why)) new is = ⊥
+Changes (Err Memory) new is = Unit {0}

@@ -1,8 +1,10 @@
 -- What single words stand for.
-use Rattle.std.specs.Prelude.{ℕ, ◌+◌, ◌-◌, ◌*◌, ◌==◌, ◌&&◌, ◌||◌, Bool, true, false, nat_le, nat_lt, if◌then◌else◌, List, [], ◌∷◌, length, Option, Some, None, Result, Ok, Err}
+use Rattle.std.specs.Prelude.{ℕ, ◌+◌, ◌-◌, ◌*◌, ◌==◌, ◌&&◌, ◌||◌, Bool, false, nat_le, nat_lt, if◌then◌else◌, List, [], ◌∷◌, length, Option, Some, None, Result, Ok, Err, ℤ, pos, neg_ℤ}
 use Rattle.std.specs.List.{list_all}
 use Rattle.hex.specs.Hex.{decode_of}
 use Rattle.hex.specs.declared.error.FromHexError.{FromHexError}
+use Rattle.crl_script.specs.declared.fault.ScriptWhy.{ScriptWhy}
+use Rattle.crl_script.specs.declared.fault.ScriptWhy.TheVariants.{BadNumber, BadHex}
 
 -- an ASCII letter
 abbrev pub is_letter : ℕ → Bool
@@ -30,29 +32,34 @@ digits_from n (b ∷ bs) = if is_digit b then digits_from (n * 10 + (b - 48)) bs
 unfoldable pub natural_of : List ℕ → Option ℕ
 natural_of word = if (length word == 0) || nat_lt 20 (length word) then None else digits_from 0 word
 
--- no leading zero
-abbrev pub is_plain : List ℕ → Bool
-is_plain [] = true
-is_plain (b ∷ []) = true
-is_plain (b ∷ c ∷ bs) = if b == 48 then false else true
+-- a value of at most this size, or a fault
+abbrev pub at_most : ℕ → ScriptWhy → Option ℕ → Result ℕ ScriptWhy
+at_most limit why None = Err why
+at_most limit why (Some n) = if nat_le n limit then Ok n else Err why
 
--- a number of at most this size
-abbrev pub at_most : ℕ → Option ℕ → Option ℕ
-at_most limit None = None
-at_most limit (Some n) = if nat_le n limit then Some n else None
+-- the number that a word is, of at most this size, or a fault
+unfoldable pub number_of : ℕ → ScriptWhy → List ℕ → Result ℕ ScriptWhy
+number_of limit why word = at_most limit why (natural_of word)
 
--- a number without leading zeros that is at most 2^32 - 1
-unfoldable pub number_of : List ℕ → Option ℕ
-number_of word = if is_plain word then at_most 4294967295 (natural_of word) else None
+-- a number, with its sign
+abbrev pub positive : Result ℕ ScriptWhy → Result ℤ ScriptWhy
+positive (Ok n) = Ok (pos n)
+positive (Err why) = Err why
 
--- a hexadecimal digit in lower case
-abbrev pub is_lower_digit : ℕ → Bool
-is_lower_digit b = is_digit b || (nat_le 97 b && nat_le b 102)
+abbrev pub negative : Result ℕ ScriptWhy → Result ℤ ScriptWhy
+negative (Ok n) = Ok (neg_ℤ (pos n))
+negative (Err why) = Err why
 
-abbrev pub decoded : Result (List ℕ) FromHexError → Option (List ℕ)
-decoded (Ok bytes) = Some bytes
-decoded (Err why) = None
+-- the number from -2^63 to 2^63 - 1 that a word is; a minus may stand before it
+unfoldable pub value_of : List ℕ → Result ℤ ScriptWhy
+value_of [] = Err BadNumber
+value_of (b ∷ bs) = if b == 45 then negative (number_of 9223372036854775808 BadNumber bs) else positive (number_of 9223372036854775807 BadNumber (b ∷ bs))
 
--- at least one byte in lower-case hexadecimal
-unfoldable pub bytes_of : List ℕ → Option (List ℕ)
-bytes_of word = if (length word == 0) then None else if list_all is_lower_digit word then decoded (decode_of word) else None
+-- what was decoded
+abbrev pub decoded : Result (List ℕ) FromHexError → Result (List ℕ) ScriptWhy
+decoded (Ok bytes) = Ok bytes
+decoded (Err why) = Err BadHex
+
+-- the bytes, at least one, that a word is in hexadecimal
+unfoldable pub bytes_of : List ℕ → Result (List ℕ) ScriptWhy
+bytes_of word = if length word == 0 then Err BadHex else decoded (decode_of word)

@@ -6,7 +6,7 @@ use thiserror::Error;
 /// Why a text is no script.
 #[derive(Clone, Copy, Debug, PartialEq, Eq)]
 pub enum ScriptWhy {
-    /// The text isn't in the form that is read so far.
+    /// A form that isn't read yet. `read_script` has no such fault.
     NotYet,
     /// The first line that isn't skipped isn't `nodes N`.
     NoNodes,
@@ -35,7 +35,7 @@ pub enum ScriptWhy {
 /// Why a script wasn't read.
 #[derive(Debug, Drop, Error)]
 pub enum ScriptFault {
-    /// The first line with a fault, counted from 1, and its fault; line 0 stands for the whole text.
+    /// The first line with a fault, counted from 1, and the first of its faults.
     #[error("bad script {line} {why:?}")]
     Bad { line: u64, why: ScriptWhy },
     /// Memory ran out.

@@ -1,14 +1,18 @@
-//! Reads scripts: texts that say what each node calls, in order.
+//! Reads and prints scripts: texts that say what each node calls, in order.
 #![tactic(auto)]
 
 pub mod fault;
 mod label;
 mod line;
+mod place;
+mod printing;
+mod progress;
 mod reading;
 pub mod script;
 mod sentence;
 mod word;
 
 pub use fault::{ScriptFault, ScriptWhy};
+pub use printing::print_script;
 pub use reading::read_script;
 pub use script::{Script, Statement};

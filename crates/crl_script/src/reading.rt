@@ -1,91 +1,101 @@
-//! Reads a script in plain form.
-ghost use Rattle.std.specs.Prelude.{◌≡◌, ◌<◌, ◌^◌, length, IfOk};
-ghost use Rattle.crl_script.specs.Reading.{Gives};
-ghost use Rattle.crl_script.specs.Reads.{Reads};
-ghost use Rattle.crl_script.specs.Sentence.{alone, block_of, body_of, plain_of, script_of};
-ghost use Rattle.crl_script.specs.Text.{lines_of};
+//! Reads a script.
+ghost use Rattle.std.specs.Prelude.{◌≡◌, ◌<◌, ◌≤◌, ◌^◌, length, IfOk, OnOk, vec_len};
+ghost use Rattle.crl_script.specs.Labels.{known_names};
+ghost use Rattle.crl_script.specs.Reads.{Reads, ReadsAs};
+ghost use Rattle.crl_script.specs.Seen.{seen};
+ghost use Rattle.crl_script.specs.Sentence.{program_of, read_with, script_of};
 
 use crate::fault::{LineFault, ScriptFault, ScriptWhy};
-use crate::label::labels_of;
+use crate::label::Labels;
 use crate::line::next_line;
-use crate::script::{Script, Statement};
-use crate::sentence::sentences;
-use crl_model::OutOfMemory;
+use crate::progress::Reading;
+use crate::script::Script;
 use std::alloc::Global;
 
-/// How many copies of regions a node keeps, where the script doesn't say.
-const CACHE: u16 = 16;
-
-/// The statements of the one node.
-#[tactic(auto, unfolding(crate::specs::Sentence::block_of))]
-fn block(alloc: Global, text: &[u8]) -> Result<Vec<Statement>, LineFault>
+/// Reads a text, with labels that have these names, or each some name where none are given.
+#[tactic(auto, unfolding(crate::specs::Sentence::read_with))]
+fn read_with<'a>(
+    alloc: Global,
+    known: &Option<Labels<'_>>,
+    text: &'a [u8],
+) -> Result<Reading<'a>, ScriptFault>
     requires { length text.now < 2 ^ 32 }
-    ensures { Gives (λ v. v.items) result (block_of (lines_of text.now)) }
+    ensures read { ReadsAs seen result (read_with (known_names known.now) text.now) }
+    ensures blocks { IfOk result (λ r. vec_len r.blocks ≤ 64) }
 {
-    let labels = labels_of(alloc, 0, text)?;
-    sentences(alloc, &labels, text)
+    let mut reading = Reading::new(alloc);
+    let mut rest = text;
+    let mut number: u64 = 1;
+    while !rest.is_empty() {
+        let (piece, more) = next_line(rest);
+        rest = more;
+        match reading.line(alloc, known, piece) {
+            Ok(()) => {}
+            Err(LineFault::Bad(why)) => return Err(ScriptFault::Bad { line: number, why }),
+            Err(LineFault::Memory) => return Err(ScriptFault::OutOfMemory),
+        }
+        number += 1;
+    }
+    Ok(reading)
 }
 
-/// What stands behind the line `nodes 1`: nothing, or the line `node 0` and statements.
-#[tactic(auto, using(crate::proofs::TextLemmas::line_none))]
-fn body(alloc: Global, text: &[u8]) -> Result<Vec<Statement>, LineFault>
-    requires { length text.now < 2 ^ 32 }
-    ensures { Gives (λ v. v.items) result (body_of (lines_of text.now)) }
+/// The script that was read, which has a line that isn't skipped.
+fn script(reading: Reading<'_>) -> Result<Script, ScriptFault>
+    requires { vec_len reading.blocks ≤ 64 }
+    ensures { Reads result (program_of (seen reading.entry)) }
 {
-    if text.is_empty() {
-        return Ok(Vec::new(alloc));
+    let Reading {
+        place: _,
+        cache,
+        begun: _,
+        labels: _,
+        made: _,
+        blocks,
+    } = reading;
+    if blocks.is_empty() {
+        let why = ScriptWhy::NoNodes;
+        return Err(ScriptFault::Bad { line: 1, why });
     }
-    let (head, rest) = next_line(text);
-    if head != b"node 0".as_slice() {
-        return Err(LineFault::Bad(ScriptWhy::NotYet));
-    }
-    block(alloc, rest)
+    Ok(Script::new(cache, blocks))
 }
 
-/// The statements of a script of one node.
-#[tactic(auto, using(crate::proofs::TextLemmas::line_none))]
-fn plain(alloc: Global, text: &[u8]) -> Result<Vec<Statement>, LineFault>
-    requires { length text.now < 2 ^ 32 }
-    ensures { Gives (λ v. v.items) result (plain_of (lines_of text.now)) }
-{
-    if text.is_empty() {
-        return Err(LineFault::Bad(ScriptWhy::NotYet));
-    }
-    let (head, rest) = next_line(text);
-    if head != b"nodes 1".as_slice() {
-        return Err(LineFault::Bad(ScriptWhy::NotYet));
-    }
-    body(alloc, rest)
-}
-
-/// The script of one node with these statements.
-fn alone(alloc: Global, statements: Vec<Statement>) -> Result<Script, OutOfMemory>
-    ensures { IfOk result (λ s. s ≡ alone statements.items) }
-{
-    let mut blocks = Vec::new(alloc);
-    blocks.push(statements)?;
-    Ok(Script::new(1, CACHE, blocks))
-}
-
-/// Reads a script of one node in plain form: lines that are ended by line feeds, which the last may
-/// lack. The first is `nodes 1`. The others are none at all, or `node 0` and then statements: words
-/// parted by one space, numbers without leading zeros of at most 2^32 - 1, and bytes in lower-case
-/// hexadecimal. Each label has exactly one `create`, anywhere in the script.
+/// Reads a script: lines of words that spaces and tabs part. Lines without words, and those whose first
+/// word begins with `#`, are skipped. The first other line is `nodes N`, for N nodes, 1 to 64; the next
+/// may be `cache C`, and is `cache 16` where it isn't there. Then come blocks, at most one for each node:
+/// `node I`, and the node's statements.
+///
+/// | Statement | Words |
+/// |---|---|
+/// | `create L SIZE` | label, size |
+/// | `delete L`, `map L`, `unmap L`, `flush L` | label |
+/// | `read L`, `endread L`, `write L`, `endwrite L` | label |
+/// | `put L OFFSET HEX` | label, offset, bytes |
+/// | `add L OFFSET NUMBER` | label, offset, number |
+/// | `barrier`, `receive` | none |
+/// | `send HEX` | bytes |
+/// | `sum V`, `min V`, `max V` | number from -2^63 to 2^63 - 1 |
+///
+/// A label is 1 to 32 bytes: a letter, then letters, digits or `_`, all ASCII. The k-th `create` of node
+/// I names region `I:k`, and its label stands for that name in the whole script. A number is 1 to 20
+/// decimal digits, bytes are an even number of at least 2 hexadecimal digits of either case. One carriage
+/// return before a line feed is dropped. A line has at most 140,000 bytes without its line feed, and a text
+/// fewer than 2^32.
 ///
 /// # Errors
 ///
-/// `Bad` at line 0 with `NotYet`, exactly where the text isn't in this form; `OutOfMemory`.
+/// `Bad` with the first line that has a fault, and the first of these faults that it has: `LineTooLong`;
+/// `NoNodes` for a first line that isn't skipped and doesn't begin with `nodes`, or at line 1 where
+/// all lines are skipped; `BadWord`; then those of its words from left to right. `UnknownLabel` only where
+/// no line has another fault, with the first line whose label no `create` has. `OutOfMemory`.
 #[tactic(auto, unfolding(crate::specs::Sentence::script_of))]
 pub fn read_script(alloc: Global, text: &[u8]) -> Result<Script, ScriptFault>
     requires { length text.now < 2 ^ 32 }
     ensures { Reads result (script_of text.now) }
 {
-    match plain(alloc, text) {
-        Ok(statements) => match alone(alloc, statements) {
-            Ok(script) => Ok(script),
-            Err(_) => Err(ScriptFault::OutOfMemory),
-        },
-        Err(LineFault::Bad(why)) => Err(ScriptFault::Bad { line: 0, why }),
-        Err(LineFault::Memory) => Err(ScriptFault::OutOfMemory),
-    }
+    let known = {
+        let first = read_with(alloc, &None, text)?;
+        Some(first.labels)
+    };
+    let second = read_with(alloc, &known, text)?;
+    script(second)
 }

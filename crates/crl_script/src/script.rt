@@ -30,45 +30,42 @@ pub enum Statement {
 /// The most statements that a script may have to be run.
 const STATEMENT_LIMIT: usize = 1 << 40;
 
-/// A script: how many nodes there are, how many copies a node keeps, and what each node does.
+/// A script: how many copies of regions a node keeps, and what each node does.
 #[derive(Drop)]
 pub struct Script {
-    nodes: NodeNo,
     cache: u16,
     blocks: Vec<Vec<Statement>>,
 }
 
 impl Model for Script {
-    ghost use Rattle.std.specs.Prelude.{◌≡◌, map, length};
+    ghost use Rattle.std.specs.Prelude.{◌≤◌, map, length};
     ghost use Rattle.crl_script.specs.Program.{Program};
 
     ghost Value = { Program };
 
-    ghost view = { λ s. record { nodes = s.nodes; cache = s.cache; blocks = map (λ b. b.items) s.blocks.items } };
+    ghost view = { λ s. record { nodes = length s.blocks.items; cache = s.cache; blocks = map (λ b. b.items) s.blocks.items } };
 
-    ghost invariant = { λ s. length s.blocks.items ≡ s.nodes };
+    ghost invariant = { λ s. (1 ≤ length s.blocks.items) × (length s.blocks.items ≤ 64) };
 }
 
 impl Script {
     /// The script with these blocks, one per node.
-    pub(crate) fn new(nodes: NodeNo, cache: u16, blocks: Vec<Vec<Statement>>) -> Script
-        requires { length blocks.items ≡ nodes }
-        ensures nodes { result.nodes ≡ nodes }
-        ensures cache { result.cache ≡ cache }
-        ensures blocks { result.blocks ≡ map (λ b. b.items) blocks.items }
+    pub(crate) fn new(cache: u16, blocks: Vec<Vec<Statement>>) -> Script
+        requires some { 1 ≤ length blocks.items }
+        requires limit { length blocks.items ≤ 64 }
+        ensures { result ≡ record { nodes = length blocks.items; cache = cache; blocks = map (λ b. b.items) blocks.items } }
     {
-        Script {
-            nodes,
-            cache,
-            blocks,
-        }
+        Script { cache, blocks }
     }
 
-    /// The number of nodes.
+    /// The number of nodes, 1 to 64.
     pub fn nodes(&self) -> NodeNo
-        ensures { result ≡ self.now.nodes }
+        ensures count { result ≡ self.now.nodes }
+        ensures some { 1 ≤ result }
+        ensures limit { result ≤ 64 }
+        ensures blocks { length self.now.blocks ≡ result }
     {
-        self.nodes
+        self.blocks.len() as NodeNo
     }
 
     /// How many copies of regions a node keeps.

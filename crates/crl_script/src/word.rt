@@ -1,9 +1,8 @@
 //! What single words stand for.
-ghost use Rattle.std.specs.Prelude.{◌≡◌, ◌≤◌, length};
+ghost use Rattle.std.specs.Prelude.{◌≡◌, ◌≤◌, length, IfOk};
 ghost use Rattle.std.specs.List.{list_all};
 ghost use Rattle.crl_script.specs.Reading.{Gives};
-ghost use Rattle.crl_script.specs.Sentence.{wanted};
-ghost use Rattle.crl_script.specs.Words.{is_label, is_digit, is_label_byte, is_letter, is_lower_digit, digits_from, natural_of, number_of, bytes_of, is_plain};
+ghost use Rattle.crl_script.specs.Words.{is_label, is_digit, is_label_byte, is_letter, digits_from, natural_of, number_of, value_of, bytes_of};
 
 use crate::fault::{LineFault, ScriptWhy};
 use crl_model::bytes::Bytes;
@@ -15,6 +14,9 @@ const LABEL_REST: usize = 31;
 
 /// The most digits of a number.
 const DIGITS: usize = 20;
+
+/// The most that may stand behind a minus.
+const MOST_BELOW: u64 = 1 << 63;
 
 fn is_letter(b: u8) -> bool
     ensures { result ≡ is_letter b }
@@ -34,24 +36,11 @@ fn is_label_byte(b: u8) -> bool
     is_letter(b) || is_digit(b) || b == b'_'
 }
 
-fn is_lower_digit(b: u8) -> bool
-    ensures { result ≡ is_lower_digit b }
-{
-    is_digit(b) || (b >= b'a' && b <= b'f')
-}
-
 /// Whether all these bytes may stand in a label behind its first.
 fn all_label_bytes(bytes: &[u8]) -> bool
     ensures { result ≡ list_all is_label_byte bytes.now }
 {
     bytes.iter().all(|b| is_label_byte(*b))
-}
-
-/// Whether all these bytes are hexadecimal digits in lower case.
-fn all_lower_digits(bytes: &[u8]) -> bool
-    ensures { result ≡ list_all is_lower_digit bytes.now }
-{
-    bytes.iter().all(|b| is_lower_digit(*b))
 }
 
 /// Whether a word is a label.
@@ -93,38 +82,71 @@ fn natural(word: &[u8]) -> Option<u128>
     digits(word)
 }
 
-/// Whether a word is plain: it is one byte at most, or doesn't begin with a zero.
-fn is_plain(word: &[u8]) -> bool
-    ensures { result ≡ is_plain word.now }
-{
-    word.len() < 2 || word[0] != b'0'
-}
-
-/// The number without leading zeros, at most 2^32 - 1, that a word is.
+/// The number that a word is, at most `limit`.
+///
+/// # Errors
+///
+/// `why`, where it is no such number.
 #[tactic(auto, unfolding(crate::specs::Words::number_of))]
-pub fn number(word: &[u8]) -> Result<u32, LineFault>
-    ensures { Gives (λ n. n) result (wanted (number_of word.now)) }
+pub fn number(word: &[u8], limit: u64, why: ScriptWhy) -> Result<u64, LineFault>
+    ensures value { Gives (λ n. n) result (number_of limit why word.now) }
+    ensures within { IfOk result (λ n. n ≤ limit) }
 {
-    if !is_plain(word) {
-        return Err(LineFault::Bad(ScriptWhy::NotYet));
-    }
     match natural(word) {
-        Some(number) if number <= u32::MAX as u128 => Ok(number as u32),
-        _ => Err(LineFault::Bad(ScriptWhy::NotYet)),
+        Some(number) if number <= limit as u128 => Ok(number as u64),
+        _ => Err(LineFault::Bad(why)),
     }
 }
 
-/// The bytes that a word is in lower-case hexadecimal, at least one.
+/// The number below 2^32 that a word is.
+///
+/// # Errors
+///
+/// `why`, where it is no such number.
+pub fn short_number(word: &[u8], why: ScriptWhy) -> Result<u32, LineFault>
+    ensures { Gives (λ n. n) result (number_of 4294967295 why word.now) }
+{
+    Ok(number(word, u32::MAX as u64, why)? as u32)
+}
+
+/// The number from -2^63 to 2^63 - 1 that a word is.
+///
+/// # Errors
+///
+/// `BadNumber`, where it is no such number.
+#[tactic(auto, unfolding(crate::specs::Words::value_of))]
+pub fn value(word: &[u8]) -> Result<i64, LineFault>
+    ensures { Gives (λ n. n) result (value_of word.now) }
+{
+    match word.split_first() {
+        None => Err(LineFault::Bad(ScriptWhy::BadNumber)),
+        Some((first, rest)) => {
+            if *first == b'-' {
+                let number = number(rest, MOST_BELOW, ScriptWhy::BadNumber)?;
+                Ok((0 - number as i128) as i64)
+            } else {
+                let number = number(word, i64::MAX as u64, ScriptWhy::BadNumber)?;
+                Ok(number as i64)
+            }
+        }
+    }
+}
+
+/// The bytes that a word is in hexadecimal, at least one.
+///
+/// # Errors
+///
+/// `BadHex`, where it is no such bytes.
 #[tactic(auto, unfolding(crate::specs::Words::bytes_of))]
 pub fn bytes(alloc: Global, word: &[u8]) -> Result<Bytes, LineFault>
-    ensures { Gives (λ b. b) result (wanted (bytes_of word.now)) }
+    ensures { Gives (λ b. b) result (bytes_of word.now) }
 {
-    if word.is_empty() || !all_lower_digits(word) {
-        return Err(LineFault::Bad(ScriptWhy::NotYet));
+    if word.is_empty() {
+        return Err(LineFault::Bad(ScriptWhy::BadHex));
     }
     match hex::decode(alloc, word) {
         Ok(bytes) => Ok(Bytes::from_vec(bytes)),
         Err(FromHexError::OutOfMemory) => Err(LineFault::Memory),
-        Err(_) => Err(LineFault::Bad(ScriptWhy::NotYet)),
+        Err(_) => Err(LineFault::Bad(ScriptWhy::BadHex)),
     }
 }

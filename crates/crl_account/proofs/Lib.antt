@@ -1,0 +1,8 @@
+pub mod Parts
+pub mod Digits
+pub mod Plain
+pub mod Again
+pub mod Lines
+pub mod Held
+pub mod Stages
+pub mod Feeds
