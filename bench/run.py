@@ -1,4 +1,4 @@
-"""Runs the program on long scripts, and measures its time and its memory.
+"""Runs the program on long scripts and accounts, and measures its time and its memory.
 
 usage: run.py [CRL], where CRL is the program, as `rt run` leaves it in crates/crl/out. Each script and the
 account that is wanted of it are made here. The status is 1 where an account is wrong or a bound is broken.
@@ -50,6 +50,30 @@ def regions(count, script, account):
     account.write("events %d messages 0\n" % (4 * count))
 
 
+def shared_account(count, account, answer):
+    """The account of 64 nodes that share 64 regions, and write them so often."""
+    for region in range(1, 65):
+        account.write("0 create 0:%d 4\n" % region)
+    for node in range(64):
+        for region in range(1, 65):
+            account.write("%d map 0:%d 4\n" % (node, region))
+    values = [0] * 64
+    for section in range(count):
+        node, region = section * 7 % 64, section * 11 % 64
+        account.write("%d startwrite 0:%d\n" % (node, region + 1))
+        account.write("%d write 0:%d %08x %08x\n" % (node, region + 1, values[region], section))
+        values[region] = section
+    answer.write("legal\n")
+
+
+def two_nodes(count, script, answer):
+    """A script of two nodes with so many statements: it is read, and not run yet."""
+    script.write("nodes 2\nnode 0\ncreate a 8\n")
+    for statement in range(1, count):
+        script.write(("write a\n", "put a 0 0123456789abcdef\n", "endwrite a\n")[statement % 3])
+    answer.write("bad script 0 NotYet\n")
+
+
 class Run(NamedTuple):
     """Seconds by the clock and of the processor, bytes of memory at most, and the exit status."""
 
@@ -59,11 +83,11 @@ class Run(NamedTuple):
     status: int
 
 
-def run_once(crl, script, seen):
+def run_once(crl, words, script, seen):
     """What one run takes, and its exit status."""
     with open(script, "rb") as source, open(seen, "wb") as sink:
         start = time.perf_counter()
-        child = subprocess.Popen([crl, "order", "first"], stdin=source, stdout=sink)
+        child = subprocess.Popen([crl, *words], stdin=source, stdout=sink)
         _, status, usage = os.wait4(child.pid, 0)
         seconds = time.perf_counter() - start
     child.returncode = os.WEXITSTATUS(status) if os.WIFEXITED(status) else -os.WTERMSIG(status)
@@ -84,7 +108,7 @@ class Bench:
     def path(self, count, name):
         return os.path.join(self.folder, "%s_%d" % (name, count))
 
-    def measure(self, make, counts):
+    def measure(self, make, counts, words=("order", "first"), wanted_status=0):
         """Makes a script of each count and runs them in turn, again and again, so that what else the
         machine does meets all of them: the best times of each, and its most memory."""
         for count in counts:
@@ -93,24 +117,25 @@ class Bench:
         runs = {count: [] for count in counts}
         for _ in range(RUNS):
             for count in counts:
-                runs[count].append(run_once(self.crl, self.path(count, "script"), self.path(count, "seen")))
-        return [self.report(make.__name__, count, runs[count]) for count in counts]
+                runs[count].append(run_once(self.crl, words, self.path(count, "script"), self.path(count, "seen")))
+        return [self.report(make.__name__, count, runs[count], wanted_status) for count in counts]
 
-    def report(self, name, count, runs):
+    def report(self, name, count, runs, wanted_status):
         best = Run(*(min(values) for values in zip(*runs)))._replace(memory=max(run.memory for run in runs))
         script, wanted, seen = (self.path(count, file) for file in ("script", "wanted", "seen"))
-        print("%s %d: %.1f MB of script, %.1f MB of account, %.2f s, %.2f s of processor, %.0f MiB" % (
+        print("%s %d: %.1f MB in, %.1f MB out, %.2f s, %.2f s of processor, %.0f MiB" % (
             name, count, os.path.getsize(script) / 1e6, os.path.getsize(seen) / 1e6, best.clock, best.processor,
             best.memory / MEBIBYTE))
-        right = filecmp.cmp(wanted, seen, shallow=False) and all(run.status == 0 for run in runs)
-        self.check(right, "the account is the one that is wanted")
+        right = filecmp.cmp(wanted, seen, shallow=False) and all(run.status == wanted_status for run in runs)
+        self.check(right, "the answer is the one that is wanted")
         return best
 
-    def compare(self, make, count, most):
-        """Compares a script with one of twice the count, by the processor's time."""
-        half, whole = self.measure(make, [count, 2 * count])
+    def compare(self, make, count, most, words=("order", "first")):
+        """Compares an input with one of twice the count, by the processor's time."""
+        half, whole = self.measure(make, [count, 2 * count], words)
         ratio = whole.processor / half.processor
         self.check(ratio <= most, "twice as many: %.2f times as long, at most %.1f" % (ratio, most))
+        return whole
 
 
 def main():
@@ -128,6 +153,11 @@ def main():
         bench.compare(write_sections, 275_000, 2.3)
         # Names that were looked up one by one would make it 4 times as long.
         bench.compare(regions, 50_000, 3)
+        run = bench.compare(shared_account, 155_000, 2.3, ("check", "64"))
+        bench.check(run.clock <= 3, "at most 3 s")
+        bench.check(run.memory <= 1024 * MEBIBYTE, "at most 1 GiB")
+        (run,) = bench.measure(two_nodes, [600_000], wanted_status=2)
+        bench.check(run.clock <= 1.5, "at most 1.5 s")
     sys.exit(1 if bench.failed else 0)
 
 

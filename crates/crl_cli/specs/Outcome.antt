@@ -1,7 +1,7 @@
 -- What the program answers: for each status, where it comes and what is printed with it.
-use Rattle.std.specs.Prelude.{◌≡◌, ◌⊎◌, ℕ, ◌+◌, ◌<◌, ◌≤◌, List, [], ◌∷◌, length, codes, slice_get, Ok, Err}
+use Rattle.std.specs.Prelude.{◌≡◌, ◌⊎◌, ℕ, ◌+◌, ◌<◌, ◌≤◌, List, length, slice_get, Ok, Err}
 use Rattle.std.specs.declared.option.Option.{Option}
-use Rattle.std.specs.declared.option.Option.TheVariants.{Some}
+use Rattle.std.specs.declared.option.Option.TheVariants.{None, Some}
 use Rattle.std.specs.Io.KnownBytes.{Consumes, IsAtEnd}
 use Rattle.crl_model.specs.declared.entry.Entry.{Entry}
 use Rattle.crl_model.specs.SingleMachine.{start, IsHistory, after_all}
@@ -9,16 +9,17 @@ use Rattle.crl_outside.specs.Faults.{Rose}
 use Rattle.crl_script.specs.declared.script.Statement.{Statement}
 use Rattle.crl_script.specs.Program.{Program, Fault}
 use Rattle.crl_script.specs.Sentence.{script_of}
+use Rattle.crl_account.specs.Account.{lines_of, IsAccount, IsFirstBad}
+use Rattle.crl_check.specs.Histories.{IsFirstIllegal}
 use Rattle.crl_cli.specs.declared.TheConstants.{TEXT_LIMIT}
+use Rattle.crl_cli.specs.declared.command.Command.{Command}
+use Rattle.crl_cli.specs.declared.command.Command.TheVariants.{OrderFirst, Check}
+use Rattle.crl_cli.specs.Commands.{command_of}
 use Rattle.crl_cli.specs.declared.status.Status.{Status}
 use Rattle.crl_cli.specs.declared.status.Status.TheVariants as status
 use Rattle.crl_cli.specs.OneNode.{no_drafts, CanRunAll, account_from}
 use Rattle.crl_cli.specs.Report.{report_text}
-use Rattle.crl_cli.specs.Texts.{usage_text, read_fault_text, bad_script_text, why_word, too_long_text, not_yet_text}
-
--- the words of the one command
-abbrev pub IsOrderFirst : List (List ℕ) → Type 0
-IsOrderFirst words = words ≡ codes "order" ∷ codes "first" ∷ []
+use Rattle.crl_cli.specs.Texts.{usage_text, read_fault_text, bad_script_text, why_word, too_long_text, not_yet_text, legal_text, illegal_text, bad_account_text}
 
 -- the bytes that were read: all that the source had, or one more than a text may have
 pub record IsInput (left later : Option (List ℕ)) (bytes : List ℕ) : Type 0 where
@@ -58,6 +59,57 @@ pub data IsBadScript (bytes : List ℕ) : List ℕ → Type 0 where
   unread : (fault : Fault) → length bytes ≤ TEXT_LIMIT → script_of bytes ≡ Err fault → IsBadScript bytes (bad_script_text fault.line (why_word fault.why))
   not_yet : (program : Program) → length bytes ≤ TEXT_LIMIT → script_of bytes ≡ Ok program → IsNotYet program → IsBadScript bytes not_yet_text
 
+-- The bytes are the account of a history that is no legal one: this is the first entry that is no legal
+-- step, each on its line.
+pub record IsIllegal (nodes : ℕ) (bytes text : List ℕ) : Type 0 where
+  pub within : length bytes ≤ TEXT_LIMIT
+  pub entries : List Entry
+  pub account : IsAccount (lines_of bytes) entries
+  pub place : ℕ
+  pub first : IsFirstIllegal (start nodes) entries place
+  pub says : text ≡ illegal_text (place + 1)
+
+-- the bytes are the account of a legal history
+pub record IsLegalAccount (nodes : ℕ) (bytes text : List ℕ) : Type 0 where
+  pub within : length bytes ≤ TEXT_LIMIT
+  pub entries : List Entry
+  pub account : IsAccount (lines_of bytes) entries
+  pub legal : IsHistory (start nodes) entries
+  pub says : text ≡ legal_text
+
+-- the bytes are too many, or this line is the first that fits no place, and the text says so
+pub data IsBadAccount (bytes : List ℕ) : List ℕ → Type 0 where
+  account_too_long : TEXT_LIMIT < length bytes → IsBadAccount bytes (bad_account_text 0)
+  bad_line : (line : ℕ) → length bytes ≤ TEXT_LIMIT → IsFirstBad (lines_of bytes) line → IsBadAccount bytes (bad_account_text line)
+
+-- what a command says of the bytes that were read
+abbrev pub SaysOrder : Status → List ℕ → List ℕ → Type 0
+SaysOrder status.Ok bytes text = IsRun bytes text
+SaysOrder status.BadScript bytes text = IsBadScript bytes text
+SaysOrder _ bytes text = ⊥
+
+abbrev pub SaysCheck : ℕ → Status → List ℕ → List ℕ → Type 0
+SaysCheck nodes status.Ok bytes text = IsLegalAccount nodes bytes text
+SaysCheck nodes status.Illegal bytes text = IsIllegal nodes bytes text
+SaysCheck nodes status.BadAccount bytes text = IsBadAccount bytes text
+SaysCheck nodes _ bytes text = ⊥
+
+abbrev pub Says : Command → Status → List ℕ → List ℕ → Type 0
+Says OrderFirst status bytes text = SaysOrder status bytes text
+Says (Check nodes) status bytes text = SaysCheck nodes status bytes text
+
+-- what is said of the entries of an account
+abbrev pub SaysEntries : ℕ → Status → List Entry → List ℕ → Type 0
+SaysEntries nodes status.Ok entries text = IsHistory (start nodes) entries × (text ≡ legal_text)
+SaysEntries nodes status.Illegal entries text = (place : ℕ) × IsFirstIllegal (start nodes) entries place × (text ≡ illegal_text (place + 1))
+SaysEntries nodes _ entries text = ⊥
+
+-- what is said of a script
+abbrev pub SaysOf : Status → Program → List ℕ → Type 0
+SaysOf status.Ok program text = IsAccountOf program text
+SaysOf status.BadScript program text = IsNotYet program × (text ≡ not_yet_text)
+SaysOf _ program text = ⊥
+
 -- what an answer rests on: the words, the bytes that the source has left before and after, and the counts
 -- of its faults before and after
 pub record Asked : Type 0 where
@@ -67,25 +119,12 @@ pub record Asked : Type 0 where
   pub faults : ℕ
   pub faults_later : ℕ
 
--- the status comes, with this text
-abbrev pub Comes : Asked → Status → List ℕ → Type 0
-Comes a status.Ok text = IsOrderFirst a.words × ((bytes : List ℕ) × IsInput a.left a.later bytes × IsRun bytes text)
-Comes a status.Usage text = (IsOrderFirst a.words → ⊥) × (text ≡ usage_text)
-Comes a status.BadScript text = IsOrderFirst a.words × ((bytes : List ℕ) × IsInput a.left a.later bytes × IsBadScript bytes text)
-Comes a status.ReadFault text = IsOrderFirst a.words × Rose a.faults a.faults_later × (text ≡ read_fault_text)
-Comes a status.WriteFault text = ⊥
-Comes a status.OutOfMemory text = ⊥
-
 abbrev pub asked : List (List ℕ) → Option (List ℕ) → Option (List ℕ) → ℕ → ℕ → Asked
 asked words left later faults faults_later = record { words = words; left = left; later = later; faults = faults; faults_later = faults_later }
 
--- what is said of the bytes that were read, and of the script that they are
-abbrev pub Says : Status → List ℕ → List ℕ → Type 0
-Says status.Ok bytes text = IsRun bytes text
-Says status.BadScript bytes text = IsBadScript bytes text
-Says _ bytes text = ⊥
-
-abbrev pub SaysOf : Status → Program → List ℕ → Type 0
-SaysOf status.Ok program text = IsAccountOf program text
-SaysOf status.BadScript program text = IsNotYet program × (text ≡ not_yet_text)
-SaysOf _ program text = ⊥
+-- The status comes, with this text: the words are no command; the source failed; or the command says so of
+-- the bytes that were read.
+pub data Comes (a : Asked) : Status → List ℕ → Type 0 where
+  usage : command_of a.words ≡ None → Comes a status.Usage usage_text
+  read_fault : (command : Command) → command_of a.words ≡ Some command → Rose a.faults a.faults_later → Comes a status.ReadFault read_fault_text
+  said : (command : Command) (status : Status) (bytes text : List ℕ) → command_of a.words ≡ Some command → IsInput a.left a.later bytes → Says command status bytes text → Comes a status text

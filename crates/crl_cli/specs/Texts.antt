@@ -32,3 +32,14 @@ too_long_text = bad_script_text 0 (codes "TooLong")
 
 abbrev pub not_yet_text : List ℕ
 not_yet_text = bad_script_text 0 (codes "NotYet")
+
+abbrev pub legal_text : List ℕ
+legal_text = codes "legal\n"
+
+-- `illegal LINE`
+abbrev pub illegal_text : ℕ → List ℕ
+illegal_text line = codes "illegal " ++ decimal line ++ codes "\n"
+
+-- `bad account LINE`: the line is 0 where the bytes are too many
+abbrev pub bad_account_text : ℕ → List ℕ
+bad_account_text line = codes "bad account " ++ decimal line ++ codes "\n"

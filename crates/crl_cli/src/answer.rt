@@ -1,8 +1,10 @@
 //! The calls that the program makes.
-ghost use Rattle.std.specs.Prelude.{◌≡◌, ◌≤◌, map, string_bytes};
+ghost use Rattle.std.specs.Prelude.{◌≡◌, ◌≤◌, Some, None, map, string_bytes};
 ghost use Rattle.crl_outside.specs.Faults.{Rose};
 ghost use Rattle.crl_cli.specs.Answers.{Prints, IsHeadline};
-ghost use Rattle.crl_cli.specs.Outcome.{IsOrderFirst, asked};
+ghost use Rattle.crl_cli.specs.Outcome.{asked};
+ghost use Rattle.crl_cli.specs.Commands.{command_of};
+ghost use Rattle.crl_cli.specs.declared.command.Command.TheVariants.{OrderFirst};
 
 use crate::outcome::outcome_of;
 use crate::status::Status;
@@ -14,8 +16,8 @@ use std::sync::Wait;
 use std::thread::Threads;
 
 /// Does what the words say: `order first` reads a script from the source to its end, or up to the first
-/// byte that is too many, runs it, and prints its account to the sink. The whole text is made before the
-/// first push. It waits for nobody, and returns where the pulls and pushes do.
+/// byte that is too many, runs it, and prints its account to the sink; `check NODES` reads an account and
+/// judges it. The whole text is made before the first push. It waits for nobody, and returns where the pulls and pushes do.
 ///
 /// The clauses on bytes say nothing of a source or a sink that doesn't tell its bytes, as std's standard
 /// input and output.
@@ -25,14 +27,15 @@ pub fn quiet<S: Source, K: Sink>(
     source: &mut S,
     sink: &mut K,
 ) -> Status
-    // Status 0: what the sink took is one history of a single machine with one array of byte regions.
-    ensures headline { result ≡ Status.Ok → IsHeadline (S.left source.old) (S.left source.new) (K.held sink.old) (K.held sink.new) }
+    // `order first`, status 0: what the sink took is one history of a single machine with one array of byte
+    // regions.
+    ensures headline { result ≡ Status.Ok → command_of (map string_bytes words.now) ≡ Some OrderFirst → IsHeadline (S.left source.old) (S.left source.new) (K.held sink.old) (K.held sink.new) }
 
     // Each status comes exactly where the table of causes says, with its text.
     ensures prints { Prints (asked (map string_bytes words.now) (S.left source.old) (S.left source.new) (S.faults source.old) (S.faults source.new)) (K.held sink.old) (K.held sink.new) result }
     ensures write_fault { result ≡ Status.WriteFault → Rose (K.faults sink.old) (K.faults sink.new) }
     ensures unprinted { result ≡ Status.OutOfMemory → sink.new ≡ sink.old }
-    ensures unpulled { (IsOrderFirst (map string_bytes words.now) → ⊥) → source.new ≡ source.old }
+    ensures unpulled { command_of (map string_bytes words.now) ≡ None → source.new ≡ source.old }
     ensures faults { (S.faults source.old ≤ S.faults source.new) × (K.faults sink.old ≤ K.faults sink.new) }
 {
     let Ok(outcome) = outcome_of(alloc, words, source) else {
@@ -53,11 +56,11 @@ pub fn top<R: Threads + Wait + Sync, S: Source, K: Sink>(
     source: &mut S,
     sink: &mut K,
 ) -> Status
-    ensures headline { result ≡ Status.Ok → IsHeadline (S.left source.old) (S.left source.new) (K.held sink.old) (K.held sink.new) }
+    ensures headline { result ≡ Status.Ok → command_of (map string_bytes words.now) ≡ Some OrderFirst → IsHeadline (S.left source.old) (S.left source.new) (K.held sink.old) (K.held sink.new) }
     ensures prints { Prints (asked (map string_bytes words.now) (S.left source.old) (S.left source.new) (S.faults source.old) (S.faults source.new)) (K.held sink.old) (K.held sink.new) result }
     ensures write_fault { result ≡ Status.WriteFault → Rose (K.faults sink.old) (K.faults sink.new) }
     ensures unprinted { result ≡ Status.OutOfMemory → sink.new ≡ sink.old }
-    ensures unpulled { (IsOrderFirst (map string_bytes words.now) → ⊥) → source.new ≡ source.old }
+    ensures unpulled { command_of (map string_bytes words.now) ≡ None → source.new ≡ source.old }
     ensures faults { (S.faults source.old ≤ S.faults source.new) × (K.faults sink.old ≤ K.faults sink.new) }
 {
     quiet(alloc, words, source, sink)

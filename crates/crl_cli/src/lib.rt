@@ -1,11 +1,14 @@
-//! The program's commands: words in, a script from a source, and the account of its run to a sink.
+//! The program's commands: words in, a script or an account from a source, and the answer to a sink.
 #![tactic(auto)]
 
 pub mod answer;
+mod check;
+pub mod command;
+mod order;
 mod outcome;
 mod report;
 mod runner;
 pub mod status;
 
-/// The most bytes that a script may have.
+/// The most bytes that a script or an account may have.
 pub const TEXT_LIMIT: usize = 16_777_216;

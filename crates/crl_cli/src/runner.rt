@@ -1,5 +1,5 @@
 //! The run of a script of one node: each call is answered at once, by the single machine.
-ghost use Rattle.std.specs.Prelude.{◌≡◌, ◌+◌, ◌<◌, ◌≤◌, ℕ, List, [], ◌∷◌, ◌++◌, IfOk, Some, None, length, IsTrue, MatchOption};
+ghost use Rattle.std.specs.Prelude.{◌≡◌, ◌+◌, ◌<◌, ◌≤◌, ℕ, List, [], ◌∷◌, ◌++◌, IfOk, Some, None, length, MatchOption};
 ghost use Rattle.std.specs.Bool.{OnTrue, OnFalse};
 ghost use Rattle.std.specs.BTreeMap.{get};
 ghost use Rattle.crl_model.specs.declared.name.Name.{Name};
@@ -7,7 +7,6 @@ ghost use Rattle.crl_model.specs.declared.call.Call.{Call};
 ghost use Rattle.crl_model.specs.declared.entry.What.{What};
 ghost use Rattle.crl_model.specs.Names.{name_cmp, at_name};
 ghost use Rattle.crl_model.specs.Seen.{state};
-ghost use Rattle.crl_model.specs.Judging.{is_no_result};
 ghost use Rattle.crl_model.specs.Patches.{put_at};
 ghost use Rattle.crl_model.specs.SingleMachine.{IsLegal, start};
 ghost use Rattle.crl_script.specs.declared.script.Statement.{Statement};
@@ -170,7 +169,6 @@ impl Runner {
 
     /// Lets the machine judge what the node did, and puts it into the account; `false` where it isn't legal.
     fn take(&mut self, what: What) -> Result<bool, OutOfMemory>
-        requires { IsTrue (is_no_result what) }
         ensures taken { IfOk result (λ b. OnTrue b (IsTaken (state self.old.machine) self.old.entries.items what (state self.new.machine) self.new.entries.items)) }
         ensures illegal { IfOk result (λ b. OnFalse b (IsLegal (state self.old.machine) (by_node_0 what) → ⊥)) }
         ensures drafts { self.new.drafts ≡ self.old.drafts }

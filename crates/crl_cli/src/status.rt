@@ -5,7 +5,7 @@ ghost use Rattle.crl_cli.specs.Codes.{code_of};
 /// How a command ended, and what it printed.
 #[derive(Clone, Copy, Debug, PartialEq, Eq)]
 pub enum Status {
-    /// The account of the run, the final regions and the counts.
+    /// The account of the run, the final regions and the counts; or `legal`.
     Ok,
     /// The words are no command: `usage: crl COMMAND`.
     Usage,
@@ -17,6 +17,10 @@ pub enum Status {
     WriteFault,
     /// There was no memory: nothing.
     OutOfMemory,
+    /// An entry of the account is no legal step: `illegal LINE`.
+    Illegal,
+    /// A line of the account fits no place: `bad account LINE`.
+    BadAccount,
 }
 
 impl Status {
@@ -31,6 +35,8 @@ impl Status {
             Status::ReadFault => 4,
             Status::WriteFault => 5,
             Status::OutOfMemory => 6,
+            Status::Illegal => 7,
+            Status::BadAccount => 8,
         }
     }
 }

@@ -1,7 +1,10 @@
 mod Blank
+mod DeskRead
 mod DeskSet
+mod FullRounds
 pub mod Histories
 mod Order
+mod PartFolds
 mod Runs
 mod Sections
 mod States

@@ -243,7 +243,7 @@ created nodes G H ds n name w d size k a none stage bytes seats writer came told
       | false ↦ λ other. refl
     ] refl
 
--- a desk written that has used other serials, and one that came to one round more
+-- a desk written that has used other serials, one that was told more, and one that came to one round more
 pub serial_used : (nodes : ℕ) (G : Name → Option Region) (ds : List Desk) (n k : ℕ) (d : Desk) → n < length ds → d.used ≡ k → d.came.items ≡ came_at ds n → d.told ≡ told_at ds n
     → Same (state_of nodes G (set ds n d)) (record (state_of nodes G ds) { used = at_node (state_of nodes G ds).used n k })
 serial_used nodes G ds n k d inside used came told = record {
@@ -256,6 +256,20 @@ serial_used nodes G ds n k d inside used came told = record {
   writes = λ m q. refl;
   came = λ m. desk_kept (λ (d : Desk). d.came.items) [] ds n m d inside came;
   told = λ m. desk_kept (λ (d : Desk). d.told) 0 ds n m d inside told;
+}
+
+pub told_more : (nodes : ℕ) (G : Name → Option Region) (ds : List Desk) (n k : ℕ) (d : Desk) → n < length ds → d.used ≡ used_at ds n → d.came.items ≡ came_at ds n → d.told ≡ k
+    → Same (state_of nodes G (set ds n d)) (record (state_of nodes G ds) { told = at_node (state_of nodes G ds).told n k })
+told_more nodes G ds n k d inside used came told = record {
+  nodes = refl;
+  stage = λ q. refl;
+  bytes = λ q. refl;
+  used = λ m. desk_kept (λ (d : Desk). d.used) 0 ds n m d inside used;
+  maps = λ m q. refl;
+  reads = λ m q. refl;
+  writes = λ m q. refl;
+  came = λ m. desk_kept (λ (d : Desk). d.came.items) [] ds n m d inside came;
+  told = λ m. rw (← told) (desk_set (λ (d : Desk). d.told) 0 ds n m d inside);
 }
 
 pub part_came : (nodes : ℕ) (G : Name → Option Region) (ds : List Desk) (n : ℕ) (d : Desk) (parts : List Part) → n < length ds → d.used ≡ used_at ds n → d.came.items ≡ parts → d.told ≡ told_at ds n

@@ -2,7 +2,6 @@
 use Rattle.std.specs.Prelude.{◌≡◌, ℕ, Bool, true, false}
 use Rattle.std.specs.Bool.{MatchBool}
 use Rattle.crl_model.specs.declared.name.Name.{Name}
-use Rattle.crl_model.specs.declared.call.Refusal.TheVariants.{Mixed}
 use Rattle.crl_model.specs.declared.entry.What.{What}
 use Rattle.crl_model.specs.declared.entry.What.TheVariants.{Deleted, Came, Refused}
 use Rattle.crl_model.specs.declared.region.Seat.{Seat}
@@ -22,17 +21,12 @@ pub record IsNoStep (old : State) (n : ℕ) (what : What) (new : State) : Type 0
 abbrev pub Judges : State → ℕ → What → State → Bool → Type 0
 Judges old n what new b = MatchBool b (IsStep old n what new) (IsNoStep old n what new)
 
--- a row of a node that waits for nothing
+-- a row of a node that waits for nothing, and no refusal
 abbrev pub is_free_row : What → Bool
 is_free_row (Deleted name) = false
 is_free_row (Came round fold) = false
+is_free_row (Refused kind place why) = false
 is_free_row _ = true
-
--- not the result of a round
-abbrev pub is_no_result : What → Bool
-is_no_result (Came round fold) = false
-is_no_result (Refused kind place Mixed) = false
-is_no_result _ = true
 
 -- the node's map count and read sections of the region are these
 abbrev pub with_seat : State → ℕ → Name → Seat → State

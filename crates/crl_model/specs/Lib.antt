@@ -5,6 +5,7 @@ pub mod Laws
 pub mod Names
 pub mod Patches
 pub mod Regions
+pub mod Rounds
 pub mod Seen
 pub mod SingleMachine
 pub mod Stages

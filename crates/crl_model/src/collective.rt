@@ -1,8 +1,10 @@
 //! What nodes bring to a collective call, and what it gives them.
 ghost use Rattle.std.specs.Prelude.{◌≡◌, IfOk};
+ghost use Rattle.crl_model.specs.Calls.{kind_of};
 
 use crate::OutOfMemory;
 use crate::bytes::Bytes;
+use crate::call::CallKind;
 use std::alloc::Global;
 
 /// What one node brings to a round.
@@ -28,6 +30,20 @@ pub enum Fold {
 }
 
 impl Part {
+    /// The call that brings the part.
+    pub fn kind(&self) -> CallKind
+        ensures { result ≡ kind_of self.now }
+    {
+        match self {
+            Part::Barrier => CallKind::Barrier,
+            Part::Send(_) => CallKind::Send,
+            Part::Receive => CallKind::Receive,
+            Part::Sum(_) => CallKind::Sum,
+            Part::Min(_) => CallKind::Min,
+            Part::Max(_) => CallKind::Max,
+        }
+    }
+
     /// An equal value.
     ///
     /// # Errors

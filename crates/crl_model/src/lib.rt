@@ -11,6 +11,7 @@ pub mod laws;
 pub mod machine;
 pub mod name;
 pub mod region;
+mod round;
 
 pub use std::alloc::AllocError as OutOfMemory;
 

@@ -2,12 +2,15 @@
 ghost use Rattle.std.specs.Prelude.{◌≡◌, ◌<◌, ◌≤◌, IfOk};
 ghost use Rattle.std.specs.Prelude.{ℕ, length, Some};
 ghost use Rattle.std.specs.BTreeMap.{get};
+ghost use Rattle.crl_model.specs.declared.TheConstants.{NODE_LIMIT};
 ghost use Rattle.crl_model.specs.declared.name.Name.{Name};
 ghost use Rattle.crl_model.specs.declared.region.Region.{Region};
 ghost use Rattle.crl_model.specs.Names.{name_cmp};
 ghost use Rattle.crl_model.specs.Regions.{TablesAgree};
+ghost use Rattle.crl_model.specs.Rounds.{cames, RoundsAgree};
 
 use crate::bytes::Bytes;
+use crate::collective::Fold;
 use crate::desk::Desk;
 use crate::entry::{Entry, What};
 use crate::name::Name;
@@ -17,6 +20,7 @@ use std::alloc::Global;
 use std::collections::BTreeMap;
 
 mod refusals;
+mod rounds;
 mod rows;
 
 /// Why an entry isn't taken: it is no legal step, or there was no memory to take it.
@@ -27,17 +31,24 @@ pub enum Judged {
 }
 
 /// The state of the single machine after a legal history: its regions by name, each with what every
-/// node has of it, and what the nodes have done besides. An entry costs a number of steps that is
-/// logarithmic in the regions, beside its bytes.
+/// node has of it, what the nodes have done besides, and what each round gives to which every node
+/// came. An entry costs a number of steps that is logarithmic in the regions, beside its bytes; the
+/// last part of a round costs a step a node besides.
 #[derive(Drop)]
 pub struct Machine {
     alloc: Global,
     nodes: NodeNo,
     regions: BTreeMap<Name, Region>,
     desks: Vec<Desk>,
+    /// What rounds 1, 2 and so on give, up to the last to which every node came.
+    folds: Vec<Fold>,
+    /// How many nodes came to the next round.
+    arrived: usize,
     ghost desks_fit: { length desks.items ≡ nodes },
     ghost seats_fit: { (q : Name) (r : Region) → get name_cmp regions q ≡ Some r → length r.seats.items ≡ nodes },
     ghost agree: { TablesAgree nodes (get name_cmp regions) desks.items },
+    ghost rounds: { RoundsAgree (cames desks.items) folds.items arrived },
+    ghost few: { nodes ≤ NODE_LIMIT },
 }
 
 impl Machine {
@@ -47,7 +58,7 @@ impl Machine {
     ghost use Rattle.crl_model.specs.Stages.{is_there};
     ghost use Rattle.crl_model.specs.SingleMachine.{start, IsFree, IsLegal, IsUnwritten, IsUnused, after};
     ghost use Rattle.crl_model.specs.Seen.{state};
-    ghost use Rattle.crl_model.specs.Judging.{Judges, is_free_row, is_no_result, with_seat, the_seat};
+    ghost use Rattle.crl_model.specs.Judging.{Judges, is_free_row, with_seat, the_seat};
 
     /// The machine of so many nodes that have done nothing.
     ///
@@ -73,11 +84,12 @@ impl Machine {
             nodes,
             regions: BTreeMap::new(alloc),
             desks,
+            folds: Vec::new(alloc),
+            arrived: 0,
         })
     }
 
-    /// Judges an entry: `Ok` where it is a legal step, which the machine then takes. The results of
-    /// collective calls aren't judged yet: each of them is answered `Illegal`.
+    /// Judges an entry: `Ok` where it is a legal step, which the machine then takes.
     ///
     /// # Errors
     ///
@@ -85,7 +97,7 @@ impl Machine {
     pub fn judge(&mut self, entry: &Entry) -> Result<(), Judged>
         ensures legal { OnOk result (IsLegal (state self.old) entry.now) }
         ensures taken { OnOk result (state self.new ≡ after (state self.old) entry.now) }
-        ensures illegal { IsErrOf result Judged.Illegal → IsTrue (is_no_result entry.now.what) → IsLegal (state self.old) entry.now → ⊥ }
+        ensures illegal { IsErrOf result Judged.Illegal → IsLegal (state self.old) entry.now → ⊥ }
         ensures kept { OnErr result (state self.new ≡ state self.old) }
     {
         if entry.node >= self.nodes {
@@ -149,15 +161,14 @@ impl Machine {
     /// The row of the entry, for a node that there is.
     fn judge_row(&mut self, node: NodeNo, what: &What) -> Result<bool, Judged>
         requires node { node < self.old.nodes }
-        ensures judged { IfOk result (λ b. IsTrue (is_no_result what.now) → Judges (state self.old) node what.now (state self.new) b) }
-        ensures result { IfOk result (λ b. b ≡ true → IsTrue (is_no_result what.now)) }
-        ensures kept { IfOk result (λ b. b ≡ false → state self.new ≡ state self.old) }
+        ensures judged { IfOk result (λ b. Judges (state self.old) node what.now (state self.new) b) }
         ensures memory { OnErr result (result ≡ Err Judged.OutOfMemory) }
         ensures err { OnErr result (state self.new ≡ state self.old) }
     {
         match what {
             What::Deleted { name } => Ok(self.deleted(node, name)),
-            What::Came { .. } => Ok(false),
+            What::Came { round, fold } => Ok(self.came(node, *round, fold)),
+            What::Refused { kind, place, why } => Ok(self.refused(node, *why, *kind, place)),
             _ => {
                 if self.is_free(node) {
                     self.judge_free(node, what)

@@ -31,7 +31,7 @@ cut_some p xs i h =
     rw (between_to_end xs (i + 1) (length xs) (omega arith)) (rw (← same) (slice_split_first p xs 0 within))
 
 -- there is a part
-first_part : (p : ℕ → Bool) (xs : List ℕ) → (part : List ℕ) × (parts : List (List ℕ)) × (slice_split p xs ≡ part ∷ parts)
+pub first_part : (p : ℕ → Bool) (xs : List ℕ) → (part : List ℕ) × (parts : List (List ℕ)) × (slice_split p xs ≡ part ∷ parts)
 first_part p [] = ([], [], refl)
 first_part p (x ∷ xs) = go (p x) (first_part p xs) where
   go : (b : Bool) → ((part : List ℕ) × (parts : List (List ℕ)) × (slice_split p xs ≡ part ∷ parts))
@@ -46,7 +46,7 @@ unfolding lines_of
 line_last [] h e = absurd (omega arith)
 line_last (b ∷ bs) h e = ap lines_in (cut_none is_feed (b ∷ bs) e)
 
-ended_first : (part next : List ℕ) (parts : List (List ℕ)) → lines_in (part ∷ next ∷ parts) ≡ ended part ∷ lines_in (next ∷ parts)
+pub ended_first : (part next : List ℕ) (parts : List (List ℕ)) → lines_in (part ∷ next ∷ parts) ≡ ended part ∷ lines_in (next ∷ parts)
 ended_first [] next parts = refl
 ended_first (b ∷ bs) next parts = refl
 

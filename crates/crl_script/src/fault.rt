@@ -45,7 +45,7 @@ pub enum ScriptFault {
 
 /// Why a part of a script wasn't read.
 #[derive(Debug, Drop)]
-pub enum LineFault {
+pub(crate) enum LineFault {
     Bad(ScriptWhy),
     Memory,
 }

@@ -16,3 +16,4 @@ pub use fault::{ScriptFault, ScriptWhy};
 pub use printing::print_script;
 pub use reading::read_script;
 pub use script::{Script, Statement};
+pub use word::natural;

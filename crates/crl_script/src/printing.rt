@@ -1,7 +1,10 @@
 //! Prints a script.
 ghost use Rattle.std.specs.Prelude.{◌≡◌, ◌++◌, ◌∷◌, [], ◌+◌, ◌<◌, ◌≤◌, ◌^◌, IfOk, OnOk, codes, decimal, string_bytes};
 ghost use Rattle.std.specs.Fmt.{signed_decimal};
+ghost use Rattle.crl_script.specs.Again.{IsScript, IsPrintable};
 ghost use Rattle.crl_script.specs.Canonical.{block_text, blocks_text, call_words, canonical_of, label_of, label_text, line_text, made_after, node_text, part_words, statement_words};
+ghost use Rattle.crl_script.specs.Program.{Program};
+ghost use Rattle.crl_script.specs.Sentence.{script_of};
 
 use crate::script::{Script, Statement};
 use crl_model::bytes::Bytes;
@@ -247,16 +250,11 @@ fn push_node(
     push_block(alloc, out, node, block)
 }
 
-/// The canonical text of a script: `nodes N`, `cache C`, and for each node with statements, ascending,
-/// `node I` and its statements. Words are parted by single spaces, numbers have no leading zeros, bytes
-/// are in lower-case hexadecimal, and a line feed ends each line. The label of region `I:k` is `rI_k`.
-///
-/// # Errors
-///
-/// `OutOfMemory`.
+/// The bytes of the canonical text.
 #[tactic(auto, unfolding(crate::specs::Canonical::canonical_of))]
-pub fn print_script(alloc: Global, script: &Script) -> Result<Bytes, OutOfMemory>
-    ensures { IfOk result (λ b. b ≡ canonical_of script.now) }
+fn canonical(alloc: Global, script: &Script) -> Result<Vec<u8>, OutOfMemory>
+    ensures text { IfOk result (λ v. v.items ≡ canonical_of script.now) }
+    ensures script { IsScript script.now }
 {
     let mut out = Vec::new(alloc);
     push_number(alloc, &mut out, b"nodes", script.nodes() as u64)?;
@@ -264,5 +262,28 @@ pub fn print_script(alloc: Global, script: &Script) -> Result<Bytes, OutOfMemory
     for node in 0..script.nodes() {
         push_node(alloc, &mut out, node, script.statements(node))?;
     }
-    Ok(Bytes::from_vec(out))
+    Ok(out)
 }
+
+/// The canonical text of a script: `nodes N`, `cache C`, and for each node with statements, ascending,
+/// `node I` and its statements. Words are parted by single spaces, numbers have no leading zeros, bytes
+/// are in lower-case hexadecimal, and a line feed ends each line. The label of region `I:k` is `rI_k`.
+/// Reading this text gives the script again, where each name in the script is `I:k` for a node I with at
+/// least k creates, no line has more than 140,000 bytes, and the text has fewer than 2^32.
+///
+/// # Errors
+///
+/// `OutOfMemory`.
+pub fn print_script(alloc: Global, script: &Script) -> Result<Bytes, OutOfMemory>
+    ensures text { IfOk result (λ b. b ≡ canonical_of script.now) }
+    ensures again { IfOk result (λ b. IsPrintable script.now → script_of b ≡ Ok script.now) }
+{
+    let text = canonical(alloc, script)?;
+    Ok(Bytes::from_vec(text))
+}
+
+/// A printable script is read again from its canonical text.
+#[tactic(auto, using(crate::proofs::AgainLemmas::again))]
+pub fn canonical_is_read_again()
+    ensures { (p : Program) → IsScript p → IsPrintable p → script_of (canonical_of p) ≡ Ok p }
+{}

@@ -233,33 +233,12 @@ impl<'a> Reading<'a> {
         ensures blocks { OnOk result (vec_len self.new.blocks ≤ 64) }
     {
         match self.place {
-            Place::Start => {
-                if word == b"nodes".as_slice() {
-                    return self.nodes_line(alloc, rest);
-                }
-                Err(LineFault::Bad(ScriptWhy::NoNodes))
-            }
-            Place::Head => {
-                if word == b"node".as_slice() {
-                    return self.node_line(rest);
-                }
-                if word == b"cache".as_slice() {
-                    return self.cache_line(rest);
-                }
-                Err(LineFault::Bad(ScriptWhy::BadWord))
-            }
-            Place::Outside => {
-                if word == b"node".as_slice() {
-                    return self.node_line(rest);
-                }
-                Err(LineFault::Bad(ScriptWhy::BadWord))
-            }
-            Place::Inside(node) => {
-                if word == b"node".as_slice() {
-                    return self.node_line(rest);
-                }
-                self.statement_line(alloc, known, node, word, rest)
-            }
+            Place::Start if word == b"nodes".as_slice() => self.nodes_line(alloc, rest),
+            Place::Start => Err(LineFault::Bad(ScriptWhy::NoNodes)),
+            _ if word == b"node".as_slice() => self.node_line(rest),
+            Place::Head if word == b"cache".as_slice() => self.cache_line(rest),
+            Place::Inside(node) => self.statement_line(alloc, known, node, word, rest),
+            _ => Err(LineFault::Bad(ScriptWhy::BadWord)),
         }
     }
 

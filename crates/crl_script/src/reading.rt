@@ -1,5 +1,6 @@
 //! Reads a script.
-ghost use Rattle.std.specs.Prelude.{◌≡◌, ◌<◌, ◌≤◌, ◌^◌, length, IfOk, OnOk, vec_len};
+ghost use Rattle.std.specs.Prelude.{◌≡◌, ◌<◌, ◌≤◌, ◌^◌, length, map, IfOk, vec_len};
+ghost use Rattle.crl_script.specs.Again.{AllStatements};
 ghost use Rattle.crl_script.specs.Labels.{known_names};
 ghost use Rattle.crl_script.specs.Reads.{Reads, ReadsAs};
 ghost use Rattle.crl_script.specs.Seen.{seen};
@@ -41,7 +42,8 @@ fn read_with<'a>(
 
 /// The script that was read, which has a line that isn't skipped.
 fn script(reading: Reading<'_>) -> Result<Script, ScriptFault>
-    requires { vec_len reading.blocks ≤ 64 }
+    requires limit { vec_len reading.blocks ≤ 64 }
+    requires statements { AllStatements (map (λ b. b.items) reading.blocks.items) }
     ensures { Reads result (program_of (seen reading.entry)) }
 {
     let Reading {
@@ -87,7 +89,7 @@ fn script(reading: Reading<'_>) -> Result<Script, ScriptFault>
 /// `NoNodes` for a first line that isn't skipped and doesn't begin with `nodes`, or at line 1 where
 /// all lines are skipped; `BadWord`; then those of its words from left to right. `UnknownLabel` only where
 /// no line has another fault, with the first line whose label no `create` has. `OutOfMemory`.
-#[tactic(auto, unfolding(crate::specs::Sentence::script_of))]
+#[tactic(auto, using(crate::proofs::PlainRun::text_made), unfolding(crate::specs::Sentence::script_of))]
 pub fn read_script(alloc: Global, text: &[u8]) -> Result<Script, ScriptFault>
     requires { length text.now < 2 ^ 32 }
     ensures { Reads result (script_of text.now) }

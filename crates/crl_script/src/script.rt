@@ -1,5 +1,6 @@
 //! Scripts, and what they consist of.
 ghost use Rattle.std.specs.Prelude.{◌≡◌, ◌<◌, ◌≤◌, ◌^◌, ◌↔◌, IsTrue, length, map, sum, slice_get};
+ghost use Rattle.crl_script.specs.Again.{AllStatements, IsScript};
 
 use crl_model::NodeNo;
 use crl_model::bytes::Bytes;
@@ -38,14 +39,15 @@ pub struct Script {
 }
 
 impl Model for Script {
-    ghost use Rattle.std.specs.Prelude.{◌≤◌, map, length};
+    ghost use Rattle.std.specs.Prelude.{◌<◌, ◌≤◌, ◌^◌, map, length};
+    ghost use Rattle.crl_script.specs.Again.{AllStatements};
     ghost use Rattle.crl_script.specs.Program.{Program};
 
     ghost Value = { Program };
 
     ghost view = { λ s. record { nodes = length s.blocks.items; cache = s.cache; blocks = map (λ b. b.items) s.blocks.items } };
 
-    ghost invariant = { λ s. (1 ≤ length s.blocks.items) × (length s.blocks.items ≤ 64) };
+    ghost invariant = { λ s. (1 ≤ length s.blocks.items) × (length s.blocks.items ≤ 64) × (s.cache < 2 ^ 16) × AllStatements (map (λ b. b.items) s.blocks.items) };
 }
 
 impl Script {
@@ -53,6 +55,7 @@ impl Script {
     pub(crate) fn new(cache: u16, blocks: Vec<Vec<Statement>>) -> Script
         requires some { 1 ≤ length blocks.items }
         requires limit { length blocks.items ≤ 64 }
+        requires statements { AllStatements (map (λ b. b.items) blocks.items) }
         ensures { result ≡ record { nodes = length blocks.items; cache = cache; blocks = map (λ b. b.items) blocks.items } }
     {
         Script { cache, blocks }
@@ -64,6 +67,7 @@ impl Script {
         ensures some { 1 ≤ result }
         ensures limit { result ≤ 64 }
         ensures blocks { length self.now.blocks ≡ result }
+        ensures script { IsScript self.now }
     {
         self.blocks.len() as NodeNo
     }

@@ -71,9 +71,9 @@ fn digits(word: &[u8]) -> Option<u128>
     Some(number)
 }
 
-/// The number of a word of 1 to 20 decimal digits.
+/// The number of a word of 1 to 20 decimal digits, and none of any other word.
 #[tactic(auto, unfolding(crate::specs::Words::natural_of))]
-fn natural(word: &[u8]) -> Option<u128>
+pub fn natural(word: &[u8]) -> Option<u128>
     ensures { result ≡ natural_of word.now }
 {
     if word.is_empty() || word.len() > DIGITS {

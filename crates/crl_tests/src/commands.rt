@@ -25,7 +25,7 @@ fn failing_first(alloc: Global) -> Result<MemorySource, OutOfMemory> {
 // does.
 #[test]
 fn other_words_give_the_usage(rt: HostRuntime) -> Result<(), Fail> {
-    let others: [&[&str]; 17] = [
+    let others: [&[&str]; 25] = [
         &[],
         &[""],
         &["order"],
@@ -43,6 +43,14 @@ fn other_words_give_the_usage(rt: HostRuntime) -> Result<(), Fail> {
         &["order", "picks", "1"],
         &["--help"],
         &["check"],
+        &["check", ""],
+        &["check", "0"],
+        &["check", "65"],
+        &["check", "+1"],
+        &["check", "1x"],
+        &["check", "1", "2"],
+        &["check", "000000000000000000001"],
+        &["Check", "1"],
     ];
     for words in others {
         let mut source = failing_first(rt.alloc())?;

@@ -87,6 +87,8 @@ fn statuses_have_their_codes(rt: HostRuntime) {
         (Status::ReadFault, 4),
         (Status::WriteFault, 5),
         (Status::OutOfMemory, 6),
+        (Status::Illegal, 7),
+        (Status::BadAccount, 8),
     ];
     for (status, code) in codes {
         assert_eq!(rt; status.code(), code, "of {status:?}");

@@ -1,32 +1,43 @@
 //! The refusals of the table of legal steps.
-ghost use Rattle.std.specs.Prelude.{◌≡◌, ◌+◌, ◌-◌, ◌^◌, ◌<◌, ◌≢◌, ◌⊎◌, min, true};
+ghost use Rattle.std.specs.Prelude.{◌≡◌, ◌+◌, ◌-◌, ◌^◌, ◌<◌, ◌⊎◌, min};
 ghost use Rattle.std.specs.Bool.{MatchBool};
 ghost use Rattle.crl_model.specs.declared.entry.What.{What};
 ghost use Rattle.crl_model.specs.declared.entry.Place.{Place};
 ghost use Rattle.crl_model.specs.Names.{at_node};
 ghost use Rattle.crl_model.specs.Judging.{Judges};
-ghost use Rattle.crl_model.specs.SingleMachine.{IsFree, IsRefusedSerial, IsRefusedAt};
+ghost use Rattle.crl_model.specs.SingleMachine.{IsRefusedSerial, IsRefusedAt, IsRefusedIn};
 ghost use Rattle.crl_model.specs.Seen.{state};
 
 use crate::NodeNo;
 use crate::call::{CallKind, Refusal};
+use crate::entry::Place;
 use crate::machine::Machine;
 use crate::name::Name;
 use crate::region::Stage;
 
 impl Machine {
-    pub(crate) fn refused_at(
+    /// The rows of refusals, each judged and taken.
+    pub(crate) fn refused(
         &mut self,
         node: NodeNo,
         why: Refusal,
         kind: CallKind,
-        name: &Name,
+        place: &Place,
     ) -> bool
         requires node { node < self.old.nodes }
-        requires free { IsFree (state self.old) node }
+        ensures { Judges (state self.old) node (What.Refused kind place.now why) (state self.new) result }
+    {
+        match place {
+            Place::Region(name) => self.refused_at(node, why, kind, name),
+            Place::Round(round) => self.refused_in(node, why, kind, *round),
+        }
+    }
+
+    fn refused_at(&mut self, node: NodeNo, why: Refusal, kind: CallKind, name: &Name) -> bool
+        requires node { node < self.old.nodes }
         ensures { Judges (state self.old) node (What.Refused kind (Place.Region name.now) why) (state self.new) result }
     {
-        if !self.is_refused_at(node, why, kind, name) {
+        if !self.is_free(node) || !self.is_refused_at(node, why, kind, name) {
             return false;
         }
         if why == Refusal::BadSize {
@@ -35,13 +46,22 @@ impl Machine {
         true
     }
 
-    pub(crate) fn refused_in(&self, node: NodeNo, why: Refusal, kind: CallKind, round: u64) -> bool
-        requires node { node < self.now.nodes }
-        requires free { IsFree (state self.now) node }
-        ensures wrong_size { result ≡ true → why ≡ Refusal.WrongSize }
-        ensures judged { why ≢ Refusal.Mixed → Judges (state self.now) node (What.Refused kind (Place.Round round) why) (state self.now) result }
+    fn refused_in(&mut self, node: NodeNo, why: Refusal, kind: CallKind, round: u64) -> bool
+        requires node { node < self.old.nodes }
+        ensures { Judges (state self.old) node (What.Refused kind (Place.Round round) why) (state self.new) result }
     {
-        why == Refusal::WrongSize
+        match why {
+            Refusal::Mixed => self.mixed(node, kind, round),
+            Refusal::WrongSize => self.is_wrong_size(node, kind, round),
+            _ => false,
+        }
+    }
+
+    fn is_wrong_size(&self, node: NodeNo, kind: CallKind, round: u64) -> bool
+        requires node { node < self.now.nodes }
+        ensures { MatchBool result (IsRefusedIn (state self.now) node Refusal.WrongSize kind round) (IsRefusedIn (state self.now) node Refusal.WrongSize kind round → ⊥) }
+    {
+        self.is_free(node)
             && kind == CallKind::Send
             && round == self.desks[node as usize].came.len() as u64 + 1
     }

@@ -3,12 +3,11 @@ ghost use Rattle.std.specs.Prelude.{◌≡◌, ◌<◌, IsTrue, IfOk, OnErr, Err
 ghost use Rattle.std.specs.Bool.{MatchBool};
 ghost use Rattle.crl_model.specs.SingleMachine.{IsFree, IsSendable};
 ghost use Rattle.crl_model.specs.Seen.{state};
-ghost use Rattle.crl_model.specs.Judging.{Judges, is_free_row, is_no_result};
+ghost use Rattle.crl_model.specs.Judging.{Judges, is_free_row};
 
 use crate::bytes::Bytes;
-use crate::call::Refusal;
 use crate::collective::Part;
-use crate::entry::{Place, What};
+use crate::entry::What;
 use crate::machine::{Judged, Machine};
 use crate::name::Name;
 use crate::region::{Region, Seat, Stage};
@@ -20,9 +19,7 @@ impl Machine {
         requires node { node < self.old.nodes }
         requires free { IsFree (state self.old) node }
         requires row { IsTrue (is_free_row what.now) }
-        ensures judged { IfOk result (λ b. IsTrue (is_no_result what.now) → Judges (state self.old) node what.now (state self.new) b) }
-        ensures result { IfOk result (λ b. b ≡ true → IsTrue (is_no_result what.now)) }
-        ensures kept { IfOk result (λ b. b ≡ false → state self.new ≡ state self.old) }
+        ensures judged { IfOk result (λ b. Judges (state self.old) node what.now (state self.new) b) }
         ensures memory { OnErr result (result ≡ Err Judged.OutOfMemory) }
         ensures err { OnErr result (state self.new ≡ state self.old) }
     {
@@ -47,17 +44,7 @@ impl Machine {
                 Ok(done) => Ok(done),
                 Err(_) => Err(Judged::OutOfMemory),
             },
-            What::Refused {
-                kind,
-                place: Place::Region(name),
-                why,
-            } => Ok(self.refused_at(node, *why, *kind, name)),
-            What::Refused {
-                kind,
-                place: Place::Round(round),
-                why,
-            } => Ok(self.refused_in(node, *why, *kind, *round)),
-            What::Deleted { .. } | What::Came { .. } => Ok(false),
+            What::Deleted { .. } | What::Came { .. } | What::Refused { .. } => Ok(false),
         }
     }
 
@@ -246,8 +233,7 @@ impl Machine {
             return Ok(false);
         }
         let copy = part.copy(self.alloc)?;
-        let desk = &mut self.desks[node as usize];
-        desk.come(copy)?;
+        self.arrive(node, copy)?;
         Ok(true)
     }
 }

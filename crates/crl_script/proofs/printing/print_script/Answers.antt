@@ -1,8 +1,10 @@
-use Rattle.std.proofs.Common.{◌∙◌}
-use Rattle.crl_script.proofs.BlockLemmas.{blocks_step}
+use Rattle.std.proofs.Common.{◌≡◌, ◌∙◌, ap}
+use Rattle.crl_script.specs.Canonical.{canonical_of}
+use Rattle.crl_script.specs.Sentence.{script_of}
+use Rattle.crl_script.proofs.AgainLemmas.{again}
 use Rattle.crl_script.proofs.printing.print_script.Goals as goal
 
-pub loop-node-preserved : goal.loop-node-preserved
-loop-node-preserved c =
-    blocks_step c.loop-node.out.items c.push_node.new.out.items c.loop-node.node c.args.script.now.blocks c.statements.result.now c.statements.ensures c.in_ok-push_node.ensures
-    ∙ c.loop-node.invariant
+pub returns-clause-again : goal.returns-clause-again
+returns-clause-again c = λ h.
+    let same : c.from_vec.result ≡ canonical_of c.args.script.now = c.from_vec.ensures ∙ c.in_ok-text.ensures.text in
+    ap script_of same ∙ again c.args.script.now c.canonical.ensures.script h

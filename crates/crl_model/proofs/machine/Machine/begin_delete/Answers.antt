@@ -7,6 +7,7 @@ use Rattle.crl_model.specs.Tables.{deletes_at}
 use Rattle.crl_model.proofs.DeskSet.{at_desk}
 use Rattle.crl_model.proofs.States.{same_state, stage_written}
 use Rattle.crl_model.proofs.Tables.{agree_begun, fit_written}
+use Rattle.crl_model.proofs.FullRounds.{rounds_kept}
 use Rattle.crl_model.proofs.machine.Machine.begin_delete.Goals as goal
 
 is_there : {o : Option Region} {r : Region} → o ≡ Some r → IsSome o
@@ -37,6 +38,9 @@ invariant_of-self-clause-agree c =
     (record { update = ((c.get_mut.follows.holds c.put_stage.new.self).3 (is_there found)).0; found = found })
     (omega (arith, fit, c.requires.node)) (rw found at c.requires.live) c.put_stage.ensures.stage c.put_stage.ensures.writer
     (sym (at_desk (λ d. d.used) 0 _ _ _ c.index_mut-desk.result.now fit c.requires.node read)) refl (free c) c.args.self.now.agree
+
+pub invariant_of-self-clause-rounds : goal.invariant_of-self-clause-rounds
+invariant_of-self-clause-rounds c = rounds_kept _ _ _ c.index_mut-desk.result.now _ _ c.index_mut-desk.ensures.value refl c.args.self.now.rounds
 
 pub returns : goal.returns
 returns c =

@@ -1,4 +1,4 @@
-use Rattle.std.proofs.Common.{◌≡◌, ◌+◌, [], arith, sym, None}
+use Rattle.std.proofs.Common.{◌≡◌, ◌+◌, [], arith, refl, sym, None}
 use Rattle.std.specs.BTreeMap.{get}
 use Rattle.std.proofs.Math.ListN.{length-replicate}
 use Rattle.std.proofs.lemmas.Grind.{common_steps}
@@ -7,6 +7,7 @@ use Rattle.crl_model.specs.Tables.{blank}
 use Rattle.crl_model.proofs.DeskSet.{at_desk}
 use Rattle.crl_model.proofs.States.{same_state, created}
 use Rattle.crl_model.proofs.Tables.{Adds, adds_of, agree_added, fit_written, was_absent}
+use Rattle.crl_model.proofs.FullRounds.{rounds_kept}
 use Rattle.crl_model.proofs.machine.Machine.create.Goals as goal
 
 home : (c : goal.After-self-2-1) → c.args.name.now.home ≡ c.args.node
@@ -30,6 +31,9 @@ invariant_of-self-2-clause-seats_fit c =
 
 pub invariant_of-self-2-clause-agree : goal.invariant_of-self-2-clause-agree
 invariant_of-self-2-clause-agree c = agree_added _ _ _ _ _ c.args.name.now _ _ (adds c) (absent c) c.in_ok-region.ensures.stage c.in_ok-region.ensures.writer c.args.self.now.agree
+
+pub invariant_of-self-2-clause-rounds : goal.invariant_of-self-2-clause-rounds
+invariant_of-self-2-clause-rounds c = rounds_kept _ _ _ c.index_mut-desk.result.now _ _ c.index_mut-desk.ensures.value refl c.args.self.now.rounds
 
 pub returns-clause-judged : goal.returns-clause-judged
 returns-clause-judged c =

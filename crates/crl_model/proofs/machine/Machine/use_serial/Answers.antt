@@ -1,7 +1,8 @@
-use Rattle.std.proofs.Common.{◌∙◌, [], arith, sym, ap, min, ◌+◌}
+use Rattle.std.proofs.Common.{refl, ◌∙◌, [], arith, sym, ap, min, ◌+◌}
 use Rattle.crl_model.proofs.DeskSet.{at_desk}
 use Rattle.crl_model.proofs.States.{same_state, serial_used}
 use Rattle.crl_model.proofs.Tables.{agree_desk}
+use Rattle.crl_model.proofs.FullRounds.{rounds_kept}
 use Rattle.crl_model.proofs.machine.Machine.use_serial.Goals as goal
 
 pub invariant_of-self-clause-agree : goal.invariant_of-self-clause-agree
@@ -11,6 +12,9 @@ invariant_of-self-clause-agree c =
     let used = at_desk (λ d. d.used) 0 _ _ _ c.index_mut-desk.result.now fit c.requires read in
     agree_desk _ _ _ c.args.node _ (omega (arith, fit, c.requires)) (omega (arith, used, c.saturating_add-desk.ensures))
     (sym (at_desk (λ d. d.deletes) _ _ _ _ c.index_mut-desk.result.now fit c.requires read)) c.args.self.now.agree
+
+pub invariant_of-self-clause-rounds : goal.invariant_of-self-clause-rounds
+invariant_of-self-clause-rounds c = rounds_kept _ _ _ c.index_mut-desk.result.now _ _ c.index_mut-desk.ensures.value refl c.args.self.now.rounds
 
 pub returns : goal.returns
 returns c =

@@ -1,6 +1,6 @@
 use Rattle.crl_cli.specs.Outcome.{too_long, unread}
 use Rattle.crl_cli.proofs.Says.{bad_bytes, read_bytes}
-use Rattle.crl_cli.proofs.outcome.run_text.Goals as goal
+use Rattle.crl_cli.proofs.order.run_text.Goals as goal
 
 pub returns-then-bytes-gt-TEXT_LIMIT : goal.returns-then-bytes-gt-TEXT_LIMIT
 returns-then-bytes-gt-TEXT_LIMIT c = bad_bytes c.bad_script.result _ _ (too_long c.if-bytes-gt-TEXT_LIMIT.true) c.bad_script.ensures.status c.bad_script.ensures.text

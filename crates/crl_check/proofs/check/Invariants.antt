@@ -1,0 +1,7 @@
+use Rattle.crl_model.specs.Seen.{state}
+use Rattle.crl_model.specs.SingleMachine.{start}
+use Rattle.crl_check.proofs.Prefixes.{SoFar}
+use Rattle.crl_check.proofs.check.Given as goal
+
+abbrev pub invariant-loop-i : goal.invariant-loop-i
+invariant-loop-i l = SoFar (start l.nodes) l.entries l.i (state l.machine)
