@@ -2,14 +2,19 @@
 //! machine with one array of byte regions that every history is judged against.
 #![tactic(auto)]
 
+pub mod blocked;
 pub mod bytes;
 pub mod call;
 pub mod collective;
 pub mod desk;
+pub mod directory;
 pub mod entry;
+pub mod event;
 pub mod laws;
 pub mod machine;
+pub mod message;
 pub mod name;
+pub mod posting;
 pub mod region;
 mod round;
 
