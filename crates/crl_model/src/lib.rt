@@ -5,6 +5,7 @@
 pub mod blocked;
 pub mod bytes;
 pub mod call;
+pub mod choice;
 pub mod collective;
 pub mod desk;
 pub mod directory;
@@ -17,6 +18,7 @@ pub mod name;
 pub mod posting;
 pub mod region;
 mod round;
+pub mod statement;
 
 pub use std::alloc::AllocError as OutOfMemory;
 

@@ -1,0 +1,131 @@
+-- What a node hears in a run: its calls, each with its answer, and the entries that they stand for.
+use Rattle.std.specs.Prelude.{◌≡◌, ℕ, ◌+◌, ◌*◌, ◌==◌, if◌then◌else◌, List, [], ◌∷◌, ◌++◌}
+use Rattle.std.specs.declared.option.Option.{Option}
+use Rattle.std.specs.declared.option.Option.TheVariants.{None, Some}
+use Rattle.crl_model.specs.declared.call.Call.{Call}
+use Rattle.crl_model.specs.declared.call.Call.TheVariants as call
+use Rattle.crl_model.specs.declared.call.Refusal.{Refusal}
+use Rattle.crl_model.specs.declared.call.Refusal.TheVariants.{Mixed}
+use Rattle.crl_model.specs.declared.collective.Part.{Part}
+use Rattle.crl_model.specs.declared.entry.Entry.{Entry}
+use Rattle.crl_model.specs.declared.entry.Place.{Place}
+use Rattle.crl_model.specs.declared.entry.Place.TheVariants.{Region, Round}
+use Rattle.crl_model.specs.declared.entry.What.{What}
+use Rattle.crl_model.specs.declared.entry.What.TheVariants as what
+use Rattle.crl_model.specs.declared.event.Event.{Event}
+use Rattle.crl_model.specs.declared.event.Event.TheVariants as event
+use Rattle.crl_protocol.specs.Node.{Answer, Made, Mapped, Reading, Writing, Done, Came, Refused, Wait}
+use Rattle.crl_protocol.specs.Verdict.{word_of}
+use Rattle.crl_protocol.specs.World.{World, step}
+
+-- a call or a collect of a node, with the answer that it has at this event
+pub data Heard : Type 0 where
+  Called : (call : Call) (answer : Answer) → Heard
+  Collected : (answer : Answer) → Heard
+
+-- of the events from this world on, those of node n
+abbrev pub heard_of : ℕ → Event → Answer → List Heard
+heard_of n (event.Call i c) answer = if i == n then Called c answer ∷ [] else []
+heard_of n (event.Collect i) answer = if i == n then Collected answer ∷ [] else []
+heard_of n (event.Handle i place) answer = []
+heard_of n (event.Carry i place) answer = []
+
+abbrev pub heard : ℕ → World → List Event → List Heard
+heard n w [] = []
+heard n w (e ∷ es) = heard_of n e (step e w).answer ++ heard n (step e w).world es
+
+-- A node's calls, each with its answer: the call's own, or the one that was collected after it. The last call
+-- may have none yet.
+pub record Told : Type 0 where
+  pub call : Call
+  pub answer : Option Answer
+
+abbrev pub collected_next : List Heard → Option Answer
+collected_next [] = None
+collected_next (Called c answer ∷ hs) = None
+collected_next (Collected answer ∷ hs) = Some answer
+
+abbrev pub answer_to : Answer → List Heard → Option Answer
+answer_to Wait hs = collected_next hs
+answer_to answer hs = Some answer
+
+abbrev pub told : List Heard → List Told
+told [] = []
+told (Called c answer ∷ hs) = record { call = c; answer = answer_to answer hs } ∷ told hs
+told (Collected answer ∷ hs) = told hs
+
+abbrev pub talk : ℕ → World → List Event → List Told
+talk n w es = told (heard n w es)
+
+-- The lines of a call with this answer. What call and answer don't fix, the bytes with which a section began,
+-- the serial of a refused create, and the round of a refused collective call, is as it was recorded.
+abbrev pub IsPlaceOf : Call → Place → Type 0
+IsPlaceOf (call.Create size) (Region name) = Unit {0}
+IsPlaceOf (call.Delete q) place = place ≡ Region q
+IsPlaceOf (call.Map q) place = place ≡ Region q
+IsPlaceOf (call.Unmap q) place = place ≡ Region q
+IsPlaceOf (call.StartRead q) place = place ≡ Region q
+IsPlaceOf (call.EndRead q) place = place ≡ Region q
+IsPlaceOf (call.StartWrite q) place = place ≡ Region q
+IsPlaceOf (call.EndWrite q after) place = place ≡ Region q
+IsPlaceOf (call.Put q offset len) place = place ≡ Region q
+IsPlaceOf (call.Add q offset) place = place ≡ Region q
+IsPlaceOf (call.Flush q) place = place ≡ Region q
+IsPlaceOf (call.Come part) (Round round) = Unit {0}
+IsPlaceOf _ _ = ⊥
+
+-- a refused call has one line
+abbrev pub AreRefused : Call → Refusal → List What → Type 0
+AreRefused c why lines = (place : Place) × IsPlaceOf c place × (lines ≡ what.Refused (word_of c) place why ∷ [])
+
+-- a collective call has two, the second of them its result, or its refusal where the parts don't agree
+abbrev pub AreRound : Part → Answer → List What → Type 0
+AreRound part (Came round fold) lines = lines ≡ what.Come part ∷ what.Came round fold ∷ []
+AreRound part (Refused Mixed) lines =
+    (round : ℕ) × (lines ≡ what.Come part ∷ what.Refused (word_of (call.Come part)) (Round round) Mixed ∷ [])
+AreRound part (Refused why) lines = AreRefused (call.Come part) why lines
+AreRound part _ lines = ⊥
+
+abbrev pub AreLines : Call → Answer → List What → Type 0
+AreLines (call.Come part) answer lines = AreRound part answer lines
+AreLines c (Refused why) lines = AreRefused c why lines
+AreLines (call.Create size) (Made name) lines = lines ≡ what.Create name size ∷ []
+AreLines (call.Delete name) Done lines = lines ≡ what.Deleting name ∷ what.Deleted name ∷ []
+AreLines (call.Map name) (Mapped q size) lines = (q ≡ name) × (lines ≡ what.Map name size ∷ [])
+AreLines (call.Unmap name) Done lines = lines ≡ what.Unmap name ∷ []
+AreLines (call.StartRead name) (Reading guard) lines = (guard.name ≡ name) × (lines ≡ what.StartRead name ∷ [])
+AreLines (call.EndRead name) Done lines = (seen : List ℕ) × (lines ≡ what.Read name seen ∷ [])
+AreLines (call.StartWrite name) (Writing guard) lines = (guard.name ≡ name) × (lines ≡ what.StartWrite name ∷ [])
+AreLines (call.EndWrite name after) Done lines = (before : List ℕ) × (lines ≡ what.Write name before after ∷ [])
+AreLines (call.Flush name) Done lines = lines ≡ what.Flush name ∷ []
+AreLines _ _ lines = ⊥
+
+-- The lines of a node's calls, in order. Of a call that isn't answered yet a part of the lines may stand.
+abbrev pub ArePart : Call → List What → Type 0
+ArePart c front = (answer : Answer) × (rest : List What) × AreLines c answer (front ++ rest)
+
+pub data AreLinesOf : List Told → List What → Type 0 where
+  nothing : AreLinesOf [] []
+  answered : {calls : List Told} {lines : List What} (c : Call) (answer : Answer) (its : List What)
+      → AreLines c answer its → AreLinesOf calls lines → AreLinesOf (record { call = c; answer = Some answer } ∷ calls) (its ++ lines)
+  waiting : (c : Call) (its : List What) → ArePart c its → AreLinesOf (record { call = c; answer = None } ∷ []) its
+
+-- the lines of node n in an account
+abbrev pub lines_of : ℕ → List Entry → List What
+lines_of n [] = []
+lines_of n (e ∷ es) = if e.node == n then e.what ∷ lines_of n es else lines_of n es
+
+-- The most messages that a run may send, by its calls: six for each section, two for each map and each
+-- collective call, and two per node for each delete.
+abbrev pub bound_of : ℕ → Call → ℕ
+bound_of count (call.StartRead name) = 6
+bound_of count (call.StartWrite name) = 6
+bound_of count (call.Map name) = 2
+bound_of count (call.Delete name) = 2 * count
+bound_of count (call.Come part) = 2
+bound_of count _ = 0
+
+abbrev pub bound : ℕ → List Event → ℕ
+bound count [] = 0
+bound count (event.Call i c ∷ es) = bound_of count c + bound count es
+bound count (_ ∷ es) = bound count es

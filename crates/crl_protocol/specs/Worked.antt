@@ -1,0 +1,7 @@
+pub mod Blocked
+pub mod Caches
+pub mod Copies
+pub mod Deletes
+pub mod Rounds
+pub mod Upgrades
+pub mod Words

@@ -1,0 +1,59 @@
+//! Worked runs, which the definitions compute: of each a script, an order of steps and the report.
+ghost use Rattle.crl_protocol.specs.Chosen.{first};
+ghost use Rattle.crl_protocol.specs.Worked.Words.{Gives};
+ghost use Rattle.crl_protocol.specs.Worked.Copies.{write_elsewhere_script, write_elsewhere_report, nested_reads_script, nested_reads_report, nested_reads_order, early_recall_script, early_recall_report, early_recall_order, stale_recall_script, stale_recall_report, stale_recall_order, recall_before_map_script, recall_before_map_report, recall_before_map_order, ask_before_return_script, ask_before_return_report, ask_before_return_order, flush_then_read_script, flush_then_read_report, flush_then_read_order};
+ghost use Rattle.crl_protocol.specs.Worked.Upgrades.{two_upgrades_script, two_upgrades_report, downgrade_script, downgrade_report, return_before_release_script, return_before_release_report, return_before_release_order};
+ghost use Rattle.crl_protocol.specs.Worked.Caches.{eviction_script, eviction_report, no_cache_script, no_cache_report, roomy_cache_script, roomy_cache_report};
+ghost use Rattle.crl_protocol.specs.Worked.Deletes.{delete_of_cached_script, delete_of_cached_report, delete_of_mapped_script, delete_of_mapped_report, purge_before_answer_script, purge_before_answer_report, purge_before_answer_order, delete_before_map_script, delete_before_map_report, delete_by_another_script, delete_by_another_report};
+ghost use Rattle.crl_protocol.specs.Worked.Rounds.{map_before_create_script, map_before_create_report, map_before_create_order, barrier_then_read_script, barrier_then_read_report, mixed_kinds_script, mixed_kinds_report, broadcast_script, broadcast_report, additions_script, additions_report};
+ghost use Rattle.crl_protocol.specs.Worked.Blocked.{reader_blocks_script, reader_blocks_report, absent_node_script, absent_node_report, each_other_script, each_other_report};
+
+/// Copies that go back and forth, with messages that overtake each other.
+pub fn copies()
+    ensures write_elsewhere { Gives 2 16 write_elsewhere_script first write_elsewhere_report }
+    ensures nested_reads { Gives 2 16 nested_reads_script nested_reads_order nested_reads_report }
+    ensures early_recall { Gives 2 16 early_recall_script early_recall_order early_recall_report }
+    ensures stale_recall { Gives 2 0 stale_recall_script stale_recall_order stale_recall_report }
+    ensures recall_before_map { Gives 2 16 recall_before_map_script recall_before_map_order recall_before_map_report }
+    ensures ask_before_return { Gives 2 16 ask_before_return_script ask_before_return_order ask_before_return_report }
+    ensures flush_then_read { Gives 2 16 flush_then_read_script flush_then_read_order flush_then_read_report }
+{}
+
+/// Copies that change their kind.
+pub fn upgrades()
+    ensures two_upgrades { Gives 3 16 two_upgrades_script first two_upgrades_report }
+    ensures downgrade { Gives 2 16 downgrade_script first downgrade_report }
+    ensures return_before_release { Gives 2 16 return_before_release_script return_before_release_order return_before_release_report }
+{}
+
+/// Regions that are unmapped, and the cache.
+pub fn caches()
+    ensures eviction { Gives 2 1 eviction_script first eviction_report }
+    ensures no_cache { Gives 2 0 no_cache_script first no_cache_report }
+    ensures roomy_cache { Gives 2 16 roomy_cache_script first roomy_cache_report }
+{}
+
+/// Deletes.
+pub fn deletes()
+    ensures delete_of_cached { Gives 2 16 delete_of_cached_script first delete_of_cached_report }
+    ensures delete_of_mapped { Gives 2 16 delete_of_mapped_script first delete_of_mapped_report }
+    ensures purge_before_answer { Gives 2 16 purge_before_answer_script purge_before_answer_order purge_before_answer_report }
+    ensures delete_before_map { Gives 2 16 delete_before_map_script first delete_before_map_report }
+    ensures delete_by_another { Gives 2 16 delete_by_another_script first delete_by_another_report }
+{}
+
+/// Maps, rounds and changes.
+pub fn rounds()
+    ensures map_before_create { Gives 2 16 map_before_create_script map_before_create_order map_before_create_report }
+    ensures barrier_then_read { Gives 2 16 barrier_then_read_script first barrier_then_read_report }
+    ensures mixed_kinds { Gives 2 16 mixed_kinds_script first mixed_kinds_report }
+    ensures broadcast { Gives 2 16 broadcast_script first broadcast_report }
+    ensures additions { Gives 1 16 additions_script first additions_report }
+{}
+
+/// Runs that end with nodes that wait.
+pub fn blocked()
+    ensures reader_blocks { Gives 2 16 reader_blocks_script first reader_blocks_report }
+    ensures absent_node { Gives 2 16 absent_node_script first absent_node_report }
+    ensures each_other { Gives 2 16 each_other_script first each_other_report }
+{}
