@@ -6,14 +6,13 @@ use Rattle.crl_model.specs.declared.name.Name.{Name}
 use Rattle.crl_model.specs.declared.call.Call.TheVariants as call
 use Rattle.crl_model.specs.declared.call.Refusal.{Refusal}
 use Rattle.crl_model.specs.declared.entry.What.{What}
-use Rattle.crl_model.specs.declared.entry.What.TheVariants as what
 use Rattle.crl_model.specs.declared.entry.Entry.{Entry}
 use Rattle.crl_model.specs.Stages.{is_there, is_deleted}
 use Rattle.crl_model.specs.SingleMachine.{State, IsLegal, IsHistory, after, after_all}
 use Rattle.crl_script.specs.declared.script.Statement.{Statement}
-use Rattle.crl_script.specs.declared.script.Statement.TheVariants.{Call, Put, Add}
+use Rattle.crl_script.specs.declared.script.Statement.TheVariants.{Call, Put}
 use Rattle.crl_cli.specs.Refusals.{refused}
-use Rattle.crl_cli.specs.OneNode.{Drafts, CanRunAll, draft, answered, drafts_answered, lines, state_after, by_node_0, no_drafts, account_from}
+use Rattle.crl_cli.specs.OneNode.{Drafts, CanRunAll, draft, done, answered, drafts_answered, lines, state_after, by_node_0, no_drafts, account_from}
 
 -- What holds of a node that is alone and of its drafts, between statements.
 pub record Stands (s : State) (drafts : Drafts) : Type 0 where
@@ -33,20 +32,18 @@ pub record Stands (s : State) (drafts : Drafts) : Type 0 where
   pub opened : (q : Name) → is_some (drafts q) ≡ s.writes 0 q
   pub sizes : (q : Name) → s.writes 0 q ≡ true → length (draft drafts q) ≡ length (s.bytes q)
 
+-- what a statement leaves is legal, and it leaves something
+abbrev pub IsLegalLine : State → Option What → Type 0
+IsLegalLine s None = ⊥
+IsLegalLine s (Some what) = IsLegal s (by_node_0 what)
+
 -- The statement can be done: a put lies within an open write section, and any other call leaves a legal line.
 abbrev pub CanDo : State → Drafts → Statement → Type 0
-CanDo s drafts (Call (call.Create size)) = IsLegal s (by_node_0 (what.Create (record { home = 0; serial = s.used 0 + 1 }) size))
-CanDo s drafts (Call (call.Map name)) = IsLegal s (by_node_0 (what.Map name (length (s.bytes name))))
-CanDo s drafts (Call (call.Unmap name)) = IsLegal s (by_node_0 (what.Unmap name))
-CanDo s drafts (Call (call.StartRead name)) = IsLegal s (by_node_0 (what.StartRead name))
-CanDo s drafts (Call (call.EndRead name)) = IsLegal s (by_node_0 (what.Read name (s.bytes name)))
-CanDo s drafts (Call (call.StartWrite name)) = IsLegal s (by_node_0 (what.StartWrite name))
-CanDo s drafts (Call (call.EndWrite name unused)) = IsSome (drafts name) × IsLegal s (by_node_0 (what.Write name (s.bytes name) (draft drafts name)))
-CanDo s drafts (Call _) = ⊥
 CanDo s drafts (Put name offset bytes) = IsSome (drafts name) × (offset + length bytes ≤ length (draft drafts name))
-CanDo s drafts (Add name offset number) = ⊥
+CanDo s drafts (Call (call.EndWrite name unused)) = IsSome (drafts name) × IsLegalLine s (done s drafts (Call (call.EndWrite name unused)))
+CanDo s drafts statement = IsLegalLine s (done s drafts statement)
 
--- it can be done, or refused so
+-- it can be done, or legally be refused so
 abbrev pub CanAnswer : State → Drafts → Statement → Option Refusal → Type 0
 CanAnswer s drafts statement None = CanDo s drafts statement
 CanAnswer s drafts statement (Some why) = IsLegal s (by_node_0 (refused s statement why))
