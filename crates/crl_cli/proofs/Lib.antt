@@ -1,3 +1,5 @@
+mod Answerable
 mod Regions
 mod Runs
 mod Says
+mod Standing

@@ -3,6 +3,7 @@ pub mod Codes
 pub mod Commands
 pub mod OneNode
 pub mod Outcome
+pub mod Refusals
 pub mod Report
 pub mod Steps
 pub mod Texts

@@ -32,11 +32,11 @@ IsAlone program statements = (program.nodes ≡ 1) × (slice_get program.blocks 
 
 -- What is printed of a script is one history of the single machine, and then its array: each statement
 -- can be run, each entry is a legal step after those before it, the script's calls stand once, in order,
--- with their answers, and the final regions are the array's.
+-- with their answers, of which one may be a refusal, and the final regions are the array's.
 pub record IsAccountOf (program : Program) (text : List ℕ) : Type 0 where
   pub statements : List Statement
   pub alone : IsAlone program statements
-  pub can : CanRunAll (start program.nodes) no_drafts statements
+  pub can : CanRunAll statements
   pub history : List Entry
   pub legal : IsHistory (start program.nodes) history
   pub calls : history ≡ account_from (start program.nodes) no_drafts statements
@@ -51,7 +51,7 @@ pub record IsRun (bytes text : List ℕ) : Type 0 where
 
 -- the script has more than one node, or a statement that can't be run yet
 abbrev pub IsNotYet : Program → Type 0
-IsNotYet program = (statements : List Statement) → IsAlone program statements → CanRunAll (start program.nodes) no_drafts statements → ⊥
+IsNotYet program = (statements : List Statement) → IsAlone program statements → CanRunAll statements → ⊥
 
 -- the bytes are too many, aren't a script, or are one that can't be run yet, and the text says so
 pub data IsBadScript (bytes : List ℕ) : List ℕ → Type 0 where

@@ -6,6 +6,7 @@ mod check;
 pub mod command;
 mod order;
 mod outcome;
+mod refusal;
 mod report;
 mod runner;
 pub mod status;

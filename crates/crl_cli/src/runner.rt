@@ -1,5 +1,5 @@
 //! The run of a script of one node: each call is answered at once, by the single machine.
-ghost use Rattle.std.specs.Prelude.{◌≡◌, ◌+◌, ◌<◌, ◌≤◌, ℕ, List, [], ◌∷◌, ◌++◌, IfOk, Some, None, length, MatchOption};
+ghost use Rattle.std.specs.Prelude.{◌≡◌, ◌+◌, ◌<◌, ◌≤◌, ℕ, List, [], ◌∷◌, ◌++◌, IfOk, OnOk, Some, None, true, MatchOption};
 ghost use Rattle.std.specs.Bool.{OnTrue, OnFalse};
 ghost use Rattle.std.specs.BTreeMap.{get};
 ghost use Rattle.crl_model.specs.declared.name.Name.{Name};
@@ -10,10 +10,14 @@ ghost use Rattle.crl_model.specs.Seen.{state};
 ghost use Rattle.crl_model.specs.Patches.{put_at};
 ghost use Rattle.crl_model.specs.SingleMachine.{IsLegal, start};
 ghost use Rattle.crl_script.specs.declared.script.Statement.{Statement};
+ghost use Rattle.crl_cli.specs.Refusals.{refusal_of, refused};
+ghost use Rattle.crl_cli.specs.OneNode.{can_run, CanRunAll, by_node_0};
+ghost use Rattle.crl_cli.specs.Steps.{Stands, CanDo, IsTaken, IsRunOn, IsRunFrom};
 
+use crate::refusal::{refusal_of, refused};
 use crl_model::OutOfMemory;
 use crl_model::bytes::Bytes;
-use crl_model::call::Call;
+use crl_model::call::{Call, Refusal};
 use crl_model::entry::{Entry, What};
 use crl_model::machine::{Judged, Machine};
 use crl_model::name::Name;
@@ -29,13 +33,9 @@ pub(crate) struct Runner {
     machine: Machine,
     drafts: BTreeMap<Name, Bytes>,
     entries: Vec<Entry>,
-    ghost alone: { (state machine).nodes ≡ 1 },
 }
 
 impl Runner {
-    ghost use Rattle.crl_cli.specs.OneNode.{CanRun, CanRunAll, by_node_0, draft, no_drafts};
-    ghost use Rattle.crl_cli.specs.Steps.{IsTaken, IsRunOn, IsRunFrom};
-
     fn new(alloc: Global) -> Result<Runner, OutOfMemory>
         ensures state { IfOk result (λ r. state r.machine ≡ start 1) }
         ensures drafts { IfOk result (λ r. (q : Name) → get name_cmp r.drafts q ≡ None) }
@@ -54,13 +54,14 @@ impl Runner {
         alloc: Global,
         statements: &[Statement],
     ) -> Result<Option<Runner>, OutOfMemory>
-        ensures { IfOk result (λ r. MatchOption r (CanRunAll (start 1) no_drafts statements.now → ⊥) (λ r. IsRunFrom (start 1) statements.now (state r.machine) r.entries.items)) }
+        ensures { IfOk result (λ r. MatchOption r (CanRunAll statements.now → ⊥) (λ r. IsRunFrom (start 1) statements.now (state r.machine) r.entries.items)) }
     {
         let mut runner = Runner::new(alloc)?;
         for statement in statements {
-            if !runner.step(statement)? {
+            if !can_run(statement) {
                 return Ok(None);
             }
+            runner.step(statement)?;
         }
         Ok(Some(runner))
     }
@@ -77,10 +78,32 @@ impl Runner {
         self.entries.as_slice()
     }
 
-    /// Runs one statement; `false` where it can't be run yet.
-    fn step(&mut self, statement: &Statement) -> Result<bool, OutOfMemory>
-        ensures run { IfOk result (λ b. OnTrue b (IsRunOn (state self.old.machine) (get name_cmp self.old.drafts) self.old.entries.items statement.now (state self.new.machine) (get name_cmp self.new.drafts) self.new.entries.items)) }
-        ensures not_yet { IfOk result (λ b. OnFalse b (CanRun (state self.old.machine) (get name_cmp self.old.drafts) statement.now → ⊥)) }
+    /// Runs one statement: it is refused, or done.
+    fn step(&mut self, statement: &Statement) -> Result<(), OutOfMemory>
+        requires can { can_run statement.now ≡ true }
+        requires stands { Stands (state self.old.machine) (get name_cmp self.old.drafts) }
+        ensures { OnOk result (IsRunOn (state self.old.machine) (get name_cmp self.old.drafts) self.old.entries.items statement.now (refusal_of (state self.old.machine) statement.now) (state self.new.machine) (get name_cmp self.new.drafts) self.new.entries.items) }
+    {
+        match refusal_of(&self.machine, statement) {
+            Some(why) => self.refuse(statement, why),
+            None => self.perform(statement),
+        }
+    }
+
+    /// Refuses a statement, for this reason.
+    fn refuse(&mut self, statement: &Statement, why: Refusal) -> Result<(), OutOfMemory>
+        requires node { 0 < (state self.old.machine).nodes }
+        requires legal { IsLegal (state self.old.machine) (by_node_0 (refused (state self.old.machine) statement.now why)) }
+        ensures { OnOk result (IsRunOn (state self.old.machine) (get name_cmp self.old.drafts) self.old.entries.items statement.now (Some why) (state self.new.machine) (get name_cmp self.new.drafts) self.new.entries.items) }
+    {
+        let what = refused(&self.machine, statement, why);
+        self.take(what)
+    }
+
+    /// Does what a statement says that isn't refused.
+    fn perform(&mut self, statement: &Statement) -> Result<(), OutOfMemory>
+        requires can { CanDo (state self.old.machine) (get name_cmp self.old.drafts) statement.now }
+        ensures { OnOk result (IsRunOn (state self.old.machine) (get name_cmp self.old.drafts) self.old.entries.items statement.now None (state self.new.machine) (get name_cmp self.new.drafts) self.new.entries.items) }
     {
         match statement {
             Statement::Call(call) => self.call(call),
@@ -88,14 +111,17 @@ impl Runner {
                 name,
                 offset,
                 bytes,
-            } => Ok(self.put(name, *offset, bytes)),
-            Statement::Add { .. } => Ok(false),
+            } => {
+                self.put(name, *offset, bytes);
+                Ok(())
+            }
+            Statement::Add { .. } => unreachable!(),
         }
     }
 
-    fn call(&mut self, call: &Call) -> Result<bool, OutOfMemory>
-        ensures run { IfOk result (λ b. OnTrue b (IsRunOn (state self.old.machine) (get name_cmp self.old.drafts) self.old.entries.items (Statement.Call call.now) (state self.new.machine) (get name_cmp self.new.drafts) self.new.entries.items)) }
-        ensures not_yet { IfOk result (λ b. OnFalse b (CanRun (state self.old.machine) (get name_cmp self.old.drafts) (Statement.Call call.now) → ⊥)) }
+    fn call(&mut self, call: &Call) -> Result<(), OutOfMemory>
+        requires can { CanDo (state self.old.machine) (get name_cmp self.old.drafts) (Statement.Call call.now) }
+        ensures { OnOk result (IsRunOn (state self.old.machine) (get name_cmp self.old.drafts) self.old.entries.items (Statement.Call call.now) None (state self.new.machine) (get name_cmp self.new.drafts) self.new.entries.items) }
     {
         match call {
             Call::Create { size } => self.create(*size),
@@ -111,42 +137,36 @@ impl Runner {
             }
             Call::StartWrite { name } => self.start_write(*name),
             Call::EndWrite { name, .. } => self.end_write(*name),
-            _ => Ok(false),
+            _ => unreachable!(),
         }
     }
 
-    fn create(&mut self, size: u32) -> Result<bool, OutOfMemory>
-        ensures run { IfOk result (λ b. OnTrue b (IsRunOn (state self.old.machine) (get name_cmp self.old.drafts) self.old.entries.items (Statement.Call (Call.Create size)) (state self.new.machine) (get name_cmp self.new.drafts) self.new.entries.items)) }
-        ensures not_yet { IfOk result (λ b. OnFalse b (CanRun (state self.old.machine) (get name_cmp self.old.drafts) (Statement.Call (Call.Create size)) → ⊥)) }
+    fn create(&mut self, size: u32) -> Result<(), OutOfMemory>
+        requires can { CanDo (state self.old.machine) (get name_cmp self.old.drafts) (Statement.Call (Call.Create size)) }
+        ensures { OnOk result (IsRunOn (state self.old.machine) (get name_cmp self.old.drafts) self.old.entries.items (Statement.Call (Call.Create size)) None (state self.new.machine) (get name_cmp self.new.drafts) self.new.entries.items) }
     {
-        let used = self.machine.used(0);
-        if used == u32::MAX {
-            return Ok(false);
-        }
-        let name = Name::new(0, used + 1);
+        let name = Name::new(0, self.machine.used(0) + 1);
         self.take(What::Create { name, size })
     }
 
     /// Begins a write section, and keeps the bytes that it is to leave.
-    fn start_write(&mut self, name: Name) -> Result<bool, OutOfMemory>
-        ensures run { IfOk result (λ b. OnTrue b (IsRunOn (state self.old.machine) (get name_cmp self.old.drafts) self.old.entries.items (Statement.Call (Call.StartWrite name)) (state self.new.machine) (get name_cmp self.new.drafts) self.new.entries.items)) }
-        ensures not_yet { IfOk result (λ b. OnFalse b (CanRun (state self.old.machine) (get name_cmp self.old.drafts) (Statement.Call (Call.StartWrite name)) → ⊥)) }
+    fn start_write(&mut self, name: Name) -> Result<(), OutOfMemory>
+        requires can { CanDo (state self.old.machine) (get name_cmp self.old.drafts) (Statement.Call (Call.StartWrite name)) }
+        ensures { OnOk result (IsRunOn (state self.old.machine) (get name_cmp self.old.drafts) self.old.entries.items (Statement.Call (Call.StartWrite name)) None (state self.new.machine) (get name_cmp self.new.drafts) self.new.entries.items) }
     {
         let draft = Bytes::copy_of(self.alloc, self.machine.last_bytes(name))?;
-        if !self.take(What::StartWrite { name })? {
-            return Ok(false);
-        }
+        self.take(What::StartWrite { name })?;
         self.drafts.insert(name, draft)?;
-        Ok(true)
+        Ok(())
     }
 
     /// Ends a write section, which leaves its draft.
-    fn end_write(&mut self, name: Name) -> Result<bool, OutOfMemory>
-        ensures run { IfOk result (λ b. OnTrue b (IsRunOn (state self.old.machine) (get name_cmp self.old.drafts) self.old.entries.items (Statement.Call (Call.EndWrite name [])) (state self.new.machine) (get name_cmp self.new.drafts) self.new.entries.items)) }
-        ensures not_yet { IfOk result (λ b. OnFalse b (CanRun (state self.old.machine) (get name_cmp self.old.drafts) (Statement.Call (Call.EndWrite name [])) → ⊥)) }
+    fn end_write(&mut self, name: Name) -> Result<(), OutOfMemory>
+        requires can { CanDo (state self.old.machine) (get name_cmp self.old.drafts) (Statement.Call (Call.EndWrite name [])) }
+        ensures { OnOk result (IsRunOn (state self.old.machine) (get name_cmp self.old.drafts) self.old.entries.items (Statement.Call (Call.EndWrite name [])) None (state self.new.machine) (get name_cmp self.new.drafts) self.new.entries.items) }
     {
         let Some(after) = self.drafts.remove(&name) else {
-            return Ok(false);
+            unreachable!();
         };
         let before = Bytes::copy_of(self.alloc, self.machine.last_bytes(name))?;
         self.take(What::Write {
@@ -157,46 +177,50 @@ impl Runner {
     }
 
     /// Changes the draft of an open write section.
-    fn put(&mut self, name: &Name, offset: u32, bytes: &Bytes) -> bool
-        ensures run { OnTrue result (IsRunOn (state self.old.machine) (get name_cmp self.old.drafts) self.old.entries.items (Statement.Put name.now offset bytes.now) (state self.new.machine) (get name_cmp self.new.drafts) self.new.entries.items) }
-        ensures not_yet { OnFalse result (CanRun (state self.old.machine) (get name_cmp self.old.drafts) (Statement.Put name.now offset bytes.now) → ⊥) }
+    fn put(&mut self, name: &Name, offset: u32, bytes: &Bytes)
+        requires can { CanDo (state self.old.machine) (get name_cmp self.old.drafts) (Statement.Put name.now offset bytes.now) }
+        ensures { IsRunOn (state self.old.machine) (get name_cmp self.old.drafts) self.old.entries.items (Statement.Put name.now offset bytes.now) None (state self.new.machine) (get name_cmp self.new.drafts) self.new.entries.items }
     {
         match self.drafts.get_mut(name) {
-            Some(draft) => put_within(draft, offset, bytes),
-            None => false,
+            Some(draft) => draft.put(offset as usize, bytes.as_slice()),
+            None => unreachable!(),
         }
     }
 
-    /// Lets the machine judge what the node did, and puts it into the account; `false` where it isn't legal.
-    fn take(&mut self, what: What) -> Result<bool, OutOfMemory>
-        ensures taken { IfOk result (λ b. OnTrue b (IsTaken (state self.old.machine) self.old.entries.items what (state self.new.machine) self.new.entries.items)) }
-        ensures illegal { IfOk result (λ b. OnFalse b (IsLegal (state self.old.machine) (by_node_0 what) → ⊥)) }
+    /// Lets the machine judge a legal step of the node, and puts it into the account.
+    fn take(&mut self, what: What) -> Result<(), OutOfMemory>
+        requires legal { IsLegal (state self.old.machine) (by_node_0 what) }
+        ensures taken { OnOk result (IsTaken (state self.old.machine) self.old.entries.items what (state self.new.machine) self.new.entries.items) }
         ensures drafts { self.new.drafts ≡ self.old.drafts }
     {
         let entry = Entry { node: 0, what };
         match self.machine.judge(&entry) {
             Ok(()) => {
                 self.entries.push(entry)?;
-                Ok(true)
+                Ok(())
             }
-            Err(Judged::Illegal) => Ok(false),
+            Err(Judged::Illegal) => unreachable!(),
             Err(Judged::OutOfMemory) => Err(OutOfMemory),
         }
     }
 }
 
-/// Puts these bytes into the draft, where they lie within it.
-fn put_within(draft: &mut Bytes, offset: u32, bytes: &Bytes) -> bool
-    ensures put { OnTrue result (draft.new ≡ put_at offset bytes.now draft.old) }
-    ensures within { OnTrue result (offset + length bytes.now ≤ length draft.old) }
-    ensures outside { OnFalse result (length draft.old < offset + length bytes.now) }
-    ensures kept { OnFalse result (draft.new ≡ draft.old) }
+/// Whether the statement can be run. Not yet: delete, flush, add, and those of rounds.
+fn can_run(statement: &Statement) -> bool
+    ensures { result ≡ can_run statement.now }
 {
-    let offset = offset as usize;
-    let len = draft.len();
-    if offset > len || bytes.len() > len - offset {
-        return false;
+    match statement {
+        Statement::Call(call) => matches!(
+            call,
+            Call::Create { .. }
+                | Call::Map { .. }
+                | Call::Unmap { .. }
+                | Call::StartRead { .. }
+                | Call::EndRead { .. }
+                | Call::StartWrite { .. }
+                | Call::EndWrite { .. }
+        ),
+        Statement::Put { .. } => true,
+        Statement::Add { .. } => false,
     }
-    draft.put(offset, bytes.as_slice());
-    true
 }

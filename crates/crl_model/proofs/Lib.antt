@@ -3,7 +3,7 @@ mod DeskRead
 mod DeskSet
 mod FullRounds
 pub mod Histories
-mod Order
+pub mod Order
 mod PartFolds
 mod Runs
 mod Sections

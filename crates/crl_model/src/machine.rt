@@ -158,6 +158,37 @@ impl Machine {
         self.desks[node as usize].used
     }
 
+    /// What the node has of the region; a blank seat where there is no region.
+    pub fn seat(&self, node: NodeNo, name: &Name) -> Seat
+        requires { node < (state self.now).nodes }
+        ensures { result ≡ the_seat (state self.now) node name.now }
+    {
+        match self.regions.get(name) {
+            Some(region) => region.seat(node),
+            None => Seat::BLANK,
+        }
+    }
+
+    /// Whether the node has a write section of the region open.
+    pub fn is_writing(&self, node: NodeNo, name: &Name) -> bool
+        ensures { result ≡ (state self.now).writes node name.now }
+    {
+        match self.regions.get(name) {
+            Some(region) => region.writer == Some(node),
+            None => false,
+        }
+    }
+
+    /// Where the name stands.
+    pub fn stage(&self, name: &Name) -> Stage
+        ensures { result ≡ (state self.now).stage name.now }
+    {
+        match self.regions.get(name) {
+            Some(region) => region.stage,
+            None => Stage::Unknown,
+        }
+    }
+
     /// The row of the entry, for a node that there is.
     fn judge_row(&mut self, node: NodeNo, what: &What) -> Result<bool, Judged>
         requires node { node < self.old.nodes }
@@ -186,37 +217,6 @@ impl Machine {
     {
         let desk = &self.desks[node as usize];
         desk.came.len() as u64 <= desk.told && desk.deletes.is_none()
-    }
-
-    /// What the node has of the region; a blank seat where there is no region.
-    fn seat(&self, node: NodeNo, name: &Name) -> Seat
-        requires { node < self.now.nodes }
-        ensures { result ≡ the_seat (state self.now) node name.now }
-    {
-        match self.regions.get(name) {
-            Some(region) => region.seat(node),
-            None => Seat::BLANK,
-        }
-    }
-
-    /// Whether the node has a write section of the region open.
-    fn is_writing(&self, node: NodeNo, name: &Name) -> bool
-        ensures { result ≡ (state self.now).writes node name.now }
-    {
-        match self.regions.get(name) {
-            Some(region) => region.writer == Some(node),
-            None => false,
-        }
-    }
-
-    /// Where the name stands.
-    fn stage(&self, name: &Name) -> Stage
-        ensures { result ≡ (state self.now).stage name.now }
-    {
-        match self.regions.get(name) {
-            Some(region) => region.stage,
-            None => Stage::Unknown,
-        }
     }
 
     /// No write section of the region is open at any node.

@@ -1,9 +1,8 @@
 use Rattle.std.specs.BTreeMap.{get}
 use Rattle.crl_model.specs.Names.{name_cmp}
 use Rattle.crl_model.specs.Seen.{state}
-use Rattle.crl_model.specs.SingleMachine.{start}
 use Rattle.crl_cli.proofs.Runs.{SoFar}
 use Rattle.crl_cli.proofs.runner.Runner.run.Given as goal
 
 abbrev pub invariant-loop-statement : goal.invariant-loop-statement
-invariant-loop-statement l = SoFar (start 1) l.statements l.statement-index (state l.runner.machine) (get name_cmp l.runner.drafts) l.runner.entries.items
+invariant-loop-statement l = SoFar l.statements l.statement-index (state l.runner.machine) (get name_cmp l.runner.drafts) l.runner.entries.items
