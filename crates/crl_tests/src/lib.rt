@@ -1,10 +1,13 @@
 //! Tests of the program's commands over sources and sinks in memory.
 //!
-//! What they expect was worked out by hand, from the rules of a single machine with one array.
+//! What they expect was worked out by hand, from the rules of a single machine with one array, or by
+//! `reference`, which writes these rules down once more.
 #![tactic(auto)]
 
 #[cfg(test)]
 mod accounts;
+#[cfg(test)]
+mod changed;
 #[cfg(test)]
 mod checks;
 #[cfg(test)]
