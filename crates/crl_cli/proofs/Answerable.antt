@@ -13,8 +13,8 @@ use Rattle.crl_model.specs.declared.call.Refusal.{Refusal}
 use Rattle.crl_model.specs.declared.call.Refusal.TheVariants as why
 use Rattle.crl_model.specs.Stages.{is_there, is_deleted}
 use Rattle.crl_model.specs.SingleMachine.{State, IsFree, IsUnwritten, IsUnused, IsRefusedSerial}
-use Rattle.crl_script.specs.declared.script.Statement.{Statement}
-use Rattle.crl_script.specs.declared.script.Statement.TheVariants.{Call, Put, Add}
+use Rattle.crl_model.specs.declared.statement.Statement.{Statement}
+use Rattle.crl_model.specs.declared.statement.Statement.TheVariants.{Call, Put, Add}
 use Rattle.crl_cli.specs.Refusals.{is_last, is_bad_size, is_unknown, is_open, create_refusal, map_refusal, unmap_refusal, read_refusal, end_read_refusal, write_refusal, end_write_refusal, put_refusal, refusal_of, refused_serial}
 use Rattle.crl_cli.specs.OneNode.{Drafts, can_run}
 use Rattle.crl_cli.specs.Steps.{Stands, CanAnswer}

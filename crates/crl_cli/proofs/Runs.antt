@@ -9,8 +9,8 @@ use Rattle.crl_model.specs.declared.entry.What.{What}
 use Rattle.crl_model.specs.declared.entry.Entry.{Entry}
 use Rattle.crl_model.specs.SingleMachine.{State, start, IsLegal, IsHistory, after_all}
 use Rattle.crl_model.proofs.Histories.{history_push, after_push}
-use Rattle.crl_script.specs.declared.script.Statement.{Statement}
-use Rattle.crl_script.specs.declared.script.Statement.TheVariants.{Call, Put, Add}
+use Rattle.crl_model.specs.declared.statement.Statement.{Statement}
+use Rattle.crl_model.specs.declared.statement.Statement.TheVariants.{Call, Put, Add}
 use Rattle.crl_cli.specs.Refusals.{refusal_of}
 use Rattle.crl_cli.specs.OneNode.{Drafts, no_drafts, can_run, CanRunAll, answered, what_of, drafted, lines, state_after, by_node_0, account_from}
 use Rattle.crl_cli.specs.Steps.{Stands, CanAnswer, IsRunOn, IsRunFrom}

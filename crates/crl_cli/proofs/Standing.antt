@@ -19,8 +19,8 @@ use Rattle.crl_model.specs.Patches.{put_at}
 use Rattle.crl_model.specs.Stages.{is_there, is_deleted}
 use Rattle.crl_model.specs.SingleMachine.{State, start, change, used_after, told_after}
 use Rattle.crl_model.proofs.Order.{same_name}
-use Rattle.crl_script.specs.declared.script.Statement.{Statement}
-use Rattle.crl_script.specs.declared.script.Statement.TheVariants.{Call, Put, Add}
+use Rattle.crl_model.specs.declared.statement.Statement.{Statement}
+use Rattle.crl_model.specs.declared.statement.Statement.TheVariants.{Call, Put, Add}
 use Rattle.crl_cli.specs.Refusals.{kind_of, name_of}
 use Rattle.crl_cli.specs.OneNode.{Drafts, no_drafts, draft, can_run, answered, drafts_answered, state_after}
 use Rattle.crl_cli.specs.Steps.{Stands, CanAnswer}

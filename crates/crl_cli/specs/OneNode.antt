@@ -12,8 +12,8 @@ use Rattle.crl_model.specs.declared.entry.Entry.{Entry}
 use Rattle.crl_model.specs.Names.{at_name}
 use Rattle.crl_model.specs.Patches.{put_at}
 use Rattle.crl_model.specs.SingleMachine.{State, after}
-use Rattle.crl_script.specs.declared.script.Statement.{Statement}
-use Rattle.crl_script.specs.declared.script.Statement.TheVariants.{Call, Put, Add}
+use Rattle.crl_model.specs.declared.statement.Statement.{Statement}
+use Rattle.crl_model.specs.declared.statement.Statement.TheVariants.{Call, Put, Add}
 use Rattle.crl_cli.specs.Refusals.{refusal_of, refused}
 
 -- The bytes that the node's open write sections are to leave: those with which the section began, as the

@@ -6,7 +6,7 @@ use Rattle.std.specs.Io.KnownBytes.{Consumes, IsAtEnd}
 use Rattle.crl_model.specs.declared.entry.Entry.{Entry}
 use Rattle.crl_model.specs.SingleMachine.{start, IsHistory, after_all}
 use Rattle.crl_outside.specs.Faults.{Rose}
-use Rattle.crl_script.specs.declared.script.Statement.{Statement}
+use Rattle.crl_model.specs.declared.statement.Statement.{Statement}
 use Rattle.crl_script.specs.Program.{Program, Fault}
 use Rattle.crl_script.specs.Sentence.{script_of}
 use Rattle.crl_account.specs.Account.{lines_of, IsAccount, IsFirstBad}

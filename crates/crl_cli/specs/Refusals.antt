@@ -19,8 +19,8 @@ use Rattle.crl_model.specs.declared.entry.Place.TheVariants.{Region}
 use Rattle.crl_model.specs.Calls as calls
 use Rattle.crl_model.specs.Stages.{is_deleted}
 use Rattle.crl_model.specs.SingleMachine.{State}
-use Rattle.crl_script.specs.declared.script.Statement.{Statement}
-use Rattle.crl_script.specs.declared.script.Statement.TheVariants.{Call, Put, Add}
+use Rattle.crl_model.specs.declared.statement.Statement.{Statement}
+use Rattle.crl_model.specs.declared.statement.Statement.TheVariants.{Call, Put, Add}
 
 -- a count that can't rise: it stands at 2^32 - 1
 abbrev pub is_last : ℕ → Bool

@@ -9,8 +9,8 @@ use Rattle.crl_model.specs.declared.entry.What.{What}
 use Rattle.crl_model.specs.declared.entry.Entry.{Entry}
 use Rattle.crl_model.specs.Stages.{is_there, is_deleted}
 use Rattle.crl_model.specs.SingleMachine.{State, IsLegal, IsHistory, after, after_all}
-use Rattle.crl_script.specs.declared.script.Statement.{Statement}
-use Rattle.crl_script.specs.declared.script.Statement.TheVariants.{Call, Put}
+use Rattle.crl_model.specs.declared.statement.Statement.{Statement}
+use Rattle.crl_model.specs.declared.statement.Statement.TheVariants.{Call, Put}
 use Rattle.crl_cli.specs.Refusals.{refused}
 use Rattle.crl_cli.specs.OneNode.{Drafts, CanRunAll, draft, done, answered, drafts_answered, lines, state_after, by_node_0, no_drafts, account_from}
 

@@ -1,7 +1,7 @@
 -- What is printed in the place of an account.
 use Rattle.std.specs.Prelude.{ℕ, List, ◌++◌, codes, decimal}
 use Rattle.crl_script.specs.declared.fault.ScriptWhy.{ScriptWhy}
-use Rattle.crl_script.specs.declared.fault.ScriptWhy.TheVariants.{NotYet, NoNodes, BadNodes, BadWord, BadNumber, BadHex, UnknownLabel, TwiceLabel, BadSize, BadNode, TwiceNode, LineTooLong}
+use Rattle.crl_script.specs.declared.fault.ScriptWhy.TheVariants.{NoNodes, BadNodes, BadWord, BadNumber, BadHex, UnknownLabel, TwiceLabel, BadSize, BadNode, TwiceNode, LineTooLong}
 
 abbrev pub usage_text : List ℕ
 usage_text = codes "usage: crl COMMAND\n"
@@ -10,7 +10,6 @@ abbrev pub read_fault_text : List ℕ
 read_fault_text = codes "read fault\n"
 
 abbrev pub why_word : ScriptWhy → List ℕ
-why_word NotYet = codes "NotYet"
 why_word NoNodes = codes "NoNodes"
 why_word BadNodes = codes "BadNodes"
 why_word BadWord = codes "BadWord"

@@ -69,7 +69,6 @@ fn why_of(why: ScriptWhy) -> &'static str
     ensures { result.now ≡ why_word why }
 {
     match why {
-        ScriptWhy::NotYet => "NotYet",
         ScriptWhy::NoNodes => "NoNodes",
         ScriptWhy::BadNodes => "BadNodes",
         ScriptWhy::BadWord => "BadWord",

@@ -1,7 +1,7 @@
 //! For what a call of the only node is refused.
 ghost use Rattle.std.specs.Prelude.{◌≡◌, ◌+◌, ◌<◌, nat_lt};
 ghost use Rattle.crl_model.specs.Seen.{state};
-ghost use Rattle.crl_script.specs.declared.script.Statement.{Statement};
+ghost use Rattle.crl_model.specs.declared.statement.Statement.{Statement};
 ghost use Rattle.crl_cli.specs.Refusals.{is_bad_size, is_open, create_refusal, map_refusal, unmap_refusal, read_refusal, end_read_refusal, write_refusal, end_write_refusal, put_refusal, refusal_of, refused_name, name_of, kind_of, refused};
 
 use crl_model::REGION_LIMIT;

@@ -9,7 +9,7 @@ ghost use Rattle.crl_model.specs.Names.{name_cmp, at_name};
 ghost use Rattle.crl_model.specs.Seen.{state};
 ghost use Rattle.crl_model.specs.Patches.{put_at};
 ghost use Rattle.crl_model.specs.SingleMachine.{IsLegal, start};
-ghost use Rattle.crl_script.specs.declared.script.Statement.{Statement};
+ghost use Rattle.crl_model.specs.declared.statement.Statement.{Statement};
 ghost use Rattle.crl_cli.specs.Refusals.{refusal_of, refused};
 ghost use Rattle.crl_cli.specs.OneNode.{can_run, CanRunAll, by_node_0};
 ghost use Rattle.crl_cli.specs.Steps.{Stands, CanDo, IsTaken, IsRunOn, IsRunFrom};

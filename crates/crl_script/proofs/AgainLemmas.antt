@@ -8,8 +8,8 @@ use Rattle.crl_model.specs.declared.call.Call as calls
 use Rattle.crl_model.specs.declared.call.Call.TheVariants as call
 use Rattle.crl_script.specs.declared.fault.ScriptWhy.TheVariants.{BadNumber}
 use Rattle.crl_script.specs.declared.place.Place.TheVariants.{Head, Outside}
-use Rattle.crl_script.specs.declared.script.Statement.{Statement}
-use Rattle.crl_script.specs.declared.script.Statement.TheVariants.{Call, Put, Add}
+use Rattle.crl_model.specs.declared.statement.Statement.{Statement}
+use Rattle.crl_model.specs.declared.statement.Statement.TheVariants.{Call, Put, Add}
 use Rattle.crl_script.specs.Again.{IsScript, IsPrintable, IsNamed, made_by}
 use Rattle.crl_script.specs.Canonical.{canonical_of, line_text, label_of, label_text, statement_words, made_after, block_text, node_text, blocks_text}
 use Rattle.crl_script.specs.Labels.{Names, no_names, any_name}

@@ -1,7 +1,7 @@
 -- Lists of lists.
 use Rattle.std.proofs.Common.{◌≡◌, ℕ, zero, suc, ◌+◌, ◌<◌, List, [], ◌∷◌, ◌++◌, length, map, set, get_or, drop, Some, sym, ap, ◌∙◌, append_assoc, add-one}
 use Rattle.std.specs.Prelude.{slice_get}
-use Rattle.crl_script.specs.declared.script.Statement.{Statement}
+use Rattle.crl_model.specs.declared.statement.Statement.{Statement}
 use Rattle.crl_script.specs.Canonical.{node_text, blocks_text}
 use Rattle.std.proofs.lemmas.List.{map-set, get_or-map}
 

@@ -13,8 +13,8 @@ use Rattle.crl_model.specs.declared.collective.Part.{Part}
 use Rattle.crl_model.specs.declared.collective.Part.TheVariants as part
 use Rattle.crl_script.specs.declared.fault.ScriptWhy.{ScriptWhy}
 use Rattle.crl_script.specs.declared.fault.ScriptWhy.TheVariants.{BadNumber, BadHex}
-use Rattle.crl_script.specs.declared.script.Statement.{Statement}
-use Rattle.crl_script.specs.declared.script.Statement.TheVariants.{Call, Put, Add}
+use Rattle.crl_model.specs.declared.statement.Statement.{Statement}
+use Rattle.crl_model.specs.declared.statement.Statement.TheVariants.{Call, Put, Add}
 use Rattle.crl_script.specs.Again.{IsCall, IsStatement, IsPart, IsSomeBytes, IsValue}
 use Rattle.crl_script.specs.Labels.{Names}
 use Rattle.crl_script.specs.Reading.{◌>>=◌}

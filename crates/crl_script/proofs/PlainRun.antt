@@ -9,8 +9,8 @@ use Rattle.crl_script.specs.declared.fault.ScriptWhy.{ScriptWhy}
 use Rattle.crl_script.specs.declared.fault.ScriptWhy.TheVariants.{NoNodes, BadNodes, BadWord, BadNumber, TwiceLabel, BadSize, BadNode, TwiceNode, LineTooLong}
 use Rattle.crl_script.specs.declared.place.Place.{Place}
 use Rattle.crl_script.specs.declared.place.Place.TheVariants.{Start, Head, Outside, Inside}
-use Rattle.crl_script.specs.declared.script.Statement.{Statement}
-use Rattle.crl_script.specs.declared.script.Statement.TheVariants.{Call}
+use Rattle.crl_model.specs.declared.statement.Statement.{Statement}
+use Rattle.crl_model.specs.declared.statement.Statement.TheVariants.{Call}
 use Rattle.crl_script.specs.Again.{IsStatement, AllStatements}
 use Rattle.crl_script.specs.Labels.{Names}
 use Rattle.crl_script.specs.Program.{Fault}

@@ -9,8 +9,8 @@ use Rattle.crl_model.specs.declared.name.Name.{Name}
 use Rattle.crl_model.specs.declared.call.Call as calls
 use Rattle.crl_model.specs.declared.call.Call.TheVariants as call
 use Rattle.crl_script.specs.declared.place.Place.TheVariants.{Inside}
-use Rattle.crl_script.specs.declared.script.Statement.{Statement}
-use Rattle.crl_script.specs.declared.script.Statement.TheVariants.{Call, Put, Add}
+use Rattle.crl_model.specs.declared.statement.Statement.{Statement}
+use Rattle.crl_model.specs.declared.statement.Statement.TheVariants.{Call, Put, Add}
 use Rattle.crl_script.specs.Again.{IsNamed}
 use Rattle.crl_script.specs.Canonical.{line_text, label_of, label_text}
 use Rattle.crl_script.specs.Labels.{Names}

@@ -7,7 +7,7 @@ use Rattle.crl_model.specs.declared.name.Name.{Name}
 use Rattle.crl_script.specs.declared.fault.ScriptWhy.TheVariants.{BadNumber}
 use Rattle.crl_script.specs.declared.place.Place.{Place}
 use Rattle.crl_script.specs.declared.place.Place.TheVariants.{Start, Head, Outside, Inside}
-use Rattle.crl_script.specs.declared.script.Statement.{Statement}
+use Rattle.crl_model.specs.declared.statement.Statement.{Statement}
 use Rattle.crl_script.specs.Again.{made_by}
 use Rattle.crl_script.proofs.SoundLemmas.{IsSound}
 use Rattle.crl_script.specs.Canonical.{line_text, label_text, made_after, block_text, blocks_text}

@@ -13,7 +13,7 @@ use Rattle.crl_model.specs.declared.collective.Part.{Part}
 use Rattle.crl_model.specs.declared.collective.Part.TheVariants.{Barrier, Send, Receive, Sum, Min, Max}
 use Rattle.crl_script.specs.declared.fault.ScriptWhy.TheVariants.{BadNumber, BadSize}
 use Rattle.crl_script.specs.declared.place.Place.TheVariants.{Inside}
-use Rattle.crl_script.specs.declared.script.Statement.TheVariants.{Call, Put, Add}
+use Rattle.crl_model.specs.declared.statement.Statement.TheVariants.{Call, Put, Add}
 use Rattle.crl_script.specs.Again.{IsPart, IsSomeBytes}
 use Rattle.crl_script.specs.Canonical.{label_of, label_text, part_words}
 use Rattle.crl_script.specs.Labels.{Names}

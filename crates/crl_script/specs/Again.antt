@@ -7,8 +7,8 @@ use Rattle.crl_model.specs.declared.call.Call as calls
 use Rattle.crl_model.specs.declared.call.Call.TheVariants as call
 use Rattle.crl_model.specs.declared.collective.Part.{Part}
 use Rattle.crl_model.specs.declared.collective.Part.TheVariants.{Barrier, Send, Receive, Sum, Min, Max}
-use Rattle.crl_script.specs.declared.script.Statement.{Statement}
-use Rattle.crl_script.specs.declared.script.Statement.TheVariants.{Call, Put, Add}
+use Rattle.crl_model.specs.declared.statement.Statement.{Statement}
+use Rattle.crl_model.specs.declared.statement.Statement.TheVariants.{Call, Put, Add}
 use Rattle.crl_script.specs.Canonical.{made_after, canonical_of}
 use Rattle.crl_script.specs.Program.{Program}
 use Rattle.crl_script.specs.Text.{lines_of}

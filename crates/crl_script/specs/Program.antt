@@ -1,6 +1,6 @@
 -- What a script says, without where it lies in memory.
 use Rattle.std.specs.Prelude.{ℕ, List}
-use Rattle.crl_script.specs.declared.script.Statement.{Statement}
+use Rattle.crl_model.specs.declared.statement.Statement.{Statement}
 use Rattle.crl_script.specs.declared.fault.ScriptWhy.{ScriptWhy}
 
 -- how many nodes there are, how many copies a node keeps, and for each node its statements, in order

@@ -7,8 +7,8 @@ use Rattle.crl_model.specs.declared.call.Call.TheVariants.{Create}
 use Rattle.crl_model.specs.declared.call.CallKind.{CallKind}
 use Rattle.crl_script.specs.declared.place.Place.{Place}
 use Rattle.crl_script.specs.declared.place.Place.TheVariants.{Start, Head, Outside, Inside}
-use Rattle.crl_script.specs.declared.script.Statement.{Statement}
-use Rattle.crl_script.specs.declared.script.Statement.TheVariants.{Call}
+use Rattle.crl_model.specs.declared.statement.Statement.{Statement}
+use Rattle.crl_model.specs.declared.statement.Statement.TheVariants.{Call}
 use Rattle.crl_script.specs.declared.fault.ScriptWhy.{ScriptWhy}
 use Rattle.crl_script.specs.declared.fault.ScriptWhy.TheVariants.{NoNodes, BadNodes, BadWord, BadNumber, TwiceLabel, BadSize, BadNode, TwiceNode, LineTooLong}
 use Rattle.crl_script.specs.Labels.{Names, no_names}

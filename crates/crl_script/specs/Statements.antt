@@ -8,8 +8,8 @@ use Rattle.crl_model.specs.declared.call.CallKind.{CallKind}
 use Rattle.crl_model.specs.declared.call.CallKind.TheVariants.{Delete, Map, Unmap, Flush, Read, EndRead, Write, EndWrite, Put, Add, Barrier, Send, Receive, Sum, Min, Max}
 use Rattle.crl_model.specs.declared.collective.Part.{Part}
 use Rattle.crl_model.specs.declared.collective.Part.TheVariants as part
-use Rattle.crl_script.specs.declared.script.Statement.{Statement}
-use Rattle.crl_script.specs.declared.script.Statement.TheVariants as statement
+use Rattle.crl_model.specs.declared.statement.Statement.{Statement}
+use Rattle.crl_model.specs.declared.statement.Statement.TheVariants as statement
 use Rattle.crl_script.specs.declared.fault.ScriptWhy.{ScriptWhy}
 use Rattle.crl_script.specs.declared.fault.ScriptWhy.TheVariants.{BadWord, BadNumber, UnknownLabel}
 use Rattle.crl_script.specs.Labels.{Names}

@@ -6,8 +6,6 @@ use thiserror::Error;
 /// Why a text is no script.
 #[derive(Clone, Copy, Debug, PartialEq, Eq)]
 pub enum ScriptWhy {
-    /// A form that isn't read yet. `read_script` has no such fault.
-    NotYet,
     /// The first line that isn't skipped isn't `nodes N`.
     NoNodes,
     /// The number of nodes is outside 1 to 64.

@@ -12,8 +12,9 @@ pub mod script;
 mod sentence;
 mod word;
 
+pub use crl_model::statement::Statement;
 pub use fault::{ScriptFault, ScriptWhy};
 pub use printing::print_script;
 pub use reading::read_script;
-pub use script::{Script, Statement};
+pub use script::Script;
 pub use word::natural;

@@ -6,11 +6,12 @@ ghost use Rattle.crl_script.specs.Canonical.{block_text, blocks_text, call_words
 ghost use Rattle.crl_script.specs.Program.{Program};
 ghost use Rattle.crl_script.specs.Sentence.{script_of};
 
-use crate::script::{Script, Statement};
+use crate::script::Script;
 use crl_model::bytes::Bytes;
 use crl_model::call::Call;
 use crl_model::collective::Part;
 use crl_model::name::Name;
+use crl_model::statement::Statement;
 use crl_model::{NodeNo, OutOfMemory};
 use std::alloc::Global;
 

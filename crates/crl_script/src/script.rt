@@ -3,30 +3,8 @@ ghost use Rattle.std.specs.Prelude.{◌≡◌, ◌<◌, ◌≤◌, ◌^◌, ◌�
 ghost use Rattle.crl_script.specs.Again.{AllStatements, IsScript};
 
 use crl_model::NodeNo;
-use crl_model::bytes::Bytes;
-use crl_model::call::Call;
-use crl_model::name::Name;
+use crl_model::statement::Statement;
 use std::marker::Model;
-
-/// One statement of a script. A label is seen as the name of the region that its `create` makes.
-#[derive(Debug, Drop, PartialEq)]
-pub enum Statement {
-    /// A call. That of `endwrite` has an empty `after`.
-    Call(Call),
-    /// Puts these bytes into the open write section, from `offset` on.
-    Put {
-        name: Name,
-        offset: u32,
-        bytes: Bytes,
-    },
-    /// Adds to the eight bytes of the open write section from `offset` on, which are a number, the
-    /// highest byte first. The sum is taken modulo 2^64.
-    Add {
-        name: Name,
-        offset: u32,
-        number: u64,
-    },
-}
 
 /// The most statements that a script may have to be run.
 const STATEMENT_LIMIT: usize = 1 << 40;

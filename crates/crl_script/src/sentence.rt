@@ -8,12 +8,12 @@ ghost use Rattle.crl_script.specs.Text.{words_of};
 use crate::fault::{LineFault, ScriptWhy};
 use crate::label::{Labels, region};
 use crate::line::{Words, split_words};
-use crate::script::Statement;
 use crate::word::{bytes, number, short_number, value};
 use crl_model::bytes::Bytes;
 use crl_model::call::{Call, CallKind};
 use crl_model::collective::Part;
 use crl_model::name::Name;
+use crl_model::statement::Statement;
 use std::alloc::Global;
 
 /// What the first word of a statement is. `create` isn't among them.
