@@ -1,4 +1,4 @@
-//! What a node waits for when nothing more can happen.
+//! What keeps a node waiting.
 use crate::NodeNo;
 use crate::name::Name;
 

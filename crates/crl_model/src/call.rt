@@ -13,7 +13,7 @@ use std::alloc::Global;
 pub enum Call {
     /// Makes a region of zeros; the node becomes its home.
     Create { size: u32 },
-    /// Takes the region away from all nodes.
+    /// Ends the region: no node maps it anew. Nodes that have it mapped use it until their last unmap.
     Delete { name: Name },
     /// Lets the node use the region. Maps are counted.
     Map { name: Name },

@@ -35,7 +35,7 @@ pub struct Asked {
     pub have: u64,
 }
 
-/// A recall or a yield that came before the grant of its version.
+/// A recall or a yield that came while its node asks, and may be for the copy that is to be granted.
 #[derive(Clone, Copy, Debug, PartialEq, Eq)]
 pub struct Due {
     pub version: u64,

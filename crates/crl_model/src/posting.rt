@@ -1,4 +1,4 @@
-//! What a step of a region's home, or of a node with a copy, has to tell others.
+//! What a step at a region's home, or at another node, has to tell the others.
 use crate::NodeNo;
 use crate::name::Name;
 

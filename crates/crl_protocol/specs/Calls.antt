@@ -31,7 +31,7 @@ use Rattle.crl_model.specs.Names.{at_node}
 -- a create
 abbrev pub creates : ℕ → Node → Outcome
 creates size n = record {
-  node = record n { homes = n.homes ++ Some (new_home size) ∷ []; leases = at_node n.leases (used n + 1) new_lease };
+  node = record n { homes = n.homes ++ Some (new_home n.nodes size) ∷ []; leases = at_node n.leases (used n + 1) new_lease };
   answer = Made (next_name n);
   entries = entry n.me (what.Create (next_name n) size) ∷ [];
   posts = [];

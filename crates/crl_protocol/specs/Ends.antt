@@ -7,7 +7,7 @@ use Rattle.crl_model.specs.declared.blocked.Blocked.{Blocked}
 use Rattle.crl_model.specs.declared.blocked.Blocked.TheVariants as blocked
 use Rattle.crl_model.specs.declared.entry.Entry.{Entry}
 use Rattle.crl_model.specs.Stages.{is_there}
-use Rattle.crl_protocol.specs.Home.{Home}
+use Rattle.crl_protocol.specs.Home.{Home, is_empty}
 use Rattle.crl_protocol.specs.Remote.{Copy, Remote, is_closed}
 use Rattle.crl_protocol.specs.Sections.{section_at}
 use Rattle.crl_protocol.specs.Node.{Node, Activity, Free, Waiting, Ready, ForSection, ForMap, ForDelete, ForRound, home_of, lease_of}
@@ -15,7 +15,8 @@ use Rattle.crl_protocol.specs.World.{World, flight, sent, is_free}
 use Rattle.crl_protocol.specs.Chosen.{Running}
 use Rattle.crl_model.specs.declared.statement.Statement.{Statement}
 
--- The bytes of a region are those of the exclusive copy, where there is one, else the home's.
+-- The bytes of a region where no message is under way: those of the exclusive copy, where there is one, else
+-- the home's. While a write section is open, they are those with which it began.
 abbrev pub exclusive_bytes : Option Copy → Option (List ℕ)
 exclusive_bytes None = None
 exclusive_bytes (Some copy) = if copy.exclusive then Some copy.bytes else None
@@ -99,12 +100,8 @@ blocked_at i w = blocked_while i (w.nodes i).activity w
 
 -- A node is finished where it is free and has no statement left. A world is truly stuck where no message is
 -- under way and each unfinished node is blocked.
-abbrev pub is_nil : List Statement → Bool
-is_nil [] = true
-is_nil (s ∷ left) = false
-
 abbrev pub is_finished : ℕ → Running → Bool
-is_finished i r = is_free (r.world.nodes i).activity && is_nil (r.actors i).left
+is_finished i r = is_free (r.world.nodes i).activity && is_empty (r.actors i).left
 
 abbrev pub IsTrulyStuck : Running → Type 0
 IsTrulyStuck r =

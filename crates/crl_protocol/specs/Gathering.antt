@@ -18,12 +18,12 @@ no_parts n = None
 abbrev pub first_round : Gathering
 first_round = record { round = 1; parts = no_parts }
 
--- the parts of k nodes from node m on, where all of them came
 abbrev pub with_part : Option Part → Option (List Part) → Option (List Part)
 with_part None ps = None
 with_part (Some p) None = None
 with_part (Some p) (Some ps) = Some (p ∷ ps)
 
+-- the parts of k nodes from node m on, where all of them came
 abbrev pub all_parts : ℕ → ℕ → (ℕ → Option Part) → Option (List Part)
 all_parts m zero parts = Some []
 all_parts m (suc k) parts = with_part (parts m) (all_parts (m + 1) k parts)

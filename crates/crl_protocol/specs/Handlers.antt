@@ -1,4 +1,5 @@
--- What a node does with a message. One that doesn't fit changes nothing; none such ever comes.
+-- What a node does with a message. One that doesn't fit changes nothing but that it is gone. In a run no such
+-- message comes, which is for the proofs to show.
 use Rattle.std.specs.Prelude.{ℕ, ◌==◌, Bool, true, false, ◌||◌, if◌then◌else◌, List, [], ◌∷◌, ◌++◌}
 use Rattle.std.specs.declared.option.Option.{Option}
 use Rattle.std.specs.declared.option.Option.TheVariants.{None, Some}

@@ -14,12 +14,13 @@ use Rattle.crl_protocol.specs.Places.{at, put}
 use Rattle.crl_protocol.specs.Mail.{Grant, Recall, Yield, Letter}
 
 pub record Home : Type 0 where
-  -- the region's size, and its bytes as far as they have come back
+  -- the region's size, and its bytes: the newest where no other node has or gets an exclusive copy, and the home
+  -- doesn't write
   pub size : ℕ
   pub bytes : List ℕ
   -- how many copies were granted; the number of its grant is a copy's version
   pub last : ℕ
-  -- of each node the copy that it has, or is about to have
+  -- of each node the copy that it has, is about to have, or is giving back
   pub listed : List (Option Listing)
   -- the asks that wait, the oldest first
   pub queue : List Asked
@@ -32,9 +33,9 @@ pub record Served : Type 0 where
   pub posts : List Letter
   pub opened : Bool
 
--- a region of zeros
-abbrev pub new_home : ℕ → Home
-new_home size = record { size = size; bytes = replicate size 0; last = 0; listed = []; queue = []; mine = Closed }
+-- a region of zeros, among so many nodes
+abbrev pub new_home : ℕ → ℕ → Home
+new_home nodes size = record { size = size; bytes = replicate size 0; last = 0; listed = replicate nodes None; queue = []; mine = Closed }
 
 -- Whether the copy of node m stands in the way of an ask: to read, an exclusive copy, or the asker's own;
 -- to write, every copy but the shared one that the asker says it has.

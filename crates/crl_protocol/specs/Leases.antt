@@ -7,7 +7,8 @@ use Rattle.crl_model.specs.declared.region.Stage.{Stage}
 use Rattle.crl_model.specs.declared.region.Stage.TheVariants.{Unknown, Live, Going, Gone}
 use Rattle.crl_model.specs.Names.{name_eq, at_node}
 
--- A region that a node has mapped. It is doomed where its delete has begun: once unmapped, it is forgotten.
+-- A region that a node has mapped. It is doomed where the node was told of its delete: once unmapped, it is
+-- forgotten.
 pub record Mapping : Type 0 where
   pub size : ℕ
   pub count : ℕ

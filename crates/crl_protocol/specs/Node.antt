@@ -74,7 +74,8 @@ pub record Node : Type 0 where
   pub activity : Activity
   pub inbox : List Message
   pub outbox : List Message
-  -- what it has recorded, the events that it took part in, and the number of messages that it sent
+  -- what it has recorded, its events, a message carried out of its outbox among them, and the number of
+  -- messages that it sent
   pub records : List Recorded
   pub notes : List Note
   pub posted : ℕ

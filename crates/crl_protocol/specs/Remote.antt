@@ -27,7 +27,7 @@ pub record Remote : Type 0 where
   pub lowering : Bool
   -- the node waits for a copy, to write or to read
   pub asking : Option Bool
-  -- a recall or a yield that came before its grant
+  -- a recall or a yield of a later version than the copy's, kept until a grant comes
   pub due : Option Due
 
 -- what a step leaves: the node's side, its mail for the home, and whether the section that starts opened
@@ -78,8 +78,7 @@ starts_over write (Some copy) r =
 unfoldable pub remote_starts : Bool → Remote → Moved
 remote_starts write r = starts_over write r.copy r
 
--- A grant comes, and the section opens for which the node waits. It may come: it is of the kind that was
--- asked for, an upgrade only over a shared copy, and its bytes have the region's size.
+-- A grant comes, and the section opens for which the node waits.
 abbrev pub granted_copy : ℕ → Granted → Option Copy → Option Copy
 granted_copy version (Shared bytes) old = Some (record { exclusive = false; version = version; bytes = bytes })
 granted_copy version (Exclusive bytes) old = Some (record { exclusive = true; version = version; bytes = bytes })
@@ -111,6 +110,8 @@ remote_granted version granted r = record {
   due = None;
 }
 
+-- A grant fits where it is of the kind that was asked for, an upgrade only over a shared copy, and its bytes
+-- have the region's size.
 abbrev pub asks_to_write : Option Bool → Bool
 asks_to_write None = false
 asks_to_write (Some write) = write
@@ -128,7 +129,8 @@ takes_grant (Shared bytes) r = asks_to_read r.asking && (length bytes == r.size)
 takes_grant (Exclusive bytes) r = asks_to_write r.asking && (length bytes == r.size)
 takes_grant Upgrade r = asks_to_write r.asking && is_shared r.copy
 
--- A recall or a yield that overtook its grant is kept until that grant comes, the newest of them.
+-- A recall or a yield that may have overtaken its grant is kept until a grant comes, the newest of them. It
+-- counts where it is of that grant's version; else it was late, and is dropped.
 abbrev pub is_newer : ℕ → Option Due → Bool
 is_newer version None = true
 is_newer version (Some due) = nat_lt due.version version

@@ -94,6 +94,3 @@ ends_over name (Some r) s = record s {
 
 unfoldable pub section_ends : Name → Sections → Sections
 section_ends name s = ends_over name (s.records name) s
-
-abbrev pub write_ends : Name → Sections → Sections
-write_ends name s = record s { records = at_name s.records name None }

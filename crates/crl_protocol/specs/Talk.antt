@@ -57,58 +57,58 @@ told (Collected answer ∷ hs) = told hs
 abbrev pub talk : ℕ → World → List Event → List Told
 talk n w es = told (heard n w es)
 
--- The lines of a call with this answer. What call and answer don't fix, the bytes with which a section began,
--- the serial of a refused create, and the round of a refused collective call, is as it was recorded.
-abbrev pub IsPlaceOf : Call → Place → Type 0
-IsPlaceOf (call.Create size) (Region name) = Unit {0}
-IsPlaceOf (call.Delete q) place = place ≡ Region q
-IsPlaceOf (call.Map q) place = place ≡ Region q
-IsPlaceOf (call.Unmap q) place = place ≡ Region q
-IsPlaceOf (call.StartRead q) place = place ≡ Region q
-IsPlaceOf (call.EndRead q) place = place ≡ Region q
-IsPlaceOf (call.StartWrite q) place = place ≡ Region q
-IsPlaceOf (call.EndWrite q after) place = place ≡ Region q
-IsPlaceOf (call.Put q offset len) place = place ≡ Region q
-IsPlaceOf (call.Add q offset) place = place ≡ Region q
-IsPlaceOf (call.Flush q) place = place ≡ Region q
-IsPlaceOf (call.Come part) (Round round) = Unit {0}
-IsPlaceOf _ _ = ⊥
+-- The lines of node n's call with this answer. Call and answer don't fix the bytes with which a section began, the
+-- serial of a refused create, and the round of a refused collective call: there some line of the form is meant.
+abbrev pub IsPlaceOf : ℕ → Call → Place → Type 0
+IsPlaceOf n (call.Create size) (Region name) = name.home ≡ n
+IsPlaceOf n (call.Delete q) place = place ≡ Region q
+IsPlaceOf n (call.Map q) place = place ≡ Region q
+IsPlaceOf n (call.Unmap q) place = place ≡ Region q
+IsPlaceOf n (call.StartRead q) place = place ≡ Region q
+IsPlaceOf n (call.EndRead q) place = place ≡ Region q
+IsPlaceOf n (call.StartWrite q) place = place ≡ Region q
+IsPlaceOf n (call.EndWrite q after) place = place ≡ Region q
+IsPlaceOf n (call.Put q offset len) place = place ≡ Region q
+IsPlaceOf n (call.Add q offset) place = place ≡ Region q
+IsPlaceOf n (call.Flush q) place = place ≡ Region q
+IsPlaceOf n (call.Come part) (Round round) = Unit {0}
+IsPlaceOf n _ _ = ⊥
 
 -- a refused call has one line
-abbrev pub AreRefused : Call → Refusal → List What → Type 0
-AreRefused c why lines = (place : Place) × IsPlaceOf c place × (lines ≡ what.Refused (word_of c) place why ∷ [])
+abbrev pub AreRefused : ℕ → Call → Refusal → List What → Type 0
+AreRefused n c why lines = (place : Place) × IsPlaceOf n c place × (lines ≡ what.Refused (word_of c) place why ∷ [])
 
 -- a collective call has two, the second of them its result, or its refusal where the parts don't agree
-abbrev pub AreRound : Part → Answer → List What → Type 0
-AreRound part (Came round fold) lines = lines ≡ what.Come part ∷ what.Came round fold ∷ []
-AreRound part (Refused Mixed) lines =
+abbrev pub AreRound : ℕ → Part → Answer → List What → Type 0
+AreRound n part (Came round fold) lines = lines ≡ what.Come part ∷ what.Came round fold ∷ []
+AreRound n part (Refused Mixed) lines =
     (round : ℕ) × (lines ≡ what.Come part ∷ what.Refused (word_of (call.Come part)) (Round round) Mixed ∷ [])
-AreRound part (Refused why) lines = AreRefused (call.Come part) why lines
-AreRound part _ lines = ⊥
+AreRound n part (Refused why) lines = AreRefused n (call.Come part) why lines
+AreRound n part _ lines = ⊥
 
-abbrev pub AreLines : Call → Answer → List What → Type 0
-AreLines (call.Come part) answer lines = AreRound part answer lines
-AreLines c (Refused why) lines = AreRefused c why lines
-AreLines (call.Create size) (Made name) lines = lines ≡ what.Create name size ∷ []
-AreLines (call.Delete name) Done lines = lines ≡ what.Deleting name ∷ what.Deleted name ∷ []
-AreLines (call.Map name) (Mapped q size) lines = (q ≡ name) × (lines ≡ what.Map name size ∷ [])
-AreLines (call.Unmap name) Done lines = lines ≡ what.Unmap name ∷ []
-AreLines (call.StartRead name) (Reading guard) lines = (guard.name ≡ name) × (lines ≡ what.StartRead name ∷ [])
-AreLines (call.EndRead name) Done lines = (seen : List ℕ) × (lines ≡ what.Read name seen ∷ [])
-AreLines (call.StartWrite name) (Writing guard) lines = (guard.name ≡ name) × (lines ≡ what.StartWrite name ∷ [])
-AreLines (call.EndWrite name after) Done lines = (before : List ℕ) × (lines ≡ what.Write name before after ∷ [])
-AreLines (call.Flush name) Done lines = lines ≡ what.Flush name ∷ []
-AreLines _ _ lines = ⊥
+abbrev pub AreLines : ℕ → Call → Answer → List What → Type 0
+AreLines n (call.Come part) answer lines = AreRound n part answer lines
+AreLines n c (Refused why) lines = AreRefused n c why lines
+AreLines n (call.Create size) (Made name) lines = lines ≡ what.Create name size ∷ []
+AreLines n (call.Delete name) Done lines = lines ≡ what.Deleting name ∷ what.Deleted name ∷ []
+AreLines n (call.Map name) (Mapped q size) lines = (q ≡ name) × (lines ≡ what.Map name size ∷ [])
+AreLines n (call.Unmap name) Done lines = lines ≡ what.Unmap name ∷ []
+AreLines n (call.StartRead name) (Reading guard) lines = (guard.name ≡ name) × (lines ≡ what.StartRead name ∷ [])
+AreLines n (call.EndRead name) Done lines = (seen : List ℕ) × (lines ≡ what.Read name seen ∷ [])
+AreLines n (call.StartWrite name) (Writing guard) lines = (guard.name ≡ name) × (lines ≡ what.StartWrite name ∷ [])
+AreLines n (call.EndWrite name after) Done lines = (before : List ℕ) × (lines ≡ what.Write name before after ∷ [])
+AreLines n (call.Flush name) Done lines = lines ≡ what.Flush name ∷ []
+AreLines n _ _ lines = ⊥
 
 -- The lines of a node's calls, in order. Of a call that isn't answered yet a part of the lines may stand.
-abbrev pub ArePart : Call → List What → Type 0
-ArePart c front = (answer : Answer) × (rest : List What) × AreLines c answer (front ++ rest)
+abbrev pub ArePart : ℕ → Call → List What → Type 0
+ArePart n c front = (answer : Answer) × (rest : List What) × AreLines n c answer (front ++ rest)
 
-pub data AreLinesOf : List Told → List What → Type 0 where
-  nothing : AreLinesOf [] []
+pub data AreLinesOf (n : ℕ) : List Told → List What → Type 0 where
+  nothing : AreLinesOf n [] []
   answered : {calls : List Told} {lines : List What} (c : Call) (answer : Answer) (its : List What)
-      → AreLines c answer its → AreLinesOf calls lines → AreLinesOf (record { call = c; answer = Some answer } ∷ calls) (its ++ lines)
-  waiting : (c : Call) (its : List What) → ArePart c its → AreLinesOf (record { call = c; answer = None } ∷ []) its
+      → AreLines n c answer its → AreLinesOf n calls lines → AreLinesOf n (record { call = c; answer = Some answer } ∷ calls) (its ++ lines)
+  waiting : (c : Call) (its : List What) → ArePart n c its → AreLinesOf n (record { call = c; answer = None } ∷ []) its
 
 -- the lines of node n in an account
 abbrev pub lines_of : ℕ → List Entry → List What
