@@ -1,8 +1,8 @@
 -- The frame of a message is read as that message, and what is read is a message with that frame.
-use Rattle.std.proofs.Common.{◌≡◌, ℕ, ◌+◌, ◌^◌, ◌<◌, ◌≤◌, Bool, true, false, cond, ltb, eqb, List, [], ◌∷◌, ◌++◌, length, take, drop, Option, Some, None, Result, Ok, Err, refl, sym, ap, subst, ◌∙◌, append_assoc, arith, inl, inr}
+use Rattle.std.proofs.Common.{◌≡◌, ℕ, ◌+◌, ◌≤◌, Bool, true, false, cond, ltb, List, [], ◌∷◌, ◌++◌, length, take, drop, Option, Some, None, Result, Ok, Err, refl, sym, ap, subst, ◌∙◌, append_assoc, arith, inl, inr}
 use Rattle.std.specs.Prelude.{option_and_then, IfOk, MatchResult}
-use Rattle.std.proofs.lemmas.Bool.{cases_lt, lt-ltb, le-ltb, ltb-true, ltb-false}
-use Rattle.std.proofs.lemmas.List.{append-nil, append_cancel_left, take-append-drop, take-append-le, take_at, drop_at, drop-append-le, length-append, length-take, length-drop}
+use Rattle.std.proofs.lemmas.Bool.{cases_lt, lt-ltb, le-ltb, ltb-false}
+use Rattle.std.proofs.lemmas.List.{append-nil, take-append-drop, take-append-le, take_at, drop_at, drop-append-le, length-append}
 use Rattle.crl_model.specs.declared.message.Message.{Message}
 use Rattle.crl_wire.specs.declared.form.Form.{Form}
 use Rattle.crl_wire.specs.declared.header.Header.{Header}
@@ -12,7 +12,7 @@ use Rattle.crl_wire.specs.Table.{shape_of, is_kind, is_shaped}
 use Rattle.crl_wire.specs.Frame.{form_of, name_of, number_of, body_of, header_of, layout, frame, Fits}
 use Rattle.crl_wire.specs.Decoding.{header_at, kind_from, name_in, message_from, form_at, form_in, with_body, with_form, with_header, decoded, Gives}
 use Rattle.crl_wire.proofs.ValueLemmas.{IsBytes, IsBytes-drop}
-use Rattle.crl_wire.proofs.TableLemmas.{is_found, found_is, Parts, parts_of, ends_below, home_below, len_below}
+use Rattle.crl_wire.proofs.TableLemmas.{is_found, found_is, parts_of, ends_below, home_below, len_below}
 use Rattle.crl_wire.proofs.KindLemmas.{kind_again, form_back, name_back, number_back, body_back, values_fit}
 use Rattle.crl_wire.proofs.HeaderLemmas.{IsWide, layout_len, header_again, header_back, header_fits}
 

@@ -1,5 +1,5 @@
 -- A kind is that of its form, name, number and body; and a kind that is made of them has them.
-use Rattle.std.proofs.Common.{◌≡◌, ℕ, Bool, true, false, ◌&&◌, eqb, List, [], length, Option, Some, None, refl, sym, ap, ◌∙◌, arith}
+use Rattle.std.proofs.Common.{◌≡◌, ℕ, Bool, true, false, ◌&&◌, eqb, List, [], length, Some, None, refl, sym, ap}
 use Rattle.std.proofs.lemmas.Bool.{and_parts, eqb-true}
 use Rattle.std.proofs.lemmas.List.{nil_from_length}
 use Rattle.crl_model.specs.declared.name.Name.{Name}
@@ -20,8 +20,6 @@ use Rattle.crl_wire.specs.declared.form.ToldForm.TheVariants as tolds
 use Rattle.crl_wire.specs.declared.form.GrantedForm.TheVariants as granteds
 use Rattle.crl_wire.specs.declared.form.PartForm.TheVariants as parts
 use Rattle.crl_wire.specs.declared.form.FoldForm.TheVariants as folds
-use Rattle.crl_wire.specs.declared.form.PartForm.{PartForm}
-use Rattle.crl_wire.specs.declared.form.FoldForm.{FoldForm}
 use Rattle.crl_wire.specs.declared.header.Header.{Header}
 use Rattle.crl_wire.specs.Table.{shape_of, is_home, is_number, is_len}
 use Rattle.crl_wire.specs.Frame.{form_of, told_form, granted_form, part_form, fold_form, name_of, no_name, number_of, body_of, size_in, part_body, fold_body, granted_body, FitsPart, FitsFold, FitsValues}

@@ -1,6 +1,6 @@
 -- The table: each form stands in it once, and what a header of it is.
-use Rattle.std.proofs.Common.{◌≡◌, ℕ, ◌+◌, ◌^◌, ◌<◌, ◌≤◌, Bool, true, false, ◌&&◌, not, cond, eqb, ltb, leb, List, [], ◌∷◌, Option, Some, None, refl, sym, ap, subst, ◌∙◌, arith}
-use Rattle.std.specs.Prelude.{find, option_and_then}
+use Rattle.std.proofs.Common.{◌≡◌, ℕ, ◌<◌, ◌≤◌, Bool, true, false, ◌&&◌, not, cond, eqb, ltb, leb, List, [], ◌∷◌, Some, refl, subst, arith}
+use Rattle.std.specs.Prelude.{find}
 use Rattle.std.proofs.lemmas.Bool.{and_parts, eqb-true, ltb-true, leb-true}
 use Rattle.crl_model.specs.declared.message.DeleteTold.TheVariants as told
 use Rattle.crl_wire.specs.declared.form.Form.{Form}
@@ -11,14 +11,12 @@ use Rattle.crl_wire.specs.declared.form.PartForm.TheVariants as parts
 use Rattle.crl_wire.specs.declared.form.FoldForm.TheVariants as folds
 use Rattle.crl_wire.specs.declared.form.Home.{Home}
 use Rattle.crl_wire.specs.declared.form.Home.TheVariants.{Sender, Addressee, ToZero, FromZero}
-use Rattle.crl_wire.specs.declared.form.Number.{Number}
-use Rattle.crl_wire.specs.declared.form.Number.TheVariants.{Zero, Any, FromOne, Size}
 use Rattle.crl_wire.specs.declared.form.Body.{Body}
 use Rattle.crl_wire.specs.declared.form.Body.TheVariants.{Empty, Region, Broadcast, Value, Total}
 use Rattle.crl_wire.specs.declared.form.Shape.{Shape}
 use Rattle.crl_wire.specs.declared.header.Header.{Header}
 use Rattle.crl_wire.specs.Table.{shape_of, all_forms, is_kind, are_ends, is_home, is_number, is_len, is_shaped}
-use Rattle.crl_wire.specs.Decoding.{form_at, form_in}
+use Rattle.crl_wire.specs.Decoding.{form_at}
 
 -- the form is found by its kind and flag
 abbrev pub IsFound : Form → Type 0

@@ -1,5 +1,5 @@
 -- What bytes are read as: the tests in their order, and the first that holds is the answer.
-use Rattle.std.specs.Prelude.{◌≡◌, ℕ, ◌+◌, ◌==◌, nat_lt, not, Bool, true, false, ◌&&◌, if◌then◌else◌, List, [], length, drop, slice_index, Option, Some, None, option_and_then, find, Result, Ok, Err, ℤ}
+use Rattle.std.specs.Prelude.{◌≡◌, ℕ, ◌+◌, ◌==◌, nat_lt, true, false, ◌&&◌, if◌then◌else◌, List, length, drop, slice_index, Option, Some, None, option_and_then, find, Result, Ok, Err, ℤ}
 use Rattle.std.specs.List.{slice_range}
 use Rattle.std.specs.Int.{Width, byte_len, w16, w32, w64, w128, from_be_bytes, cast_signed}
 use Rattle.crl_model.specs.declared.name.Name.{Name}

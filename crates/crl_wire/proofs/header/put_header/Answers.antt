@@ -1,4 +1,4 @@
-use Rattle.std.proofs.Common.{refl, append_assoc}
+use Rattle.std.proofs.Common.{append_assoc}
 use Rattle.crl_wire.specs.Frame.{layout}
 use Rattle.crl_wire.proofs.header.put_header.Goals as goal
 
