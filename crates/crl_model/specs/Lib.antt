@@ -4,6 +4,7 @@ pub mod Judging
 pub mod Laws
 pub mod Names
 pub mod Patches
+pub mod Postings
 pub mod Regions
 pub mod Rounds
 pub mod Seen

@@ -138,3 +138,88 @@ impl Granted {
         })
     }
 }
+
+/// An equal value.
+fn copy_bytes(alloc: Global, bytes: &Option<Bytes>) -> Result<Option<Bytes>, OutOfMemory>
+    ensures { IfOk result (λ b. b ≡ bytes.now) }
+{
+    Ok(match bytes {
+        Some(bytes) => Some(Bytes::copy_of(alloc, bytes.as_slice())?),
+        None => None,
+    })
+}
+
+impl Kind {
+    /// An equal value.
+    ///
+    /// # Errors
+    ///
+    /// `OutOfMemory`.
+    pub fn copy(&self, alloc: Global) -> Result<Kind, OutOfMemory>
+        ensures { IfOk result (λ k. k ≡ self.now) }
+    {
+        Ok(match self {
+            &Kind::InfoAsk { name } => Kind::InfoAsk { name },
+            &Kind::InfoIs { name, told } => Kind::InfoIs { name, told },
+            &Kind::Ask { name, write, have } => Kind::Ask { name, write, have },
+            &Kind::Recall { name, version } => Kind::Recall { name, version },
+            &Kind::DeleteAsk { name } => Kind::DeleteAsk { name },
+            &Kind::DeleteIs { name, told } => Kind::DeleteIs { name, told },
+            &Kind::Purge { name } => Kind::Purge { name },
+            &Kind::Purged { name } => Kind::Purged { name },
+            &Kind::Yield { name, version } => Kind::Yield { name, version },
+            Kind::Grant {
+                name,
+                version,
+                granted,
+            } => Kind::Grant {
+                name: *name,
+                version: *version,
+                granted: granted.copy(alloc)?,
+            },
+            Kind::Return {
+                name,
+                version,
+                bytes,
+            } => Kind::Return {
+                name: *name,
+                version: *version,
+                bytes: copy_bytes(alloc, bytes)?,
+            },
+            Kind::Release {
+                name,
+                version,
+                bytes,
+            } => Kind::Release {
+                name: *name,
+                version: *version,
+                bytes: Bytes::copy_of(alloc, bytes.as_slice())?,
+            },
+            Kind::Come { round, part } => Kind::Come {
+                round: *round,
+                part: part.copy(alloc)?,
+            },
+            Kind::Result { round, fold } => Kind::Result {
+                round: *round,
+                fold: fold.copy(alloc)?,
+            },
+        })
+    }
+}
+
+impl Message {
+    /// An equal value.
+    ///
+    /// # Errors
+    ///
+    /// `OutOfMemory`.
+    pub fn copy(&self, alloc: Global) -> Result<Message, OutOfMemory>
+        ensures { IfOk result (λ m. m ≡ self.now) }
+    {
+        Ok(Message {
+            sender: self.sender,
+            addressee: self.addressee,
+            kind: self.kind.copy(alloc)?,
+        })
+    }
+}

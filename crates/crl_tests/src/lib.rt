@@ -1,7 +1,7 @@
-//! Tests of the program's commands over sources and sinks in memory.
+//! Tests of the program's commands over sources and sinks in memory, of frames and of lists of postings.
 //!
-//! What they expect was worked out by hand, from the rules of a single machine with one array, or by
-//! `reference`, which writes these rules down once more.
+//! What they expect was worked out by hand, from the rules of a single machine with one array and from
+//! the table of frames, or by `reference`, which writes these rules down once more.
 #![tactic(auto)]
 
 #[cfg(test)]
@@ -19,7 +19,11 @@ mod faults;
 #[cfg(test)]
 mod forms;
 #[cfg(test)]
+mod frames;
+#[cfg(test)]
 mod plain;
+#[cfg(test)]
+mod posts;
 #[cfg(test)]
 mod refusals;
 #[cfg(test)]

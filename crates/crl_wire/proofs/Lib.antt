@@ -1,0 +1,5 @@
+mod ValueLemmas
+mod TableLemmas
+mod KindLemmas
+mod HeaderLemmas
+mod FrameLemmas
