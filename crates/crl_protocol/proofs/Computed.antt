@@ -2,5 +2,6 @@ pub mod Blocked
 pub mod Caches
 pub mod Copies
 pub mod Deletes
+pub mod Refusals
 pub mod Rounds
 pub mod Upgrades

@@ -13,7 +13,6 @@ use Rattle.crl_protocol.specs.Sections.{section_at}
 use Rattle.crl_protocol.specs.Node.{Node, Activity, Free, Waiting, Ready, ForSection, ForMap, ForDelete, ForRound, home_of, lease_of}
 use Rattle.crl_protocol.specs.World.{World, flight, sent, is_free}
 use Rattle.crl_protocol.specs.Chosen.{Running}
-use Rattle.crl_model.specs.declared.statement.Statement.{Statement}
 
 -- The bytes of a region where no message is under way: those of the exclusive copy, where there is one, else
 -- the home's. While a write section is open, they are those with which it began.

@@ -6,6 +6,7 @@ ghost use Rattle.crl_protocol.specs.Worked.Upgrades.{two_upgrades_script, two_up
 ghost use Rattle.crl_protocol.specs.Worked.Caches.{eviction_script, eviction_report, no_cache_script, no_cache_report, roomy_cache_script, roomy_cache_report};
 ghost use Rattle.crl_protocol.specs.Worked.Deletes.{delete_of_cached_script, delete_of_cached_report, delete_of_mapped_script, delete_of_mapped_report, purge_before_answer_script, purge_before_answer_report, purge_before_answer_order, delete_before_map_script, delete_before_map_report, delete_by_another_script, delete_by_another_report};
 ghost use Rattle.crl_protocol.specs.Worked.Rounds.{map_before_create_script, map_before_create_report, map_before_create_order, barrier_then_read_script, barrier_then_read_report, mixed_kinds_script, mixed_kinds_report, broadcast_script, broadcast_report, additions_script, additions_report};
+ghost use Rattle.crl_protocol.specs.Worked.Refusals.{section_rules_script, section_rules_report, names_and_sizes_script, names_and_sizes_report};
 ghost use Rattle.crl_protocol.specs.Worked.Blocked.{reader_blocks_script, reader_blocks_report, absent_node_script, absent_node_report, each_other_script, each_other_report};
 
 /// Copies that go back and forth, with messages that overtake each other.
@@ -49,6 +50,12 @@ pub fn rounds()
     ensures mixed_kinds { Gives 2 16 mixed_kinds_script first mixed_kinds_report }
     ensures broadcast { Gives 2 16 broadcast_script first broadcast_report }
     ensures additions { Gives 1 16 additions_script first additions_report }
+{}
+
+/// Calls that are refused.
+pub fn refusals()
+    ensures section_rules { Gives 1 16 section_rules_script first section_rules_report }
+    ensures names_and_sizes { Gives 1 16 names_and_sizes_script first names_and_sizes_report }
 {}
 
 /// Runs that end with nodes that wait.
