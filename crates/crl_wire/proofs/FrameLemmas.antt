@@ -1,23 +1,22 @@
--- The frame of a message is read as that message, and what is read is a message with that frame.
-use Rattle.std.proofs.Common.{◌≡◌, ℕ, ◌+◌, ◌≤◌, Bool, true, false, cond, ltb, List, [], ◌∷◌, ◌++◌, length, take, drop, Option, Some, None, Result, Ok, Err, refl, sym, ap, subst, ◌∙◌, append_assoc, arith, inl, inr}
-use Rattle.std.specs.Prelude.{option_and_then, IfOk, MatchResult}
-use Rattle.std.proofs.lemmas.Bool.{cases_lt, lt-ltb, le-ltb, ltb-false}
+-- The frame of a message is read as that message, a part of it is short, and with more bytes it is long.
+use Rattle.std.proofs.Common.{◌≡◌, ℕ, ◌+◌, ◌<◌, ◌≤◌, Bool, true, false, cond, ltb, List, [], ◌∷◌, ◌++◌, length, take, drop, Option, Some, None, Result, Ok, Err, refl, sym, ap, ◌∙◌, append_assoc, arith, inl, inr}
+use Rattle.std.specs.Prelude.{option_and_then}
+use Rattle.std.proofs.lemmas.Bool.{cases_lt, lt-ltb, le-ltb}
 use Rattle.std.proofs.lemmas.List.{append-nil, take-append-drop, take-append-le, take_at, drop_at, drop-append-le, length-append}
 use Rattle.crl_model.specs.declared.message.Message.{Message}
 use Rattle.crl_wire.specs.declared.form.Form.{Form}
 use Rattle.crl_wire.specs.declared.header.Header.{Header}
 use Rattle.crl_wire.specs.declared.fault.WireFault.{WireFault}
-use Rattle.crl_wire.specs.declared.fault.WireFault.TheVariants.{Short, Long, BadKind, BadField, OutOfMemory}
-use Rattle.crl_wire.specs.Table.{shape_of, is_kind, is_shaped}
-use Rattle.crl_wire.specs.Frame.{form_of, name_of, number_of, body_of, header_of, layout, frame, Fits}
-use Rattle.crl_wire.specs.Decoding.{header_at, kind_from, name_in, message_from, form_at, form_in, with_body, with_form, with_header, decoded, Gives}
-use Rattle.crl_wire.proofs.ValueLemmas.{IsBytes, IsBytes-drop}
-use Rattle.crl_wire.proofs.TableLemmas.{is_found, found_is, parts_of, ends_below, home_below, len_below}
-use Rattle.crl_wire.proofs.KindLemmas.{kind_again, form_back, name_back, number_back, body_back, values_fit}
-use Rattle.crl_wire.proofs.HeaderLemmas.{IsWide, layout_len, header_again, header_back, header_fits}
+use Rattle.crl_wire.specs.declared.fault.WireFault.TheVariants.{Short, Long, BadKind}
+use Rattle.crl_wire.specs.Table.{shape_of, is_shaped}
+use Rattle.crl_wire.specs.Frame.{form_of, body_of, header_of, layout, frame, Fits}
+use Rattle.crl_wire.specs.Decoding.{header_at, message_from, form_in, with_body, with_form, with_header, decoded, BeginsFrame, ExceedsFrame}
+use Rattle.crl_wire.proofs.TableLemmas.{is_found, parts_of, ends_below, home_below, len_below}
+use Rattle.crl_wire.proofs.KindLemmas.{kind_again}
+use Rattle.crl_wire.proofs.HeaderLemmas.{IsWide, layout_len, header_again}
 
 -- a message that was read
-abbrev done : Message → Result Message WireFault
+abbrev pub done : Message → Result Message WireFault
 done m = Ok m
 
 -- ---- a frame, or a part of one
@@ -46,7 +45,7 @@ form_in_of m fits =
     ∙ ap (λ (b : Bool). cond b (Some (form_of m.kind)) None) fits.in_table
 
 -- a header of a message is read, whatever stands behind it
-header_is_read : (m : Message) (body : List ℕ) → Fits m → decoded (layout (header_of m) ++ body) ≡ with_body (header_of m) (form_of m.kind) body
+pub header_is_read : (m : Message) (body : List ℕ) → Fits m → decoded (layout (header_of m) ++ body) ≡ with_body (header_of m) (form_of m.kind) body
 unfolding decoded with_header with_form
 header_is_read m body fits =
     let h = header_of m in
@@ -72,7 +71,7 @@ frame_again m fits =
     let whole : with_body (header_of m) (form_of m.kind) (body_of m.kind) ≡ Ok (message_from (header_of m) (form_of m.kind) (body_of m.kind)) = rw same refl in
     header_is_read m (body_of m.kind) fits ∙ whole ∙ ap (λ (x : Message). Ok x) (message_again m fits)
 
-pub more_than_frame : (m : Message) (rest : List ℕ) (b : ℕ) → Fits m → decoded (frame m ++ b ∷ rest) ≡ Err Long
+more_than_frame : (m : Message) (rest : List ℕ) (b : ℕ) → Fits m → decoded (frame m ++ b ∷ rest) ≡ Err Long
 unfolding frame with_body
 more_than_frame m rest b fits =
     let body = body_of m.kind in
@@ -97,7 +96,7 @@ front_with_header m front rest b fits e le =
     let short : with_body h (form_of m.kind) (drop 32 front) ≡ Err Short = rw less refl in
     ap decoded whole ∙ header_is_read m (drop 32 front) fits ∙ short
 
-pub front_of_frame : (m : Message) (front rest : List ℕ) (b : ℕ) → Fits m → frame m ≡ front ++ b ∷ rest → decoded front ≡ Err Short
+front_of_frame : (m : Message) (front rest : List ℕ) (b : ℕ) → Fits m → frame m ≡ front ++ b ∷ rest → decoded front ≡ Err Short
 unfolding decoded
 front_of_frame m front rest b fits e =
     elim (cases_lt (length front) 32) [
@@ -113,137 +112,18 @@ frames_apart m n (b ∷ rest) fits_m fits_n e =
     let both : done m ≡ Err Short = sym (frame_again m fits_m) ∙ front_of_frame n (frame m) rest b fits_n e in
     absurd cc
 
--- ---- what is read
+-- ---- the same, in the words of the laws
 
--- a test that did not fail
-past : {A : Type 0} (b : Bool) (d : WireFault) (r : Result A WireFault) (x : A) → cond b (Err d) r ≡ Ok x → (b ≡ false) × (r ≡ Ok x)
-past true d r x e = absurd cc
-past false d r x e = (refl, e)
-
-passed : {A : Type 0} (b : Bool) (d : WireFault) (r : Result A WireFault) (x : A) → cond b r (Err d) ≡ Ok x → (b ≡ true) × (r ≡ Ok x)
-passed true d r x e = (refl, e)
-passed false d r x e = absurd cc
-
-form_there : (h : Header) (o : Option Form) (body : List ℕ) (m : Message) → with_form h o body ≡ Ok m → (form : Form) × (o ≡ Some form) × (with_body h form body ≡ Ok m)
-unfolding with_form
-form_there h None body m e = absurd cc
-form_there h (Some form) body m e = (form, refl, e)
-
-shaped_by : (h : Header) (o : Option Form) (form : Form) → option_and_then (λ (f : Form). cond (is_shaped (shape_of f) h) (Some f) None) o ≡ Some form → (o ≡ Some form) × (is_shaped (shape_of form) h ≡ true)
-shaped_by h None form e = absurd cc
-shaped_by h (Some f) form e = go (is_shaped (shape_of f) h) refl e
+pub front_short : (bytes : List ℕ) → BeginsFrame bytes → decoded bytes ≡ Err Short
+front_short bytes front = go front.rest front.more front.spelled
   where
-    go : (b : Bool) → is_shaped (shape_of f) h ≡ b → cond b (Some f) None ≡ Some form → (Some f ≡ Some form) × (is_shaped (shape_of form) h ≡ true)
-    go true test k = (k, let same : f ≡ form = cc in subst (λ (x : Form). is_shaped (shape_of x) h ≡ true) same test)
-    go false test k = absurd cc
+    go : (rest : List ℕ) → 0 < length rest → frame front.message ≡ bytes ++ rest → decoded bytes ≡ Err Short
+    go [] more e = absurd (omega arith)
+    go (b ∷ rest) more e = front_of_frame front.message bytes rest b front.fits e
 
-pub form_in_is : (h : Header) (form : Form) → form_in h ≡ Some form → (form_at h.kind h.flag ≡ Some form) × (is_shaped (shape_of form) h ≡ true)
-unfolding form_in
-form_in_is h form e = shaped_by h (form_at h.kind h.flag) form e
-
-body_there : (h : Header) (form : Form) (body : List ℕ) (m : Message) → with_body h form body ≡ Ok m → (length body ≡ h.body_len) × (done (message_from h form body) ≡ done m)
-unfolding with_body
-body_there h form body m e =
-    let a = past (ltb (length body) h.body_len) Short (cond (ltb h.body_len (length body)) (Err Long) (Ok (message_from h form body))) m e in
-    let b = past (ltb h.body_len (length body)) Long (Ok (message_from h form body)) m a.1 in
-    (omega (arith, ltb-false (length body) h.body_len a.0, ltb-false h.body_len (length body) b.0), b.1)
-
--- what was made of a header and a body has them
-header_stays : (h : Header) (form : Form) (body : List ℕ) → IsBytes body → form_at h.kind h.flag ≡ Some form → is_shaped (shape_of form) h ≡ true → length body ≡ h.body_len
-    → (header_of (message_from h form body) ≡ h) × (body_of (message_from h form body).kind ≡ body)
-header_stays h form body fits at shaped len =
-    let parts = parts_of (shape_of form) h shaped in
-    let k = kind_from form (name_in h) h.number body in
-    let fb : form_of k ≡ form = form_back form (name_in h) h.number body in
-    let there = found_is h.kind h.flag form at in
-    let kind : (shape_of (form_of k)).kind ≡ h.kind = ap (λ (f : Form). (shape_of f).kind) fb ∙ there.0 in
-    let flag : (shape_of (form_of k)).flag ≡ h.flag = ap (λ (f : Form). (shape_of f).flag) fb ∙ there.1 in
-    let name = name_back form h h.number body parts.home in
-    let home : (name_of k).home ≡ h.home = ap (λ n. n.home) name in
-    let serial : (name_of k).serial ≡ h.serial = ap (λ n. n.serial) name in
-    let number : number_of k ≡ h.number = number_back form (name_in h) h.number body parts.number in
-    let body_is : body_of k ≡ body = body_back form (name_in h) h.number body (rw len parts.len) fits in
-    let body_len : length (body_of k) ≡ h.body_len = ap length body_is ∙ len in
-    let zeros : 0 ≡ h.zeros = sym parts.zeros in
-    let last_zeros : 0 ≡ h.last_zeros = sym parts.last_zeros in (
-      λ i. record {
-        kind = kind i;
-        flag = flag i;
-        sender = h.sender;
-        addressee = h.addressee;
-        zeros = zeros i;
-        home = home i;
-        serial = serial i;
-        number = number i;
-        body_len = body_len i;
-        last_zeros = last_zeros i;
-      },
-      body_is,
-    )
-
-abbrev IsOf : List ℕ → Message → Type 0
-IsOf bytes m = Fits m × (bytes ≡ frame m)
-
-made_is_of : (bytes : List ℕ) (form : Form) → IsBytes bytes → 32 ≤ length bytes → form_at (header_at bytes).kind (header_at bytes).flag ≡ Some form
-    → is_shaped (shape_of form) (header_at bytes) ≡ true → length (drop 32 bytes) ≡ (header_at bytes).body_len → IsOf bytes (message_from (header_at bytes) form (drop 32 bytes))
-unfolding frame
-made_is_of bytes form fits long at shaped len =
-    let h = header_at bytes in
-    let body = drop 32 bytes in
-    let body_fits : IsBytes body = IsBytes-drop 32 bytes fits in
-    let m = message_from h form body in
-    let stays = header_stays h form body body_fits at shaped len in
-    let form_is : form_of m.kind ≡ form = form_back form (name_in h) h.number body in
-    let in_table : is_shaped (shape_of (form_of m.kind)) (header_of m) ≡ true = ap (λ (f : Form). is_shaped (shape_of f) (header_of m)) form_is ∙ ap (is_shaped (shape_of form)) stays.0 ∙ shaped in
-    let serial : (name_of m.kind).serial ≡ h.serial = ap (λ (x : Header). x.serial) stays.0 in
-    let number : number_of m.kind ≡ h.number = ap (λ (x : Header). x.number) stays.0 in
-    let wide = header_fits bytes fits in
-    let spelled : bytes ≡ frame m = sym (header_back bytes long fits) ∙ ap (λ (x : Header). layout x ++ body) (sym stays.0) ∙ ap (λ (x : List ℕ). layout (header_of m) ++ x) (sym stays.1) in
-    (record { in_table = in_table; serial = omega (arith, serial, wide.0); number = omega (arith, number, wide.1); values = values_fit form (name_in h) h.number body body_fits }, spelled)
-
-pub read_is_of : (bytes : List ℕ) (m : Message) → IsBytes bytes → decoded bytes ≡ Ok m → IsOf bytes m
-unfolding decoded with_header
-read_is_of bytes m fits e =
-    let h = header_at bytes in
-    let body = drop 32 bytes in
-    let a = past (ltb (length bytes) 32) Short (with_header h body) m e in
-    let b = passed (is_kind h.kind) BadKind (with_form h (form_in h) body) m a.1 in
-    let c = form_there h (form_in h) body m b.1 in
-    let d = form_in_is h c.0 c.1 in
-    let f = body_there h c.0 body m c.2 in
-    let same : message_from h c.0 body ≡ m = let k = f.1 in cc in
-    subst (IsOf bytes) same (made_is_of bytes c.0 fits (ltb-false (length bytes) 32 a.0) d.0 d.1 f.0)
-
-pub gives_of : (bytes : List ℕ) (r : Result Message WireFault) → 32 ≤ length bytes → Gives r (with_header (header_at bytes) (drop 32 bytes)) → Gives r (decoded bytes)
-unfolding decoded
-gives_of bytes r le g = subst (λ (b : Bool). Gives r (cond b (Err Short) (with_header (header_at bytes) (drop 32 bytes)))) (sym (le-ltb (length bytes) 32 le)) g
-
--- ---- a bad field
-
-not_bad : (h : Header) (form : Form) (body : List ℕ) → with_body h form body ≡ Err BadField → ⊥
-unfolding with_body
-not_bad h form body e = go (ltb (length body) h.body_len) (ltb h.body_len (length body)) e
+pub excess_long : (bytes : List ℕ) → ExceedsFrame bytes → decoded bytes ≡ Err Long
+excess_long bytes excess = go excess.rest excess.more excess.spelled
   where
-    go : (a b : Bool) → cond a (Err Short) (cond b (Err Long) (Ok (message_from h form body))) ≡ Err BadField → ⊥
-    go true b k = cc
-    go false true k = cc
-    go false false k = cc
-
-pub no_bad_field : (m : Message) (bytes : List ℕ) → Fits m → decoded bytes ≡ Err BadField → take 32 bytes ≡ layout (header_of m) → ⊥
-no_bad_field m bytes fits bad header =
-    let whole : layout (header_of m) ++ drop 32 bytes ≡ bytes = ap (λ (x : List ℕ). x ++ drop 32 bytes) (sym header) ∙ take-append-drop 32 bytes in
-    not_bad (header_of m) (form_of m.kind) (drop 32 bytes) (sym (header_is_read m (drop 32 bytes) fits) ∙ ap decoded whole ∙ bad)
-
--- ---- what decoding returned
-
-pub found_of : (bytes : List ℕ) (r : Result Message WireFault) → IsBytes bytes → Gives r (decoded bytes) → IfOk r (λ m. Fits m × (bytes ≡ frame m))
-found_of bytes (Ok m) fits g = read_is_of bytes m fits g
-found_of bytes (Err fault) fits g = tt
-
-pub only_of : (m : Message) (r : Result Message WireFault) (read : Result Message WireFault) → read ≡ Ok m → Gives r read → MatchResult r (λ x. x ≡ m) (λ fault. fault ≡ OutOfMemory)
-only_of m (Ok x) read is g = let both : done x ≡ done m = sym g ∙ is in cc
-only_of m (Err Short) read is g = absurd (let both : done m ≡ Err Short = sym is ∙ g in cc)
-only_of m (Err Long) read is g = absurd (let both : done m ≡ Err Long = sym is ∙ g in cc)
-only_of m (Err BadKind) read is g = absurd (let both : done m ≡ Err BadKind = sym is ∙ g in cc)
-only_of m (Err BadField) read is g = absurd (let both : done m ≡ Err BadField = sym is ∙ g in cc)
-only_of m (Err OutOfMemory) read is g = refl
+    go : (rest : List ℕ) → 0 < length rest → bytes ≡ frame excess.message ++ rest → decoded bytes ≡ Err Long
+    go [] more e = absurd (omega arith)
+    go (b ∷ rest) more e = ap decoded e ∙ more_than_frame excess.message rest b excess.fits

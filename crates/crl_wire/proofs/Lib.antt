@@ -3,3 +3,4 @@ mod TableLemmas
 mod KindLemmas
 mod HeaderLemmas
 mod FrameLemmas
+mod ReadingLemmas

@@ -1,5 +1,5 @@
 -- What bytes are read as: the tests in their order, and the first that holds is the answer.
-use Rattle.std.specs.Prelude.{◌≡◌, ℕ, ◌+◌, ◌==◌, nat_lt, true, false, ◌&&◌, if◌then◌else◌, List, length, drop, slice_index, Option, Some, None, option_and_then, find, Result, Ok, Err, ℤ}
+use Rattle.std.specs.Prelude.{◌≡◌, ℕ, ◌+◌, ◌==◌, nat_lt, true, false, ◌&&◌, if◌then◌else◌, ◌<◌, List, ◌++◌, length, drop, slice_index, Option, Some, None, option_and_then, find, Result, Ok, Err, ℤ}
 use Rattle.std.specs.List.{slice_range}
 use Rattle.std.specs.Int.{Width, byte_len, w16, w32, w64, w128, from_be_bytes, cast_signed}
 use Rattle.crl_model.specs.declared.name.Name.{Name}
@@ -29,6 +29,7 @@ use Rattle.crl_wire.specs.declared.header.Header.{Header}
 use Rattle.crl_wire.specs.declared.fault.WireFault.{WireFault}
 use Rattle.crl_wire.specs.declared.fault.WireFault.TheVariants.{Short, Long, BadKind, BadField, OutOfMemory}
 use Rattle.crl_wire.specs.Table.{shape_of, all_forms, is_kind, is_shaped}
+use Rattle.crl_wire.specs.Frame.{frame, Fits}
 
 -- ---- the fields by their places
 
@@ -139,3 +140,21 @@ decoded bytes = if nat_lt (length bytes) 32 then Err Short else with_header (hea
 abbrev pub Gives : Result Message WireFault → Result Message WireFault → Type 0
 Gives (Err OutOfMemory) read = Unit {0}
 Gives result read = read ≡ result
+
+-- ---- the faults, in words of frames
+
+-- the first bytes of a frame, and not all of them
+pub record BeginsFrame (bytes : List ℕ) : Type 0 where
+  pub message : Message
+  pub rest : List ℕ
+  pub fits : Fits message
+  pub more : 0 < length rest
+  pub spelled : frame message ≡ bytes ++ rest
+
+-- a frame, and more bytes
+pub record ExceedsFrame (bytes : List ℕ) : Type 0 where
+  pub message : Message
+  pub rest : List ℕ
+  pub fits : Fits message
+  pub more : 0 < length rest
+  pub spelled : bytes ≡ frame message ++ rest

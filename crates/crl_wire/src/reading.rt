@@ -1,10 +1,10 @@
 //! Reading frames.
-ghost use Rattle.std.specs.Prelude.{◌≡◌, ◌^◌, ◌<◌, true, Ok, length, take, IfOk, MatchResult};
+ghost use Rattle.std.specs.Prelude.{◌≡◌, ◌≢◌, ◌⊎◌, ◌^◌, ◌<◌, true, Err, length, take, slice_index, IfOk, MatchResult};
 ghost use Rattle.crl_model.specs.declared.message.Message.{Message};
 ghost use Rattle.crl_wire.specs.Table as table;
 ghost use Rattle.crl_wire.specs.Frame.{frame, layout, header_of, Fits};
 ghost use Rattle.crl_wire.specs.Decoding as decoding;
-ghost use Rattle.crl_wire.specs.Decoding.{decoded, with_header, with_body, name_in, Gives};
+ghost use Rattle.crl_wire.specs.Decoding.{decoded, with_header, with_body, name_in, Gives, BeginsFrame, ExceedsFrame};
 
 use crate::build::kind_from;
 use crate::fault::WireFault;
@@ -92,6 +92,11 @@ pub fn decode(alloc: Global, bytes: &[u8]) -> Result<Message, WireFault>
     // The frame of a message is read as that message, and refused only for memory.
     ensures only { (m : Message) → Fits m → bytes.now ≡ frame m
         → MatchResult result (λ read. read ≡ m) (λ fault. fault ≡ WireFault.OutOfMemory) }
+    // What the faults mean. A bad field is one that no message has.
+    ensures short { result ≡ Err WireFault.Short → (length bytes.now < 32) ⊎ BeginsFrame bytes.now }
+    ensures long { result ≡ Err WireFault.Long → ExceedsFrame bytes.now }
+    ensures bad_kind { result ≡ Err WireFault.BadKind → (slice_index bytes.now 0 ≡ 0) ⊎ (14 < slice_index bytes.now 0) }
+    ensures bad_field { result ≡ Err WireFault.BadField → (m : Message) → Fits m → take 32 bytes.now ≢ layout (header_of m) }
 {
     message_of(alloc, bytes)
 }

@@ -1,5 +1,5 @@
 use Rattle.std.proofs.Common.{sym, ◌∙◌}
-use Rattle.crl_wire.proofs.FrameLemmas.{form_in_is}
+use Rattle.crl_wire.proofs.ReadingLemmas.{form_in_is}
 use Rattle.crl_wire.proofs.reading.with_header.Goals as goal
 
 pub with_body-requires : goal.with_body-requires
