@@ -1,3 +1,6 @@
+mod Agrees
+mod Parses
 mod Regions
 mod Runs
 mod Says
+mod Walks
