@@ -1,5 +1,8 @@
+mod Agrees
 mod Answerable
+mod Parses
 mod Regions
 mod Runs
 mod Says
 mod Standing
+mod Walks

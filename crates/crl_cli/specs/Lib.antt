@@ -1,5 +1,6 @@
 pub mod Answers
 pub mod Codes
+pub mod CommandLine
 pub mod Commands
 pub mod OneNode
 pub mod Outcome

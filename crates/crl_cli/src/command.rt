@@ -1,10 +1,16 @@
 //! The commands, as their words say.
-ghost use Rattle.std.specs.Prelude.{◌≡◌, ◌∷◌, [], map, string_bytes, IfSome};
+ghost use Rattle.std.specs.Prelude.{◌≡◌, ◌∷◌, [], map, string_bytes, IfOk, IfSome};
+ghost use Rattle.clap.specs.Words.{subcommand_rows_of};
 ghost use Rattle.crl_cli.specs.Commands.{command_of, check_of, IsSound};
+ghost use Rattle.crl_cli.specs.CommandLine.{command_in, named_value};
 ghost use Rattle.crl_script.specs.Words.{natural_of};
 
-use crl_model::{NODE_LIMIT, NodeNo};
+use crate::command_line::{any_hyphenated, command_line};
+use clap::ArgMatches;
+use clap::error::ErrorKind;
+use crl_model::{NODE_LIMIT, NodeNo, OutOfMemory};
 use crl_script::natural;
+use std::alloc::Global;
 
 /// What the words ask for.
 #[derive(Clone, Copy, Debug, PartialEq, Eq)]
@@ -15,23 +21,41 @@ pub enum Command {
     Check(NodeNo),
 }
 
-/// The command that the words are, if they are one.
-pub(crate) fn command_of(words: &[String]) -> Option<Command>
-    ensures command { result ≡ command_of (map string_bytes words.now) }
-    ensures sound { IfSome result IsSound }
+/// The command that the words are, if they are one. What `clap` says of other words is dropped.
+pub(crate) fn command_of<'a>(
+    alloc: Global,
+    words: &'a [String],
+) -> Result<Option<Command>, OutOfMemory>
+    ensures command { IfOk result (λ r. r ≡ command_of (map string_bytes words.entry.now)) }
+    ensures sound { IfOk result (λ r. IfSome r IsSound) }
 {
-    match words {
-        [word, value] => command_with(word.as_str(), value.as_str()),
-        _ => None,
+    if any_hyphenated(words) {
+        return Ok(None);
+    }
+    match command_line(alloc)?.try_get_matches_from(words) {
+        Ok(matches) => Ok(command_in(&matches)),
+        Err(error) => match error.kind() {
+            ErrorKind::OutOfMemory => Err(OutOfMemory),
+            _ => Ok(None),
+        },
     }
 }
 
-/// The command of a word and its value.
-fn command_with(word: &str, value: &str) -> Option<Command>
-    ensures command { result ≡ command_of (word.now ∷ value.now ∷ []) }
+/// The command that was found in the words.
+fn command_in(matches: &ArgMatches<'_>) -> Option<Command>
+    ensures command { result ≡ command_in (named_value (subcommand_rows_of matches.now)) }
     ensures sound { IfSome result IsSound }
 {
-    match word {
+    let (name, found) = matches.subcommand()?;
+    command_with(name, found.get_str("value")?)
+}
+
+/// The command of a name and its value.
+fn command_with(name: &str, value: &str) -> Option<Command>
+    ensures command { result ≡ command_of (name.now ∷ value.now ∷ []) }
+    ensures sound { IfSome result IsSound }
+{
+    match name {
         "order" if value == "first" => Some(Command::OrderFirst),
         "check" => check_of(value),
         _ => None,

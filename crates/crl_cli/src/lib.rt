@@ -4,6 +4,7 @@
 pub mod answer;
 mod check;
 pub mod command;
+mod command_line;
 mod order;
 mod outcome;
 mod refusal;

@@ -31,7 +31,7 @@ pub(crate) fn outcome_of<S: Source>(
     ensures unpulled { command_of (map string_bytes words.now) ≡ None → source.new ≡ source.old }
     ensures later { S.faults source.old ≤ S.faults source.new }
 {
-    let Some(command) = command_of(words) else {
+    let Some(command) = command_of(alloc, words)? else {
         return usage(alloc);
     };
     match read_all(alloc, source, TEXT_LIMIT + 1) {

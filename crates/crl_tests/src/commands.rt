@@ -1,11 +1,10 @@
-//! Words that are no command.
+//! Which words are a command.
 
 use crate::plain::SCRIPT;
-use crate::runs::{ORDER_FIRST, ROOM, run};
+use crate::runs::{ROOM, run};
 use crl_cli::status::Status;
 use crl_model::OutOfMemory;
 use crl_model::bytes::Bytes;
-use crl_outside::Failed;
 use crl_outside::memory_source::MemorySource;
 use crl_outside::source::Source;
 use std::alloc::Global;
@@ -21,56 +20,78 @@ fn failing_first(alloc: Global) -> Result<MemorySource, OutOfMemory> {
     Ok(MemorySource::new(bytes, 8, failing))
 }
 
-// The words are judged alone, and the source isn't pulled: it is still to fail, as only its first pull
-// does.
+// The words are judged alone. Words that are no command leave the source unpulled: it is still to fail, as
+// only its first pull does. A command pulls, and meets that failure.
 #[test]
-fn other_words_give_the_usage(rt: HostRuntime) -> Result<(), Fail> {
-    let others: [&[&str]; 25] = [
-        &[],
-        &[""],
-        &["order"],
-        &["first"],
-        &["first", "order"],
-        &["order first"],
-        &["order", "first", "x"],
-        &["order", "first", ""],
-        &["", "order", "first"],
-        &["order", "first", "order", "first"],
-        &["ORDER", "first"],
-        &["order", "First"],
-        &["order", "firs"],
-        &["order", "first "],
-        &["order", "picks", "1"],
-        &["--help"],
-        &["check"],
-        &["check", ""],
-        &["check", "0"],
-        &["check", "65"],
-        &["check", "+1"],
-        &["check", "1x"],
-        &["check", "1", "2"],
-        &["check", "000000000000000000001"],
-        &["Check", "1"],
+fn words_are_a_command_or_the_usage(rt: HostRuntime) -> Result<(), Fail> {
+    let cases: [(&[&str], Status); 52] = [
+        (&[], Status::Usage),
+        (&[""], Status::Usage),
+        (&["", ""], Status::Usage),
+        (&[" "], Status::Usage),
+        (&["order"], Status::Usage),
+        (&["first"], Status::Usage),
+        (&["first", "order"], Status::Usage),
+        (&["order first"], Status::Usage),
+        (&["order", "first", "x"], Status::Usage),
+        (&["order", "first", ""], Status::Usage),
+        (&["", "order", "first"], Status::Usage),
+        (&["order", "first", "order", "first"], Status::Usage),
+        (&["ORDER", "first"], Status::Usage),
+        (&["order", "First"], Status::Usage),
+        (&["order", "firs"], Status::Usage),
+        (&["order", "first "], Status::Usage),
+        (&["order", ""], Status::Usage),
+        (&["ord", "first"], Status::Usage),
+        (&["orders", "first"], Status::Usage),
+        (&["order", "picks", "1"], Status::Usage),
+        (&["help"], Status::Usage),
+        (&["help", "order"], Status::Usage),
+        (&["order", "help"], Status::Usage),
+        (&["--help"], Status::Usage),
+        (&["-h"], Status::Usage),
+        (&["order", "--help"], Status::Usage),
+        (&["--version"], Status::Usage),
+        (&["-x"], Status::Usage),
+        (&["order", "-x"], Status::Usage),
+        (&["-"], Status::Usage),
+        (&["order", "-"], Status::Usage),
+        (&["--"], Status::Usage),
+        (&["--", "order", "first"], Status::Usage),
+        (&["order", "--", "first"], Status::Usage),
+        (&["order", "first", "--"], Status::Usage),
+        (&["check", "--", "1"], Status::Usage),
+        (&["check"], Status::Usage),
+        (&["check", ""], Status::Usage),
+        (&["check", "0"], Status::Usage),
+        (&["check", "65"], Status::Usage),
+        (&["check", "+1"], Status::Usage),
+        (&["check", "-1"], Status::Usage),
+        (&["check", "1x"], Status::Usage),
+        (&["check", "1", "2"], Status::Usage),
+        (&["check", "000000000000000000064"], Status::Usage),
+        (&["Check", "1"], Status::Usage),
+        (&["che", "1"], Status::Usage),
+        (&["order", "first"], Status::ReadFault),
+        (&["check", "1"], Status::ReadFault),
+        (&["check", "64"], Status::ReadFault),
+        (&["check", "064"], Status::ReadFault),
+        (&["check", "00000000000000000064"], Status::ReadFault),
     ];
-    for words in others {
+    for (words, status) in cases {
         let mut source = failing_first(rt.alloc())?;
         let answer = run(rt.alloc(), words, &mut source, ROOM)?;
-        assert_eq!(rt; answer.status, Status::Usage, "of the words {words:?}");
-        assert_eq!(rt;
-            str::from_utf8(answer.sink.held())?,
-            USAGE,
-            "of the words {words:?}"
-        );
+        assert_eq!(rt; answer.status, status, "of the words {words:?}");
         let first = source.pull([0; 8].as_mut_slice());
-        assert_eq!(rt; first, Err(Failed), "after the words {words:?}");
+        let is_usage = status == Status::Usage;
+        assert_eq!(rt; first.is_err(), is_usage, "after the words {words:?}");
+        if is_usage {
+            assert_eq!(rt;
+                str::from_utf8(answer.sink.held())?,
+                USAGE,
+                "of the words {words:?}"
+            );
+        }
     }
-    Ok(())
-}
-
-#[test]
-fn the_command_pulls(rt: HostRuntime) -> Result<(), Fail> {
-    let mut source = failing_first(rt.alloc())?;
-    let answer = run(rt.alloc(), ORDER_FIRST.as_slice(), &mut source, ROOM)?;
-    assert_eq!(rt; answer.status, Status::ReadFault);
     Ok(())
 }

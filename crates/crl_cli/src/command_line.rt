@@ -1,0 +1,38 @@
+//! The command line as `clap` is told it: a command's name in full, and then its words by place.
+ghost use Rattle.std.specs.Prelude.{◌≡◌, IfOk, string_bytes};
+ghost use Rattle.std.specs.List.{list_any};
+ghost use Rattle.clap.specs.Words.{app_of};
+ghost use Rattle.crl_cli.specs.CommandLine.{command_line, is_hyphenated};
+
+use clap::{Arg, Command};
+use crl_model::OutOfMemory;
+use std::alloc::Global;
+
+/// The program and its commands. There are no flags, and no command for help.
+pub(crate) fn command_line<'a>(alloc: Global) -> Result<Command<'a>, OutOfMemory>
+    ensures { IfOk result (λ c. app_of c ≡ command_line) }
+{
+    let order = Command::new(alloc, "order").arg(Arg::new(alloc, "value").required(true))?;
+    let check = Command::new(alloc, "check").arg(Arg::new(alloc, "value").required(true))?;
+    Command::new(alloc, "crl")
+        .no_binary_name(true)
+        .disable_help_flag(true)
+        .disable_help_subcommand(true)
+        .subcommand_required(true)
+        .subcommand(order)?
+        .subcommand(check)
+}
+
+/// Whether one of the words begins with a hyphen. `clap` would take some such words, as `--` before a value.
+pub(crate) fn any_hyphenated(words: &[String]) -> bool
+    ensures { result ≡ list_any (λ word. is_hyphenated (string_bytes word)) words.now }
+{
+    words.iter().any(|word| is_hyphenated(word.as_str()))
+}
+
+/// Whether the word begins with a hyphen.
+fn is_hyphenated(word: &str) -> bool
+    ensures { result ≡ is_hyphenated word.now }
+{
+    matches!(word.as_bytes(), [b'-', ..])
+}
