@@ -1,2 +1,4 @@
+mod Calls
+mod Facts
 mod Lists
 mod Mails
