@@ -2,3 +2,4 @@ mod Calls
 mod Facts
 mod Lists
 mod Mails
+mod Opens
