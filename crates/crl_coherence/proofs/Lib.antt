@@ -1,5 +1,12 @@
 mod Calls
 mod Facts
+mod Fits
 mod Lists
 mod Mails
 mod Opens
+mod Remote
+mod RemoteCalls
+mod RemoteLowers
+mod RemoteSections
+mod RemoteYields
+mod Waits
