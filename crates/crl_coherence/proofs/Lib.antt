@@ -6,6 +6,7 @@ mod Mails
 mod Opens
 mod Remote
 mod RemoteCalls
+mod RemoteEvents
 mod RemoteLowers
 mod RemoteSections
 mod RemoteYields
