@@ -11,6 +11,7 @@ use Rattle.crl_protocol.specs.Mail.{Mail, Recall, Yield, Letter}
 use Rattle.crl_protocol.specs.Home.{blocks, is_clear, is_called, mark_for, call_for, marked, calls}
 use Rattle.crl_coherence.specs.Region.{Flying, sent, flies}
 use Rattle.crl_coherence.proofs.Lists.{picked_none, picked_some}
+use Rattle.crl_coherence.proofs.Pairs.{mark, called}
 use Rattle.crl_coherence.proofs.Mails.{mail_of, mails, mail_here, mail_other}
 
 next : (k n : ℕ) → k + 1 + n ≡ k + suc n
@@ -58,10 +59,6 @@ pub blocker : (ls : List (Option Listing)) (a : Asked) → is_clear 0 ls a ≡ f
 blocker ls a h = let b = blocker_from 0 ls a h in (b.0, b.1, b.2, (rw (from_zero b.0) at b.3))
 
 -- what is listed of a node after the copies in the way were called
-abbrev pub mark : ℕ → Option Listing → Asked → Option Listing
-mark m None a = None
-mark m (Some l) a = Some (if is_called m l a then record l { mark = mark_for a } else l)
-
 marked_from : (k n : ℕ) (ls : List (Option Listing)) (a : Asked) → at n (marked k ls a) ≡ mark (k + n) (at n ls) a
 marked_from k n [] a = refl
 marked_from k zero (None ∷ ls) a = refl
@@ -86,12 +83,8 @@ pub clear-marked : (ls : List (Option Listing)) (a b : Asked) → is_clear 0 (ma
 clear-marked ls a b = clear_from-marked 0 ls a b
 
 -- the calls that one node gets
-abbrev pub call_of : Asked → ℕ → Mail
+abbrev call_of : Asked → ℕ → Mail
 call_of a version = if a.write then Recall version else Yield version
-
-abbrev pub called : ℕ → Option Listing → Asked → List Mail
-called m None a = []
-called m (Some l) a = if is_called m l a then call_of a l.version ∷ [] else []
 
 mails_none : (n k : ℕ) (ls : List (Option Listing)) (a : Asked) → n < k → mails n (sent (calls k ls a)) ≡ []
 mails_none n k [] a h = refl

@@ -44,7 +44,7 @@ fits_return me g n version bytes rest k other took =
     go : (o : Option Listing) (l : Listing) → o ≡ Some l → l.version ≡ version → bytes_fit bytes (Some l) g.home.size ≡ true → is_listed version o && bytes_fit bytes o g.home.size ≡ true
     go o l e v f = rw e (grind arith)
 
-release_found : (n version : ℕ) (bytes : List ℕ) → of_node n released_in (flies n (Release version bytes)) ≡ Some (record { version = version; bytes = bytes })
+pub release_found : (n version : ℕ) (bytes : List ℕ) → of_node n released_in (flies n (Release version bytes)) ≡ Some (record { version = version; bytes = bytes })
 release_found n version bytes = grind arith
 
 sized_took : {f : Freed} {xs ys : List Freed} (size : ℕ) → Took f xs ys → AreSized size xs → length f.bytes ≡ size

@@ -68,6 +68,30 @@ pub kept_at : (last n : ℕ) (array : List ℕ) {o p : Option Listing} {q s : Li
     → IsKept last array (pair_at n o q ms r) → IsKept last array (pair_at n p s ks t)
 kept_at last n array a b c d k = subst (λ x. IsKept last array x) (λ i. pair_at n (a i) (b i) (c i) (d i)) k
 
+-- a pair whose lists are lengthened by what more mail holds
+abbrev pub lengthened : ℕ → List Mail → Remote → Pair → Pair
+lengthened n posts r p = record p {
+  pending = p.pending ++ picks (asked_in n) posts;
+  grants = p.grants ++ picks granted_in posts;
+  recalls = p.recalls ++ picks recalled_in posts;
+  yields = p.yields ++ picks yields_in posts;
+  returns = p.returns ++ picks returned_in posts;
+  releases = p.releases ++ picks released_in posts;
+  remote = r;
+}
+
+pub lengthened-at : (n : ℕ) (o : Option Listing) (q : List Asked) (ms posts : List Mail) (r t : Remote) → lengthened n posts t (pair_at n o q ms r) ≡ pair_at n o q (ms ++ posts) t
+lengthened-at n o q ms posts r t = λ i. record {
+  listed = o;
+  pending = (append_assoc q (picks (asked_in n) ms) (picks (asked_in n) posts) ∙ ap (λ l. q ++ l) (sym (picks-append (asked_in n) ms posts))) i;
+  grants = sym (picks-append granted_in ms posts) i;
+  recalls = sym (picks-append recalled_in ms posts) i;
+  yields = sym (picks-append yields_in ms posts) i;
+  returns = sym (picks-append returned_in ms posts) i;
+  releases = sym (picks-append released_in ms posts) i;
+  remote = t;
+}
+
 -- the mail of a node after a step of the home or of a node
 pub mail_here : (n : ℕ) (m : Mail) → mail_of n (flies n m) ≡ Some m
 mail_here n m = grind arith

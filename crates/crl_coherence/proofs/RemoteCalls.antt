@@ -1,18 +1,11 @@
 -- Events at a node that isn't the home keep what holds of the two: a recall, a yield and a grant that come.
-use Rattle.std.proofs.Common.{ℕ, List, [], ◌∷◌, ◌++◌, Bool, true, false, not, ◌&&◌, ◌||◌, ◌+◌, ◌≡◌, ◌≢◌, ◌==◌, ◌≤◌, ◌<◌, ◌⊎◌, length, refl, arith, inl, inr, sym, ap, append-nil, subst}
-use Rattle.std.specs.Prelude.{nat_lt}
+use Rattle.std.proofs.Common.{ℕ, List, ◌++◌, ◌≡◌, ◌≤◌, refl, arith}
 use Rattle.std.specs.declared.option.Option.{Option}
 use Rattle.std.specs.declared.option.Option.TheVariants.{None, Some}
-use Rattle.std.proofs.lemmas.Grind.{common_steps}
-use Rattle.crl_model.specs.declared.directory.Section.{Section}
-use Rattle.crl_model.specs.declared.directory.Section.TheVariants.{Closed, Reading, Writing}
 use Rattle.crl_model.specs.declared.directory.Listing.{Listing}
-use Rattle.crl_model.specs.declared.directory.Asked.{Asked}
-use Rattle.crl_model.specs.declared.directory.Due.{Due}
-use Rattle.crl_protocol.specs.Places.{Took, here, there, picks}
-use Rattle.crl_protocol.specs.Mail.{Mail, Ask, Return, Release}
-use Rattle.crl_protocol.specs.Remote.{Copy, Remote, Moved, remote_recalled, recalled_over}
-use Rattle.crl_coherence.specs.Kept.{In, Given, Back, Freed, Pair, IsKept, asked_in, granted_in, recalled_in, yields_in, returned_in, released_in, Places, AskPlace, SectionFits, RecallFits, MarkFits, LeavingFits, HaveFits, OlderFits, HasVersion, Distinct, Once, ReleasesFit, StandsFreed, limit}
+use Rattle.crl_protocol.specs.Places.{Took, picks}
+use Rattle.crl_protocol.specs.Remote.{Copy, Remote, remote_recalled, recalled_over}
+use Rattle.crl_coherence.specs.Kept.{In, Pair, IsKept, returned_in, RecallFits, StandsFreed, limit}
 use Rattle.crl_coherence.proofs.Remote.{OnlyReturns, moved, took_in, took_self, took_other, freed_moves, returns_moved}
 
 -- the pair after a recall of version v is taken out and handled

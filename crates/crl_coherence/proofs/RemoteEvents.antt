@@ -15,8 +15,8 @@ use Rattle.crl_protocol.specs.Remote.{Remote, Moved, new_remote, remote_starts, 
 use Rattle.crl_coherence.specs.Region.{Flying, Region, sent_by, at_remote, flies, IsBlank, MayStart}
 use Rattle.crl_coherence.specs.Kept.{Given, Pair, IsKept, pair_of, asked_in, granted_in, recalled_in, yields_in, returned_in, released_in, queued_of}
 use Rattle.crl_coherence.specs.Coherent.{IsLoose, IsCoherent}
-use Rattle.crl_coherence.proofs.Lists.{same_or, picks-append, took_some, took_none, took_all}
-use Rattle.crl_coherence.proofs.Mails.{mails, pair_at, kept_to, kept_from, kept_at, mails-append, mails-sent_by, mails-sent_other, took_mail, took_mail_other, set_here, set_there}
+use Rattle.crl_coherence.proofs.Lists.{same_or, took_some, took_none, took_all}
+use Rattle.crl_coherence.proofs.Mails.{mails, pair_at, kept_to, kept_from, kept_at, lengthened-at, mails-append, mails-sent_by, mails-sent_other, took_mail, took_mail_other, set_here, set_there}
 use Rattle.crl_coherence.proofs.Facts.{grants_one, writer_listed}
 use Rattle.crl_coherence.proofs.Opens.{own_shut}
 use Rattle.crl_coherence.proofs.Remote.{moved}
@@ -26,16 +26,7 @@ use Rattle.crl_coherence.proofs.RemoteSections.{start_kept, flush_kept, end_read
 
 -- a pair after a step of its node, by its mail
 moved-at : (n : ℕ) (o : Option Listing) (q : List Asked) (ms : List Mail) (r : Remote) (s : Moved) → moved n s (pair_at n o q ms r) ≡ pair_at n o q (ms ++ s.posts) s.remote
-moved-at n o q ms r s = λ i. record {
-  listed = o;
-  pending = (append_assoc q (picks (asked_in n) ms) (picks (asked_in n) s.posts) ∙ ap (λ l. q ++ l) (sym (picks-append (asked_in n) ms s.posts))) i;
-  grants = sym (picks-append granted_in ms s.posts) i;
-  recalls = sym (picks-append recalled_in ms s.posts) i;
-  yields = sym (picks-append yields_in ms s.posts) i;
-  returns = sym (picks-append returned_in ms s.posts) i;
-  releases = sym (picks-append released_in ms s.posts) i;
-  remote = s.remote;
-}
+moved-at n o q ms r s = lengthened-at n o q ms s.posts r s.remote
 
 -- and after a message of each kind is taken out
 recall_out : (n v : ℕ) (o : Option Listing) (q : List Asked) (ms ks : List Mail) (r : Remote) → Took (Recall v) ms ks → record (pair_at n o q ms r) { recalls = picks recalled_in ks } ≡ pair_at n o q ks r

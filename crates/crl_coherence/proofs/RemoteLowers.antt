@@ -1,18 +1,14 @@
 -- An exclusive copy becomes a shared one, and a copy goes back: what holds of the home and the node is kept.
-use Rattle.std.proofs.Common.{ℕ, List, [], ◌∷◌, ◌++◌, Bool, true, false, not, ◌&&◌, ◌||◌, ◌+◌, ◌≡◌, ◌≢◌, ◌==◌, ◌≤◌, ◌<◌, ◌⊎◌, length, refl, arith, inl, inr, sym, ap, append-nil, subst}
-use Rattle.std.specs.Prelude.{nat_lt}
+use Rattle.std.proofs.Common.{ℕ, List, [], ◌∷◌, ◌++◌, Bool, true, false, ◌≡◌, ◌⊎◌, length, refl, arith, inl, inr, subst}
 use Rattle.std.specs.declared.option.Option.{Option}
 use Rattle.std.specs.declared.option.Option.TheVariants.{None, Some}
 use Rattle.crl_model.specs.declared.directory.Section.{Section}
-use Rattle.crl_model.specs.declared.directory.Section.TheVariants.{Closed, Reading, Writing}
-use Rattle.crl_model.specs.declared.directory.Mark.TheVariants.{Plain, Recalled, Yielding}
+use Rattle.crl_model.specs.declared.directory.Section.TheVariants.{Closed}
 use Rattle.crl_model.specs.declared.directory.Listing.{Listing}
-use Rattle.crl_model.specs.declared.directory.Asked.{Asked}
-use Rattle.crl_model.specs.declared.directory.Due.{Due}
-use Rattle.crl_protocol.specs.Places.{Took, here, there, picks}
-use Rattle.crl_protocol.specs.Remote.{Copy, Remote, Moved, bytes_back, lowers, without_copy}
-use Rattle.crl_coherence.specs.Kept.{In, Given, Back, Freed, Pair, IsKept, Places, AskPlace, SectionFits, RecallFits, MarkFits, LeavingFits, HaveFits, OlderFits, HasVersion, Distinct, Once, ReleasesFit, StandsFreed, AreSized, limit}
-use Rattle.crl_coherence.proofs.Remote.{moved, took_in, took_self, took_other, freed_moves}
+use Rattle.crl_protocol.specs.Places.{Took, here, there}
+use Rattle.crl_protocol.specs.Remote.{Copy, bytes_back, without_copy}
+use Rattle.crl_coherence.specs.Kept.{In, Back, Freed, Pair, IsKept, SectionFits, RecallFits, HasVersion, Distinct, Once, ReleasesFit, StandsFreed, AreSized}
+use Rattle.crl_coherence.proofs.Remote.{took_in, took_self, freed_moves}
 
 pub has_append : (v : ℕ) (xs ys : List Freed) → HasVersion v (xs ++ ys) → HasVersion v xs ⊎ HasVersion v ys
 has_append v [] ys i = inr i

@@ -1,19 +1,16 @@
 -- Events at a node that isn't the home keep what holds of the two: its sections start and end, its copy is
 -- flushed, and it maps the region anew.
-use Rattle.std.proofs.Common.{ℕ, List, [], ◌∷◌, ◌++◌, Bool, true, false, not, ◌&&◌, ◌||◌, if◌then◌else◌, ◌+◌, ◌-◌, ◌≡◌, ◌≢◌, ◌==◌, ◌≤◌, ◌<◌, ◌⊎◌, length, refl, arith, inl, inr, sym, ap, append-nil, subst, ◌∙◌}
-use Rattle.std.specs.Prelude.{nat_lt}
+use Rattle.std.proofs.Common.{ℕ, List, [], ◌∷◌, ◌++◌, Bool, true, false, ◌&&◌, if◌then◌else◌, ◌+◌, ◌≡◌, ◌≢◌, length, refl, arith, inr, sym, subst, ◌∙◌}
 use Rattle.std.specs.declared.option.Option.{Option}
 use Rattle.std.specs.declared.option.Option.TheVariants.{None, Some}
 use Rattle.crl_model.specs.declared.directory.Section.{Section}
 use Rattle.crl_model.specs.declared.directory.Section.TheVariants.{Closed, Reading, Writing}
-use Rattle.crl_model.specs.declared.directory.Mark.TheVariants.{Plain, Recalled, Yielding}
 use Rattle.crl_model.specs.declared.directory.Listing.{Listing}
-use Rattle.crl_model.specs.declared.directory.Asked.{Asked}
 use Rattle.crl_protocol.specs.Home.{one_more, one_less}
-use Rattle.crl_protocol.specs.Remote.{Copy, Remote, Moved, quiet, new_remote, gives_back, lowers, opens, asks, starts_over, leaves_over, lowers_over, flushes_over, is_closed, written, remote_starts, remote_ends_read, remote_ends_write, remote_flushes}
+use Rattle.crl_protocol.specs.Remote.{Copy, quiet, new_remote, gives_back, lowers, opens, asks, starts_over, leaves_over, lowers_over, flushes_over, is_closed, written, remote_starts, remote_ends_read, remote_ends_write, remote_flushes}
 use Rattle.crl_coherence.specs.Region.{IsBlank, MayStart}
-use Rattle.crl_coherence.specs.Kept.{In, Given, Back, Freed, Pair, IsKept, Places, AskPlace, SectionFits, RecallFits, MarkFits, LeavingFits, HaveFits, OlderFits, HasVersion, Distinct, Once, ReleasesFit, StandsFreed, AreSized, limit}
-use Rattle.crl_coherence.proofs.Remote.{moved, freed_moves, freed_array, quiet_moved, return_moved, release_moved, ask_moved}
+use Rattle.crl_coherence.specs.Kept.{In, Pair, IsKept, SectionFits, RecallFits, LeavingFits}
+use Rattle.crl_coherence.proofs.Remote.{moved, freed_array, quiet_moved, return_moved, release_moved, ask_moved}
 use Rattle.crl_coherence.proofs.RemoteLowers.{lower_kept, give_kept}
 
 -- a section opens or ends, and nothing else changes
@@ -148,9 +145,6 @@ pub end_read_kept : (last n count : ℕ) (array : List ℕ) (p : Pair) → p.rem
 unfolding remote_ends_read
 end_read_kept last n count array p reading h = go (is_closed (one_less p.remote.here) && p.remote.leaving) refl
   where
-    s : Section
-    s = one_less p.remote.here
-
     free : p.remote.asking ≡ None
     free = let k = h.section in grind arith
 

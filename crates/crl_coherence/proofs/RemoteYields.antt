@@ -1,19 +1,15 @@
 -- Events at a node that isn't the home keep what holds of the two: a yield and a grant that come.
-use Rattle.std.proofs.Common.{ℕ, List, [], ◌∷◌, ◌++◌, Bool, true, false, not, ◌&&◌, ◌||◌, ◌+◌, ◌≡◌, ◌≢◌, ◌==◌, ◌≤◌, ◌<◌, ◌⊎◌, length, refl, arith, inl, inr, sym, ap, append-nil, subst, ◌∙◌}
-use Rattle.std.specs.Prelude.{nat_lt}
+use Rattle.std.proofs.Common.{ℕ, List, [], ◌∷◌, Bool, true, false, ◌&&◌, ◌≡◌, ◌≢◌, ◌==◌, ◌≤◌, ◌⊎◌, refl, arith, inl, inr, append-nil}
 use Rattle.std.specs.declared.option.Option.{Option}
 use Rattle.std.specs.declared.option.Option.TheVariants.{None, Some}
 use Rattle.crl_model.specs.declared.directory.Section.{Section}
 use Rattle.crl_model.specs.declared.directory.Section.TheVariants.{Closed, Reading, Writing}
 use Rattle.crl_model.specs.declared.directory.Listing.{Listing}
-use Rattle.crl_model.specs.declared.directory.Asked.{Asked}
-use Rattle.crl_model.specs.declared.directory.Due.{Due}
-use Rattle.crl_protocol.specs.Places.{Took, here, there, picks}
-use Rattle.crl_protocol.specs.Mail.{Mail}
-use Rattle.crl_protocol.specs.Remote.{Copy, Remote, Moved, lowers, yields_in, yields_over, remote_yields, remote_granted}
-use Rattle.crl_coherence.specs.Kept.{In, Given, Back, Freed, Pair, IsKept, Places, AskPlace, SectionFits, RecallFits, MarkFits, LeavingFits, HaveFits, OlderFits, HasVersion, Distinct, Once, ReleasesFit, StandsFreed, limit}
+use Rattle.crl_protocol.specs.Places.{Took}
+use Rattle.crl_protocol.specs.Remote.{Copy, Remote, lowers, yields_in, yields_over, remote_yields, remote_granted}
+use Rattle.crl_coherence.specs.Kept.{In, Given, Pair, IsKept, Places, SectionFits, RecallFits, StandsFreed, limit}
 use Rattle.crl_coherence.proofs.Remote.{moved, took_in, took_self, took_other, freed_moves, quiet_moved, release_moved}
-use Rattle.crl_coherence.proofs.RemoteLowers.{once_took, lowered_pair, lower_kept}
+use Rattle.crl_coherence.proofs.RemoteLowers.{once_took, lower_kept}
 
 -- the pair after a yield of version v is taken out and handled
 abbrev pub yielded : ℕ → ℕ → List ℕ → Pair → Pair
@@ -93,23 +89,20 @@ either v r = go r.copy refl
 
 pub yield_kept : (last n v : ℕ) (array : List ℕ) (p : Pair) (rest : List ℕ) → Took v p.yields rest → IsKept last array p → IsKept last array (yielded n v rest p)
 unfolding remote_yields
-yield_kept last n v array p rest took h = go (either v p.remote) (yields_over v p.remote.copy p.remote) refl
+yield_kept last n v array p rest took h = elim (either v p.remote) [ inl none ↦ quiet none | inr w ↦ lowered_now w.0 w.1 w.2 w.3 w.4 w.5 ]
   where
+    quiet : (yields_over v p.remote.copy p.remote).posts ≡ [] → IsKept last array (moved n (yields_over v p.remote.copy p.remote) (record p { yields = rest }))
+    quiet none = rw none (simp append-nil (noted_kept last v array p rest took none h))
+
     fits : {c : Copy} → p.remote.copy ≡ Some c → p.remote.here ≢ Writing → SectionFits p.remote.here (Some (record c { exclusive = false })) p.remote.asking
     fits copy reading = let k = h.section in grind arith
 
-    still : (posts : List Mail) → posts ≡ [] → (s : Moved) → s.posts ≡ posts → IsKept last array (record p { yields = rest; remote = s.remote }) → IsKept last array (moved n s (record p { yields = rest }))
-    still posts e s is k = rw (is ∙ e) (simp append-nil k)
-
-    lowered_now : (c : Copy) → p.remote.copy ≡ Some c → c.exclusive ≡ true → c.version ≡ v → p.remote.here ≢ Writing → yields_over v p.remote.copy p.remote ≡ lowers c p.remote → IsKept last array (moved n (yields_over v p.remote.copy p.remote) (record p { yields = rest }))
+    lowered_now : (c : Copy) → p.remote.copy ≡ Some c → c.exclusive ≡ true → c.version ≡ v → p.remote.here ≢ Writing → yields_over v p.remote.copy p.remote ≡ lowers c p.remote
+        → IsKept last array (moved n (yields_over v p.remote.copy p.remote) (record p { yields = rest }))
     lowered_now c copy exclusive version reading same =
         let o = once_took took h.once in
         rw same (release_moved last n c.version array (record p { yields = rest }) (lowers c p.remote).remote c.bytes false
-            (lower_kept last array p c p.remote.here rest copy exclusive (fits copy reading) o.0 (inl (rw version (took_self took))) (λ w k. took_in w took k) (rw version o.1) h))
-
-    go : ((yields_over v p.remote.copy p.remote).posts ≡ []) ⊎ Lowers v p.remote → (s : Moved) → yields_over v p.remote.copy p.remote ≡ s → IsKept last array (moved n (yields_over v p.remote.copy p.remote) (record p { yields = rest }))
-    go (inl none) s is = still [] refl (yields_over v p.remote.copy p.remote) none (noted_kept last v array p rest took none h)
-    go (inr w) s is = lowered_now w.0 w.1 w.2 w.3 w.4 w.5
+        (lower_kept last array p c p.remote.here rest copy exclusive (fits copy reading) o.0 (inl (rw version (took_self took))) (λ w k. took_in w took k) (rw version o.1) h))
 
 -- a grant is taken out and handled
 abbrev pub granted : ℕ → Given → Pair → Pair
