@@ -110,7 +110,7 @@ put_listed m n ls o l e = elim (same_or m n) [
 left_listed : (m n : ℕ) (ls : List (Option Listing)) (l : Listing) → at m (put n None ls) ≡ Some l → (m ≢ n) × (at m ls ≡ Some l)
 left_listed m n ls l e = elim (put_listed m n ls None l e) [ inl u ↦ (let v = u.1 in cc) | inr u ↦ u ]
 
-return_loose : (me : ℕ) (g : Region) (n version : ℕ) (bytes : Option (List ℕ)) (rest : List Flying) → n ≢ me → Took (flies n (Return version bytes)) g.flight rest → IsCoherent me g
+pub return_loose : (me : ℕ) (g : Region) (n version : ℕ) (bytes : Option (List ℕ)) (rest : List Flying) → n ≢ me → Took (flies n (Return version bytes)) g.flight rest → IsCoherent me g
     → IsLoose me g.array (record g.home { bytes = bytes_after bytes g.home.bytes; listed = put n None g.home.listed }) g.home.queue g.remotes rest
 return_loose me g n version bytes rest other took k =
     record {
@@ -254,7 +254,7 @@ module _ (me : ℕ) (g : Region) (n version : ℕ) (bytes : List ℕ) (rest : Li
         marks_then : (m : ℕ) (l : Listing) → at m table ≡ Some l → l.mark ≢ Plain → HeadBlocks m l g.home.queue
         marks_then m l e r = elim (listed_then m l e) [ inl u ↦ absurd (r u.2) | inr u ↦ k.loose.recalled m l u.1 r ]
 
-        lowered_loose : IsLoose me g.array (record g.home { bytes = bytes; listed = put n (Some (lowered version)) g.home.listed }) g.home.queue g.remotes rest
+        pub lowered_loose : IsLoose me g.array (record g.home { bytes = bytes; listed = put n (Some (lowered version)) g.home.listed }) g.home.queue g.remotes rest
         unfolding table
         lowered_loose =
             record {

@@ -1,7 +1,9 @@
 mod Calls
+mod Events
 mod Facts
 mod Fits
 mod HomeEvents
+mod Keeps
 mod Lists
 mod Mails
 mod Opens

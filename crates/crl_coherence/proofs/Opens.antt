@@ -23,10 +23,10 @@ use Rattle.crl_coherence.proofs.Facts.{grants_one, reader_listed, writer_listed,
 abbrev pub open_at : ℕ → Section → (ℕ → Remote) → ℕ → Section
 open_at me s remotes n = if n == me then s else (remotes n).here
 
-open_here : (me n : ℕ) (s : Section) (remotes : ℕ → Remote) → n ≡ me → open_at me s remotes n ≡ s
+pub open_here : (me n : ℕ) (s : Section) (remotes : ℕ → Remote) → n ≡ me → open_at me s remotes n ≡ s
 open_here me n s remotes e = grind arith
 
-open_there : (me n : ℕ) (s : Section) (remotes : ℕ → Remote) → n ≢ me → open_at me s remotes n ≡ (remotes n).here
+pub open_there : (me n : ℕ) (s : Section) (remotes : ℕ → Remote) → n ≢ me → open_at me s remotes n ≡ (remotes n).here
 open_there me n s remotes e = grind arith
 
 pub all_read : (me : ℕ) (s : Section) (remotes : ℕ → Remote) → s ≢ Writing → ((n : ℕ) → n ≢ me → (remotes n).here ≢ Writing) → MayRead (open_at me s remotes)
