@@ -1,15 +1,14 @@
 -- Which copies stand in the way of an ask, and how they are called.
-use Rattle.std.proofs.Common.{ℕ, zero, suc, ◌+◌, List, [], ◌∷◌, ◌++◌, map, Bool, true, false, not, ◌&&◌, ◌||◌, ◌≡◌, ◌≢◌, ◌==◌, ◌≤◌, ◌<◌, ◌⊎◌, if◌then◌else◌, refl, arith, inl, inr, sym, ap, ap₂, subst, ◌∙◌, append-nil, add-zero}
+use Rattle.std.proofs.Common.{ℕ, zero, suc, ◌+◌, List, [], ◌∷◌, Bool, true, false, not, ◌&&◌, ◌≡◌, ◌<◌, if◌then◌else◌, refl, arith, ap, ap₂, ◌∙◌, add-zero}
 use Rattle.std.specs.declared.option.Option.{Option}
 use Rattle.std.specs.declared.option.Option.TheVariants.{None, Some}
 use Rattle.crl_model.specs.declared.directory.Mark.{Mark}
-use Rattle.crl_model.specs.declared.directory.Mark.TheVariants.{Plain, Recalled, Yielding}
 use Rattle.crl_model.specs.declared.directory.Listing.{Listing}
 use Rattle.crl_model.specs.declared.directory.Asked.{Asked}
-use Rattle.crl_protocol.specs.Places.{at, picks}
-use Rattle.crl_protocol.specs.Mail.{Mail, Recall, Yield, Letter}
+use Rattle.crl_protocol.specs.Places.{at}
+use Rattle.crl_protocol.specs.Mail.{Mail, Recall, Yield}
 use Rattle.crl_protocol.specs.Home.{blocks, is_clear, is_called, mark_for, call_for, marked, calls}
-use Rattle.crl_coherence.specs.Region.{Flying, sent, flies}
+use Rattle.crl_coherence.specs.Region.{sent, flies}
 use Rattle.crl_coherence.proofs.Lists.{picked_none, picked_some}
 use Rattle.crl_coherence.proofs.Pairs.{mark, called}
 use Rattle.crl_coherence.proofs.Mails.{mail_of, mails, mail_here, mail_other}

@@ -1,15 +1,11 @@
 -- Each event of a region keeps what holds of it, and so does each run.
-use Rattle.std.proofs.Common.{ℕ, zero, suc, ◌+◌, List, [], ◌∷◌, ◌++◌, Bool, true, false, ◌≡◌, ◌≢◌, ◌≤◌, ◌<◌, ◌⊎◌, length, replicate, refl, arith, inl, inr, sym, ap, subst, ◌∙◌}
+use Rattle.std.proofs.Common.{ℕ, List, [], replicate, refl, arith, inl, inr, sym, subst, ◌∙◌}
 use Rattle.std.proofs.lemmas.List.{length-replicate}
-use Rattle.std.specs.declared.option.Option.{Option}
-use Rattle.std.specs.declared.option.Option.TheVariants.{None, Some}
-use Rattle.crl_model.specs.declared.directory.Listing.{Listing}
 use Rattle.crl_protocol.specs.Places.{at, picks, Took}
-use Rattle.crl_protocol.specs.Home.{new_home}
 use Rattle.crl_protocol.specs.Remote.{new_remote}
 use Rattle.crl_coherence.specs.Region.{Flying, Region, flies, Happens, ask_comes, return_comes, release_comes, home_start, home_end_read, home_end_write, grant_comes, recall_comes, yield_comes, start, end_read, end_write, flush, appears, carry, Run, done, next}
 use Rattle.crl_coherence.specs.Kept.{IsKept, pair_of, queued_of}
-use Rattle.crl_coherence.specs.Coherent.{IsLoose, IsCoherent, created}
+use Rattle.crl_coherence.specs.Coherent.{IsCoherent, created}
 use Rattle.crl_coherence.proofs.Lists.{same_or}
 use Rattle.crl_coherence.proofs.Mails.{mails, pair_at, kept_to, kept_from, kept_at, took_mail, took_mail_other}
 use Rattle.crl_coherence.proofs.PairsCarried.{carried_kept}

@@ -1,16 +1,15 @@
 -- What follows for one node from what holds of it and the home.
-use Rattle.std.proofs.Common.{ℕ, zero, suc, ◌+◌, List, [], ◌∷◌, ◌++◌, Bool, true, false, not, ◌&&◌, ◌||◌, ◌≡◌, ◌≢◌, ◌==◌, ◌≤◌, ◌<◌, ◌⊎◌, if◌then◌else◌, length, refl, arith, inl, inr, sym, ap, subst, ◌∙◌}
+use Rattle.std.proofs.Common.{ℕ, List, [], ◌∷◌, Bool, true, false, ◌≡◌, ◌≢◌, ◌⊎◌, refl, arith}
 use Rattle.std.specs.declared.option.Option.{Option}
 use Rattle.std.specs.declared.option.Option.TheVariants.{None, Some}
 use Rattle.crl_model.specs.declared.directory.Section.{Section}
 use Rattle.crl_model.specs.declared.directory.Section.TheVariants.{Closed, Reading, Writing}
 use Rattle.crl_model.specs.declared.directory.Listing.{Listing}
-use Rattle.crl_model.specs.declared.directory.Asked.{Asked}
 use Rattle.crl_model.specs.declared.message.Granted.{Granted}
 use Rattle.crl_model.specs.declared.message.Granted.TheVariants.{Shared, Exclusive, Upgrade}
-use Rattle.crl_protocol.specs.Remote.{Copy, Remote, granted_copy, asks_to_write, asks_to_read, is_shared, takes_grant}
+use Rattle.crl_protocol.specs.Remote.{Copy, granted_copy, takes_grant}
 use Rattle.crl_protocol.specs.Sections.{is_writing}
-use Rattle.crl_coherence.specs.Kept.{Given, Back, Freed, Pair, IsKept, Places, AskPlace, SectionFits, FitsGrant, FitsUpgrade, FitsAsking}
+use Rattle.crl_coherence.specs.Kept.{Given, Back, Pair, IsKept}
 use Rattle.crl_coherence.proofs.Lists.{NoTwo}
 
 -- of each kind of message at most one is under way

@@ -1,21 +1,22 @@
 -- Each message that comes fits.
-use Rattle.std.proofs.Common.{ℕ, zero, suc, ◌+◌, List, [], ◌∷◌, ◌++◌, Bool, true, false, not, ◌&&◌, ◌||◌, ◌≡◌, ◌≢◌, ◌==◌, ◌≤◌, ◌<◌, ◌⊎◌, if◌then◌else◌, length, refl, arith, inl, inr, sym, ap, subst, ◌∙◌}
+use Rattle.std.proofs.Common.{ℕ, List, [], ◌∷◌, Bool, true, false, ◌&&◌, ◌||◌, ◌≡◌, ◌≢◌, ◌==◌, ◌⊎◌, if◌then◌else◌, length, refl, arith}
 use Rattle.std.specs.declared.option.Option.{Option}
 use Rattle.std.specs.declared.option.Option.TheVariants.{None, Some}
 use Rattle.crl_model.specs.declared.directory.Listing.{Listing}
 use Rattle.crl_model.specs.declared.directory.Asked.{Asked}
 use Rattle.crl_model.specs.declared.message.Granted.{Granted}
-use Rattle.crl_protocol.specs.Places.{at, picks, Took, here, there}
-use Rattle.crl_protocol.specs.Mail.{Mail, Ask, Grant, Return, Release}
-use Rattle.crl_protocol.specs.Home.{Home, is_listed, bytes_fit, takes_return, takes_release}
+use Rattle.crl_protocol.specs.Places.{at, picks, Took}
+use Rattle.crl_protocol.specs.Mail.{Ask, Grant, Return, Release}
+use Rattle.crl_protocol.specs.Home.{is_listed, bytes_fit, takes_return, takes_release}
 use Rattle.crl_protocol.specs.Remote.{takes_grant}
 use Rattle.crl_protocol.specs.Handlers.{is_queued}
 use Rattle.crl_coherence.specs.Region.{Flying, Region, flies}
-use Rattle.crl_coherence.specs.Kept.{Given, Back, Freed, Pair, IsKept, AreSized, pair_of, of_node, asked_in, returned_in, released_in, queued_of}
+use Rattle.crl_coherence.specs.Kept.{pair_of, of_node, asked_in, returned_in, released_in, queued_of}
 use Rattle.crl_coherence.specs.Coherent.{IsCoherent}
 use Rattle.crl_coherence.proofs.Lists.{took_some, took_all, took_right}
 use Rattle.crl_coherence.proofs.Facts.{returns_one, pending_one, grant_fits, return_listed}
 use Rattle.crl_coherence.proofs.Opens.{only_grant}
+use Rattle.crl_coherence.proofs.Pairs.{release_size}
 
 pub fits_grant : (me : ℕ) (g : Region) (n version : ℕ) (granted : Granted) (rest : List Flying) → IsCoherent me g → n ≢ me → Took (flies n (Grant version granted)) g.flight rest → takes_grant granted (g.remotes n) ≡ true
 fits_grant me g n version granted rest k other took =
@@ -47,13 +48,10 @@ fits_return me g n version bytes rest k other took =
 pub release_found : (n version : ℕ) (bytes : List ℕ) → of_node n released_in (flies n (Release version bytes)) ≡ Some (record { version = version; bytes = bytes })
 release_found n version bytes = grind arith
 
-sized_took : {f : Freed} {xs ys : List Freed} (size : ℕ) → Took f xs ys → AreSized size xs → length f.bytes ≡ size
-sized_took size here s = s.0
-sized_took size (there t) s = sized_took size t s.1
-
-pub release_sized : (me : ℕ) (g : Region) (n version : ℕ) (bytes : List ℕ) (rest : List Flying) → IsCoherent me g → n ≢ me → Took (flies n (Release version bytes)) g.flight rest → length bytes ≡ length g.array
+release_sized : (me : ℕ) (g : Region) (n version : ℕ) (bytes : List ℕ) (rest : List Flying) → IsCoherent me g → n ≢ me → Took (flies n (Release version bytes)) g.flight rest → length bytes ≡ length g.array
 release_sized me g n version bytes rest k other took =
-    sized_took (length g.array) (took_some (of_node n released_in) took (record { version = version; bytes = bytes }) (release_found n version bytes)) (k.loose.pairs n other).sized
+    release_size g.home.last g.array (pair_of g.home.listed g.home.queue g.remotes g.flight n) (record { version = version; bytes = bytes }) (picks (of_node n released_in) rest)
+    (took_some (of_node n released_in) took (record { version = version; bytes = bytes }) (release_found n version bytes)) (k.loose.pairs n other)
 
 pub fits_release : (me : ℕ) (g : Region) (n version : ℕ) (bytes : List ℕ) (rest : List Flying) → IsCoherent me g → n ≢ me → Took (flies n (Release version bytes)) g.flight rest → takes_release bytes g.home ≡ true
 fits_release me g n version bytes rest k other took = let u = release_sized me g n version bytes rest k other took in let v = k.loose.size in grind arith

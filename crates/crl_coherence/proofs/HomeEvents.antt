@@ -1,5 +1,5 @@
 -- The events of the home keep what holds of the region.
-use Rattle.std.proofs.Common.{ℕ, zero, suc, ◌+◌, List, [], ◌∷◌, ◌++◌, Bool, true, false, not, ◌&&◌, ◌||◌, ◌≡◌, ◌≢◌, ◌==◌, ◌≤◌, ◌<◌, ◌⊎◌, if◌then◌else◌, length, refl, arith, inl, inr, sym, ap, ap₂, subst, ◌∙◌, append-nil}
+use Rattle.std.proofs.Common.{ℕ, List, [], ◌∷◌, ◌++◌, Bool, true, false, ◌≡◌, ◌≢◌, ◌⊎◌, if◌then◌else◌, refl, arith, inl, inr, sym, ap, subst, ◌∙◌, append-nil}
 use Rattle.std.specs.declared.option.Option.{Option}
 use Rattle.std.specs.declared.option.Option.TheVariants.{None, Some}
 use Rattle.crl_model.specs.declared.directory.Section.{Section}
@@ -8,18 +8,17 @@ use Rattle.crl_model.specs.declared.directory.Mark.TheVariants.{Plain}
 use Rattle.crl_model.specs.declared.directory.Listing.{Listing}
 use Rattle.crl_model.specs.declared.directory.Asked.{Asked}
 use Rattle.crl_protocol.specs.Places.{at, put, picks, Took}
-use Rattle.crl_protocol.specs.Mail.{Mail, Ask, Grant, Recall, Yield, Return, Release}
-use Rattle.crl_protocol.specs.Home.{Home, Served, blocks, is_clear, is_servable, lets, is_empty, is_reading, one_more, one_less, own_ask, open_own, bytes_after, is_lowered, lowered, serve, home_asked, home_returned, home_released, home_starts, home_ends_read, home_ends_write}
+use Rattle.crl_protocol.specs.Mail.{Mail, Ask, Return, Release}
+use Rattle.crl_protocol.specs.Home.{Home, bytes_after, is_lowered, lowered, serve, home_asked, home_returned, home_released}
 use Rattle.crl_protocol.specs.Remote.{Remote}
-use Rattle.crl_coherence.specs.Region.{Flying, Region, sent, at_home, flies, MayStart, IsIdle}
-use Rattle.crl_coherence.specs.Kept.{Given, Back, Freed, Pair, IsKept, pair_of, of_node, asked_in, granted_in, recalled_in, yields_in, returned_in, released_in, queued_of}
-use Rattle.crl_coherence.specs.Coherent.{IsLoose, IsCoherent, HeadWaits, HeadBlocks, MineFits, OwnAsk}
+use Rattle.crl_coherence.specs.Region.{Flying, Region, at_home, flies}
+use Rattle.crl_coherence.specs.Kept.{IsKept, pair_of, of_node, asked_in, granted_in, recalled_in, yields_in, returned_in, released_in, queued_of}
+use Rattle.crl_coherence.specs.Coherent.{IsLoose, IsCoherent, HeadBlocks, MineFits, OwnAsk}
 use Rattle.crl_coherence.proofs.Lists.{at-put_same, at-put_other, same_or, took_some, took_none, took_all, took_right}
 use Rattle.crl_coherence.proofs.Mails.{mails, pair_at, kept_to, kept_from, kept_at, took_mail, took_mail_other}
-use Rattle.crl_coherence.proofs.Facts.{returns_one, pending_one, section_closed}
+use Rattle.crl_coherence.proofs.Facts.{returns_one, pending_one}
 use Rattle.crl_coherence.proofs.Fits.{return_at, release_found}
 use Rattle.crl_coherence.proofs.Pairs.{returned_kept, lowered_kept, stale_kept, release_bytes}
-use Rattle.crl_coherence.proofs.RemoteSections.{other_array}
 use Rattle.crl_coherence.proofs.Serve.{last_here, last_other}
 use Rattle.crl_coherence.proofs.Rounds.{serve_kept}
 

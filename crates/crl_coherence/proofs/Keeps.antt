@@ -1,16 +1,14 @@
 -- While a section is open the array stays, and what the home opens while it serves shows it.
-use Rattle.std.proofs.Common.{ℕ, zero, suc, ◌+◌, List, [], ◌∷◌, ◌++◌, Bool, true, false, ◌≡◌, ◌≢◌, ◌==◌, ◌≤◌, ◌<◌, ◌⊎◌, if◌then◌else◌, length, refl, arith, inl, inr, sym, ap, subst, ◌∙◌}
+use Rattle.std.proofs.Common.{ℕ, List, [], Bool, true, false, ◌≡◌, ◌≢◌, ◌⊎◌, if◌then◌else◌, refl, inl, inr, sym, ap, subst, ◌∙◌}
 use Rattle.std.specs.declared.option.Option.{Option}
 use Rattle.std.specs.declared.option.Option.TheVariants.{None, Some}
-use Rattle.crl_model.specs.declared.directory.Section.{Section}
-use Rattle.crl_model.specs.declared.directory.Section.TheVariants.{Closed, Reading, Writing}
+use Rattle.crl_model.specs.declared.directory.Section.TheVariants.{Closed, Writing}
 use Rattle.crl_model.specs.declared.directory.Listing.{Listing}
-use Rattle.crl_model.specs.declared.directory.Asked.{Asked}
 use Rattle.crl_model.specs.Names.{at_node}
 use Rattle.crl_protocol.specs.Places.{at, put, Took}
 use Rattle.crl_protocol.specs.Mail.{Return, Release}
-use Rattle.crl_protocol.specs.Home.{Home, Served, bytes_after, is_lowered, lowered, serve, home_returned, home_released, home_ends_write}
-use Rattle.crl_protocol.specs.Remote.{Copy, Remote, Moved, written, leaves_over, lowers_over, quiet, remote_ends_write}
+use Rattle.crl_protocol.specs.Home.{Home, bytes_after, is_lowered, lowered, serve, home_returned, home_released, home_ends_write}
+use Rattle.crl_protocol.specs.Remote.{Copy, Remote, written, leaves_over, lowers_over, quiet, remote_ends_write}
 use Rattle.crl_coherence.specs.Region.{Flying, Region, flies, IsIdle, at_home, at_remote, Happens, ask_comes, return_comes, release_comes, home_start, home_end_read, home_end_write, grant_comes, recall_comes, yield_comes, start, end_read, end_write, flush, appears, carry}
 use Rattle.crl_coherence.specs.Coherent.{IsCoherent, MineFits, section_at}
 use Rattle.crl_coherence.proofs.Lists.{same_or}
@@ -52,9 +50,6 @@ write_shut : (bytes : List ℕ) (r : Remote) → (remote_ends_write bytes r).rem
 unfolding remote_ends_write
 write_shut bytes r = go r.leaving r.lowering
   where
-    after : Remote
-    after = record r { here = Closed; copy = written bytes r.copy }
-
     go : (b c : Bool) → (if b then leaves_over (written bytes r.copy) (record r { here = Closed; copy = written bytes r.copy })
         else if c then lowers_over (written bytes r.copy) (record r { here = Closed; copy = written bytes r.copy })
         else quiet (record r { here = Closed; copy = written bytes r.copy })).remote.here ≡ Closed

@@ -1,5 +1,5 @@
 -- Lemmas on tables from numbers, on what a selector finds, and on what is taken out of a list.
-use Rattle.std.proofs.Common.{ℕ, zero, suc, ◌+◌, List, [], ◌∷◌, ◌++◌, Bool, true, false, ◌≡◌, ◌≢◌, ◌==◌, ◌⊎◌, if◌then◌else◌, refl, arith, inl, inr, sym, ap, ap₂, subst, ◌∙◌, append_assoc, append-nil}
+use Rattle.std.proofs.Common.{ℕ, zero, suc, List, [], ◌∷◌, ◌++◌, ◌≡◌, ◌≢◌, ◌⊎◌, refl, arith, sym, ap, subst, ◌∙◌, append-nil}
 use Rattle.std.specs.declared.option.Option.{Option}
 use Rattle.std.specs.declared.option.Option.TheVariants.{None, Some}
 use Rattle.crl_protocol.specs.Places.{at, put, picks, Took, here, there}
@@ -46,9 +46,6 @@ more_none f xs x e = picks-append f xs (x ∷ []) ∙ (ap (λ l. picks f xs ++ l
 pub more_some : {A B : Type 0} (f : A → Option B) (xs : List A) (x : A) (y : B) → f x ≡ Some y → picks f (xs ++ x ∷ []) ≡ picks f xs ++ y ∷ []
 more_some f xs x y e = picks-append f xs (x ∷ []) ∙ ap (λ l. picks f xs ++ l) (picked_some (f x) y [] e)
 
-pub more_nothing : {A B : Type 0} (f : A → Option B) (xs ys : List A) → picks f ys ≡ [] → picks f (xs ++ ys) ≡ picks f xs
-more_nothing f xs ys e = picks-append f xs ys ∙ (ap (λ l. picks f xs ++ l) e ∙ append-nil (picks f xs))
-
 -- what a selector finds when something is taken out
 took_more : {B : Type 0} (o : Option B) {y : B} {xs ys : List B} → Took y xs ys → Took y (elim o [ None ↦ xs | Some z ↦ z ∷ xs ]) (elim o [ None ↦ ys | Some z ↦ z ∷ ys ])
 took_more None t = t
@@ -90,14 +87,6 @@ took_all x (y ∷ z ∷ xs) ys t n = absurd (n y z xs refl)
 -- one element put in at another place
 pub moved_one : {A : Type 0} (x : A) (xs ys zs : List A) → Took x xs zs → Took x ys zs → NoTwo xs → xs ≡ ys
 moved_one x xs ys zs t u n = let a = took_all x xs zs t n in a.0 ∙ sym (took_last u a.1)
-
-pub right_nil : {A : Type 0} (xs ys : List A) → xs ++ ys ≡ [] → ys ≡ []
-right_nil [] ys e = e
-right_nil (x ∷ xs) ys e = cc
-
-pub left_nil : {A : Type 0} (xs ys : List A) → xs ++ ys ≡ [] → xs ≡ []
-left_nil [] ys e = refl
-left_nil (x ∷ xs) ys e = cc
 
 -- the second part of a list without two elements
 pub right_one : {A : Type 0} (xs ys : List A) → NoTwo (xs ++ ys) → NoTwo ys

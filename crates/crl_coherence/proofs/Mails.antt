@@ -1,16 +1,16 @@
 -- The mail of one node among all that is under way, and what of it concerns the pair of home and node.
-use Rattle.std.proofs.Common.{ℕ, zero, suc, ◌+◌, List, [], ◌∷◌, ◌++◌, map, Bool, true, false, ◌≡◌, ◌≢◌, ◌==◌, ◌⊎◌, if◌then◌else◌, refl, arith, inl, inr, sym, ap, ap₂, subst, ◌∙◌, append_assoc, append-nil}
+use Rattle.std.proofs.Common.{ℕ, List, [], ◌∷◌, ◌++◌, Bool, true, false, ◌≡◌, ◌≢◌, ◌==◌, if◌then◌else◌, refl, arith, sym, ap, subst, ◌∙◌, append_assoc}
 use Rattle.std.specs.declared.option.Option.{Option}
 use Rattle.std.specs.declared.option.Option.TheVariants.{None, Some}
 use Rattle.crl_model.specs.declared.directory.Listing.{Listing}
 use Rattle.crl_model.specs.declared.directory.Asked.{Asked}
 use Rattle.crl_model.specs.Names.{at_node}
-use Rattle.crl_protocol.specs.Places.{at, picks, Took, here, there}
-use Rattle.crl_protocol.specs.Mail.{Mail, Ask, Grant, Recall, Yield, Return, Release, Letter}
+use Rattle.crl_protocol.specs.Places.{at, picks, Took}
+use Rattle.crl_protocol.specs.Mail.{Mail}
 use Rattle.crl_protocol.specs.Remote.{Remote}
-use Rattle.crl_coherence.specs.Region.{Flying, sent, sent_by, flies}
-use Rattle.crl_coherence.specs.Kept.{Given, Back, Freed, Pair, IsKept, pair_of, of_node, asked_in, granted_in, recalled_in, yields_in, returned_in, released_in, queued_of}
-use Rattle.crl_coherence.proofs.Lists.{picked_none, picked_some, picks-append, more_none, more_some, took_some, took_none}
+use Rattle.crl_coherence.specs.Region.{Flying, sent_by, flies}
+use Rattle.crl_coherence.specs.Kept.{Pair, IsKept, pair_of, of_node, asked_in, granted_in, recalled_in, yields_in, returned_in, released_in, queued_of}
+use Rattle.crl_coherence.proofs.Lists.{picked_none, picked_some, picks-append, took_some, took_none}
 
 -- the mail between the home and node n
 abbrev pub mail_of : ℕ → Flying → Option Mail

@@ -1,5 +1,5 @@
 -- A section that opens may open, and shows the array.
-use Rattle.std.proofs.Common.{ℕ, zero, suc, ◌+◌, List, [], ◌∷◌, ◌++◌, Bool, true, false, not, ◌&&◌, ◌||◌, ◌≡◌, ◌≢◌, ◌==◌, ◌≤◌, ◌<◌, ◌⊎◌, if◌then◌else◌, refl, arith, inl, inr, sym, ap, subst, ◌∙◌}
+use Rattle.std.proofs.Common.{ℕ, List, [], ◌∷◌, ◌++◌, Bool, true, false, not, ◌&&◌, ◌≡◌, ◌≢◌, ◌==◌, if◌then◌else◌, refl, arith, inl, inr, sym, subst, ◌∙◌}
 use Rattle.std.specs.declared.option.Option.{Option}
 use Rattle.std.specs.declared.option.Option.TheVariants.{None, Some}
 use Rattle.crl_model.specs.declared.directory.Section.{Section}
@@ -8,12 +8,11 @@ use Rattle.crl_model.specs.declared.directory.Listing.{Listing}
 use Rattle.crl_model.specs.declared.directory.Asked.{Asked}
 use Rattle.crl_model.specs.declared.message.Granted.{Granted}
 use Rattle.crl_protocol.specs.Places.{at, picks, Took}
-use Rattle.crl_protocol.specs.Mail.{Mail, Ask, Grant, Return, Release}
-use Rattle.crl_protocol.specs.Home.{Home, blocks, is_clear, is_servable, lets, is_empty, is_reading, one_more, own_ask, open_own, grant_next, grant_for, opening, posting, marked, calls, Served, serve, home_starts, home_asked}
-use Rattle.crl_protocol.specs.Remote.{Copy, Remote, Moved, starts_over, remote_starts, remote_granted}
-use Rattle.crl_protocol.specs.Sections.{is_writing}
-use Rattle.crl_coherence.specs.Region.{Flying, Region, flies, MayStart, IsIdle}
-use Rattle.crl_coherence.specs.Kept.{Given, Pair, IsKept, pair_of, of_node, granted_in}
+use Rattle.crl_protocol.specs.Mail.{Grant}
+use Rattle.crl_protocol.specs.Home.{Home, blocks, is_servable, lets, is_empty, is_reading, one_more, own_ask, open_own, grant_next, grant_for, opening, posting, marked, calls, Served, serve, home_starts, home_asked}
+use Rattle.crl_protocol.specs.Remote.{Copy, Remote, starts_over, remote_starts, remote_granted}
+use Rattle.crl_coherence.specs.Region.{Flying, Region, flies, MayStart}
+use Rattle.crl_coherence.specs.Kept.{pair_of, of_node, granted_in}
 use Rattle.crl_coherence.specs.Coherent.{IsLoose, IsCoherent, HeadWaits, MineFits, section_at, MayRead, MayWrite, MayOpen}
 use Rattle.crl_coherence.proofs.Lists.{same_or, took_some, took_all}
 use Rattle.crl_coherence.proofs.Calls.{clear_at}

@@ -1,5 +1,5 @@
 -- The home's own sections keep what holds of the region.
-use Rattle.std.proofs.Common.{ℕ, zero, suc, ◌+◌, ◌-◌, List, [], ◌∷◌, ◌++◌, Bool, true, false, not, ◌&&◌, ◌||◌, ◌≡◌, ◌≢◌, ◌==◌, ◌≤◌, ◌<◌, ◌⊎◌, if◌then◌else◌, length, refl, arith, inl, inr, sym, ap, ap₂, subst, ◌∙◌, append-nil}
+use Rattle.std.proofs.Common.{ℕ, ◌-◌, List, [], ◌∷◌, ◌++◌, Bool, true, false, not, ◌&&◌, ◌≡◌, ◌==◌, if◌then◌else◌, length, refl, sym, ap, subst, ◌∙◌, append-nil}
 use Rattle.std.specs.declared.option.Option.{Option}
 use Rattle.std.specs.declared.option.Option.TheVariants.{None, Some}
 use Rattle.crl_model.specs.declared.directory.Section.{Section}
@@ -7,9 +7,9 @@ use Rattle.crl_model.specs.declared.directory.Section.TheVariants.{Closed, Readi
 use Rattle.crl_model.specs.declared.directory.Listing.{Listing}
 use Rattle.crl_model.specs.declared.directory.Asked.{Asked}
 use Rattle.crl_protocol.specs.Places.{at, picks}
-use Rattle.crl_protocol.specs.Home.{Home, Served, blocks, is_clear, is_servable, lets, is_empty, is_reading, one_more, one_less, own_ask, open_own, serve, home_starts, home_ends_read, home_ends_write}
-use Rattle.crl_coherence.specs.Region.{Flying, Region, at_home, MayStart, IsIdle}
-use Rattle.crl_coherence.specs.Kept.{IsKept, pair_of, queued_of}
+use Rattle.crl_protocol.specs.Home.{Home, is_clear, is_servable, lets, is_empty, is_reading, one_more, one_less, own_ask, open_own, serve, home_starts, home_ends_read, home_ends_write}
+use Rattle.crl_coherence.specs.Region.{Region, at_home, MayStart, IsIdle}
+use Rattle.crl_coherence.specs.Kept.{pair_of, queued_of}
 use Rattle.crl_coherence.specs.Coherent.{IsLoose, IsCoherent, HeadWaits, MineFits, OwnAsk}
 use Rattle.crl_coherence.proofs.Mails.{mails, kept_to, kept_from, kept_at}
 use Rattle.crl_coherence.proofs.RemoteSections.{other_array}

@@ -1,24 +1,22 @@
 -- The events of a node that isn't the home keep what holds of the region.
-use Rattle.std.proofs.Common.{ℕ, zero, suc, ◌+◌, List, [], ◌∷◌, ◌++◌, Bool, true, false, ◌≡◌, ◌≢◌, ◌==◌, ◌≤◌, ◌<◌, ◌⊎◌, length, refl, arith, inl, inr, sym, ap, subst, ◌∙◌, append_assoc, append-nil}
+use Rattle.std.proofs.Common.{ℕ, ◌+◌, List, [], ◌++◌, Bool, true, ◌≡◌, ◌≢◌, length, refl, inl, inr, sym, ap, subst, ◌∙◌, append-nil}
 use Rattle.std.specs.declared.option.Option.{Option}
 use Rattle.std.specs.declared.option.Option.TheVariants.{None, Some}
-use Rattle.crl_model.specs.declared.directory.Section.{Section}
 use Rattle.crl_model.specs.declared.directory.Section.TheVariants.{Closed, Reading, Writing}
 use Rattle.crl_model.specs.declared.directory.Listing.{Listing}
 use Rattle.crl_model.specs.declared.directory.Asked.{Asked}
 use Rattle.crl_model.specs.declared.message.Granted.{Granted}
 use Rattle.crl_model.specs.Names.{at_node}
 use Rattle.crl_protocol.specs.Places.{at, picks, Took}
-use Rattle.crl_protocol.specs.Mail.{Mail, Ask, Grant, Recall, Yield, Return, Release}
+use Rattle.crl_protocol.specs.Mail.{Mail, Grant, Recall, Yield}
 use Rattle.crl_protocol.specs.Home.{Home}
 use Rattle.crl_protocol.specs.Remote.{Remote, Moved, new_remote, remote_starts, remote_granted, remote_recalled, remote_yields, remote_ends_read, remote_ends_write, remote_flushes}
 use Rattle.crl_coherence.specs.Region.{Flying, Region, sent_by, at_remote, flies, IsBlank, MayStart}
-use Rattle.crl_coherence.specs.Kept.{Given, Pair, IsKept, pair_of, asked_in, granted_in, recalled_in, yields_in, returned_in, released_in, queued_of}
-use Rattle.crl_coherence.specs.Coherent.{IsLoose, IsCoherent}
+use Rattle.crl_coherence.specs.Kept.{IsKept, pair_of, asked_in, granted_in, recalled_in, yields_in, returned_in, released_in, queued_of}
+use Rattle.crl_coherence.specs.Coherent.{IsCoherent}
 use Rattle.crl_coherence.proofs.Lists.{same_or, took_some, took_none, took_all}
 use Rattle.crl_coherence.proofs.Mails.{mails, pair_at, kept_to, kept_from, kept_at, lengthened-at, mails-append, mails-sent_by, mails-sent_other, took_mail, took_mail_other, set_here, set_there}
 use Rattle.crl_coherence.proofs.Facts.{grants_one, writer_listed}
-use Rattle.crl_coherence.proofs.Opens.{own_shut}
 use Rattle.crl_coherence.proofs.Remote.{moved}
 use Rattle.crl_coherence.proofs.RemoteCalls.{recall_kept}
 use Rattle.crl_coherence.proofs.RemoteYields.{yield_kept, grant_kept}

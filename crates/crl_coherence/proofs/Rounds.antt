@@ -1,5 +1,5 @@
 -- Serve keeps what holds of a region, over the whole queue.
-use Rattle.std.proofs.Common.{ℕ, zero, suc, ◌+◌, List, [], ◌∷◌, ◌++◌, map, Bool, true, false, not, ◌&&◌, ◌||◌, ◌≡◌, ◌≢◌, ◌==◌, ◌≤◌, ◌<◌, ◌⊎◌, if◌then◌else◌, length, refl, arith, inl, inr, sym, ap, ap₂, subst, ◌∙◌, append-nil, append_assoc}
+use Rattle.std.proofs.Common.{ℕ, List, [], ◌∷◌, ◌++◌, Bool, true, false, not, ◌&&◌, ◌≡◌, ◌≢◌, ◌==◌, if◌then◌else◌, refl, arith, sym, ap, subst, ◌∙◌, append-nil, append_assoc}
 use Rattle.std.specs.declared.option.Option.{Option}
 use Rattle.std.specs.declared.option.Option.TheVariants.{None, Some}
 use Rattle.crl_model.specs.declared.directory.Section.{Section}
@@ -10,17 +10,16 @@ use Rattle.crl_model.specs.declared.directory.Listing.{Listing}
 use Rattle.crl_model.specs.declared.directory.Asked.{Asked}
 use Rattle.crl_protocol.specs.Places.{at, picks}
 use Rattle.crl_protocol.specs.Mail.{Letter}
-use Rattle.crl_protocol.specs.Home.{Home, Served, blocks, is_clear, is_servable, lets, is_called, is_plain, mark_for, marked, calls, open_own, grant_next, grant_for, posting, opening, serve}
+use Rattle.crl_protocol.specs.Home.{Home, Served, blocks, is_servable, lets, is_called, is_plain, mark_for, marked, calls, open_own, grant_next, grant_for, posting, opening, serve}
 use Rattle.crl_protocol.specs.Remote.{Remote}
 use Rattle.crl_protocol.specs.Sections.{is_writing}
-use Rattle.crl_coherence.specs.Region.{Flying, sent, flies}
+use Rattle.crl_coherence.specs.Region.{Flying, sent}
 use Rattle.crl_coherence.specs.Kept.{IsKept, pair_of, queued_of}
 use Rattle.crl_coherence.specs.Coherent.{IsLoose, HeadWaits, HeadBlocks, OwnAsk, MayOpen}
-use Rattle.crl_coherence.proofs.Lists.{same_or}
 use Rattle.crl_coherence.proofs.Mails.{mails, kept_to, kept_from, kept_at, mails-append}
 use Rattle.crl_coherence.proofs.Calls.{at-marked, clear-marked, mails-calls}
-use Rattle.crl_coherence.proofs.Pairs.{mark, called}
-use Rattle.crl_coherence.proofs.Serve.{called_at, first_here, first_other, own_first, grant_loose, open_loose}
+use Rattle.crl_coherence.proofs.Pairs.{mark}
+use Rattle.crl_coherence.proofs.Serve.{called_at, first_here, first_other, grant_loose, open_loose}
 use Rattle.crl_coherence.proofs.Opens.{open_at, own_opens, own_bytes}
 
 -- a listing that was called or not
@@ -34,10 +33,6 @@ same_kind false m l = refl
 same_blocks : (b : Bool) (m : Mark) (n : ℕ) (l : Listing) (a : Asked) → blocks n (marked_if b m l) a ≡ blocks n l a
 same_blocks true m n l a = refl
 same_blocks false m n l a = refl
-
-mark_is : (b : Bool) (m : Mark) (l : Listing) → (b ≡ true) × ((marked_if b m l).mark ≡ m) ⊎ (b ≡ false) × ((marked_if b m l).mark ≡ l.mark)
-mark_is true m l = inl (refl, refl)
-mark_is false m l = inr (refl, refl)
 
 mark_plain : (a : Asked) → mark_for a ≢ Plain
 mark_plain a = go a.write

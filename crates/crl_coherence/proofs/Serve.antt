@@ -1,21 +1,19 @@
 -- Serve keeps what holds of a region, and leaves a head that waits.
-use Rattle.std.proofs.Common.{ℕ, zero, suc, ◌+◌, List, [], ◌∷◌, ◌++◌, map, Bool, true, false, not, ◌&&◌, ◌||◌, ◌≡◌, ◌≢◌, ◌==◌, ◌≤◌, ◌<◌, ◌⊎◌, if◌then◌else◌, length, refl, arith, inl, inr, sym, ap, ap₂, subst, ◌∙◌, append-nil, append_assoc}
+use Rattle.std.proofs.Common.{ℕ, ◌+◌, List, [], ◌∷◌, ◌++◌, true, false, ◌≡◌, ◌≢◌, ◌⊎◌, refl, arith, inl, inr, sym, ap, subst, ◌∙◌}
 use Rattle.std.specs.declared.option.Option.{Option}
 use Rattle.std.specs.declared.option.Option.TheVariants.{None, Some}
 use Rattle.crl_model.specs.declared.directory.Section.{Section}
-use Rattle.crl_model.specs.declared.directory.Section.TheVariants.{Closed, Reading, Writing}
 use Rattle.crl_model.specs.declared.directory.Mark.{Mark}
 use Rattle.crl_model.specs.declared.directory.Mark.TheVariants.{Plain, Recalled, Yielding}
 use Rattle.crl_model.specs.declared.directory.Listing.{Listing}
 use Rattle.crl_model.specs.declared.directory.Asked.{Asked}
-use Rattle.crl_model.specs.declared.message.Granted.{Granted}
-use Rattle.crl_protocol.specs.Places.{at, put, picks}
-use Rattle.crl_protocol.specs.Mail.{Mail, Ask, Grant, Recall, Yield, Letter}
-use Rattle.crl_protocol.specs.Home.{Home, Served, blocks, is_clear, is_servable, lets, is_called, is_plain, mark_for, marked, calls, granted_to, open_own, grant_next, grant_for, posting, opening, serve}
+use Rattle.crl_protocol.specs.Places.{at, picks}
+use Rattle.crl_protocol.specs.Mail.{Mail, Grant}
+use Rattle.crl_protocol.specs.Home.{Home, blocks, is_servable, granted_to, open_own, grant_next, grant_for}
 use Rattle.crl_protocol.specs.Remote.{Remote}
 use Rattle.crl_coherence.specs.Region.{Flying, sent, flies}
-use Rattle.crl_coherence.specs.Kept.{Given, Pair, IsKept, pair_of, asked_in, granted_in, recalled_in, yields_in, returned_in, released_in, queued_of}
-use Rattle.crl_coherence.specs.Coherent.{IsLoose, HeadWaits, HeadBlocks, MineFits, OwnAsk}
+use Rattle.crl_coherence.specs.Kept.{Pair, IsKept, pair_of, asked_in, granted_in, recalled_in, yields_in, returned_in, released_in, queued_of}
+use Rattle.crl_coherence.specs.Coherent.{IsLoose, OwnAsk}
 use Rattle.crl_coherence.proofs.Lists.{at-put_same, at-put_other, same_or, picked_none, picked_some, more_none, more_some}
 use Rattle.crl_coherence.proofs.Mails.{mail_of, mails, mail_here, mail_other, pair_at, kept_to, kept_from, kept_at, lengthened-at}
 use Rattle.crl_coherence.proofs.Calls.{clear_at}
@@ -73,10 +71,6 @@ last_other n a q h = more_none (queued_of n) q a (queued_other n a h)
 own_next : (s t : Section) (a : Asked) (xs : List Asked) → OwnAsk s (a ∷ xs) → OwnAsk t xs
 own_next s t a [] h = tt
 own_next s t a (b ∷ xs) h = elim h [ ]
-
-pub own_first : (s : Section) (a : Asked) (xs : List Asked) → OwnAsk s (a ∷ xs) → s ≡ Closed
-own_first s a [] h = h
-own_first s a (b ∷ xs) h = elim h [ ]
 
 -- One round of Serve, where the head can be served.
 module _ (me : ℕ) (array : List ℕ) (h : Home) (a : Asked) (q : List Asked) (remotes : ℕ → Remote) (flight : List Flying)

@@ -1,22 +1,21 @@
 -- Where no message is under way and a node waits, another node has a section open.
-use Rattle.std.proofs.Common.{ℕ, zero, suc, ◌+◌, List, [], ◌∷◌, ◌++◌, Bool, true, false, not, ◌&&◌, ◌||◌, ◌≡◌, ◌≢◌, ◌==◌, ◌≤◌, ◌<◌, ◌⊎◌, if◌then◌else◌, refl, arith, inl, inr, sym, ap, subst, ◌∙◌, append-nil}
+use Rattle.std.proofs.Common.{ℕ, List, [], ◌∷◌, ◌++◌, Bool, true, false, ◌||◌, ◌≡◌, ◌≢◌, ◌==◌, ◌⊎◌, if◌then◌else◌, refl, arith, inl, inr, sym, ap, subst, ◌∙◌}
 use Rattle.std.specs.declared.option.Option.{Option}
 use Rattle.std.specs.declared.option.Option.TheVariants.{None, Some}
 use Rattle.crl_model.specs.declared.directory.Section.{Section}
-use Rattle.crl_model.specs.declared.directory.Section.TheVariants.{Closed, Reading, Writing}
+use Rattle.crl_model.specs.declared.directory.Section.TheVariants.{Closed}
 use Rattle.crl_model.specs.declared.directory.Mark.{Mark}
 use Rattle.crl_model.specs.declared.directory.Mark.TheVariants.{Plain, Recalled, Yielding}
 use Rattle.crl_model.specs.declared.directory.Listing.{Listing}
 use Rattle.crl_model.specs.declared.directory.Asked.{Asked}
-use Rattle.crl_model.specs.declared.directory.Due.{Due}
 use Rattle.crl_protocol.specs.Places.{at, picks}
-use Rattle.crl_protocol.specs.Home.{Home, blocks, is_clear, is_servable, lets}
-use Rattle.crl_protocol.specs.Remote.{Copy, Remote, is_recall_due, is_yield_due}
+use Rattle.crl_protocol.specs.Home.{blocks, is_clear, lets}
+use Rattle.crl_protocol.specs.Remote.{Copy, is_recall_due, is_yield_due}
 use Rattle.crl_protocol.specs.Handlers.{is_queued}
-use Rattle.crl_coherence.specs.Region.{Flying, Region}
-use Rattle.crl_coherence.specs.Kept.{In, Given, Back, Freed, Pair, IsKept, Places, KindFits, DueFits, RecallFits, MarkFits, LeavingFits, HavesFit, HasVersion, WithBytes, pair_of, of_node, asked_in, granted_in, recalled_in, yields_in, returned_in, released_in, queued_of}
-use Rattle.crl_coherence.specs.Coherent.{IsLoose, IsCoherent, HeadWaits, OwnAsk, section_at}
-use Rattle.crl_coherence.proofs.Lists.{same_or, picked_none, picked_some}
+use Rattle.crl_coherence.specs.Region.{Region}
+use Rattle.crl_coherence.specs.Kept.{Pair, IsKept, RecallFits, MarkFits, LeavingFits, pair_of, of_node, asked_in, granted_in, recalled_in, yields_in, returned_in, released_in, queued_of}
+use Rattle.crl_coherence.specs.Coherent.{IsCoherent, HeadWaits, OwnAsk, section_at}
+use Rattle.crl_coherence.proofs.Lists.{same_or, picked_some}
 use Rattle.crl_coherence.proofs.Calls.{blocker}
 
 -- no message of a node is under way

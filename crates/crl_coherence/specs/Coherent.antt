@@ -1,20 +1,17 @@
 -- What holds of a region after each event, and what follows from it.
-use Rattle.std.specs.Prelude.{◌≡◌, ◌≢◌, ◌⊎◌, ℕ, ◌+◌, ◌<◌, ◌≤◌, ◌==◌, Bool, true, false, if◌then◌else◌, List, [], ◌∷◌, ◌++◌, length, replicate}
-use Rattle.std.specs.declared.option.Option.{Option}
+use Rattle.std.specs.Prelude.{◌≡◌, ◌≢◌, ℕ, ◌==◌, Bool, true, false, if◌then◌else◌, List, [], ◌∷◌, length, replicate}
 use Rattle.std.specs.declared.option.Option.TheVariants.{None, Some}
 use Rattle.crl_model.specs.declared.directory.Section.{Section}
 use Rattle.crl_model.specs.declared.directory.Section.TheVariants.{Closed, Reading, Writing}
 use Rattle.crl_model.specs.declared.directory.Mark.TheVariants.{Plain}
 use Rattle.crl_model.specs.declared.directory.Listing.{Listing}
 use Rattle.crl_model.specs.declared.directory.Asked.{Asked}
-use Rattle.crl_model.specs.declared.message.Granted.{Granted}
-use Rattle.crl_protocol.specs.Places.{at, picks, Took}
-use Rattle.crl_protocol.specs.Mail.{Mail, Ask, Grant, Recall, Yield, Return, Release}
-use Rattle.crl_protocol.specs.Home.{Home, blocks, is_servable, mark_for, new_home, home_starts, takes_return, takes_release}
-use Rattle.crl_protocol.specs.Remote.{Copy, Remote, new_remote, takes_grant}
-use Rattle.crl_protocol.specs.Sections.{count_of, is_writing}
-use Rattle.crl_coherence.specs.Region.{Flying, Region, flies}
-use Rattle.crl_coherence.specs.Kept.{Pair, IsKept, pair_of, queued_of}
+use Rattle.crl_protocol.specs.Places.{at, picks}
+use Rattle.crl_protocol.specs.Home.{Home, blocks, is_servable, mark_for, new_home}
+use Rattle.crl_protocol.specs.Remote.{Remote, new_remote}
+use Rattle.crl_protocol.specs.Sections.{is_writing}
+use Rattle.crl_coherence.specs.Region.{Flying, Region}
+use Rattle.crl_coherence.specs.Kept.{IsKept, pair_of, queued_of}
 
 -- the ask at the head is another node's, and the copy stands in its way
 abbrev pub HeadBlocks : ℕ → Listing → List Asked → Type 0

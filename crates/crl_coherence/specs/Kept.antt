@@ -1,11 +1,10 @@
 -- What holds, after each event of a region, of the home and one other node.
-use Rattle.std.specs.Prelude.{◌≡◌, ◌≢◌, ◌⊎◌, ℕ, ◌+◌, ◌<◌, ◌≤◌, ◌==◌, Bool, true, false, if◌then◌else◌, List, [], ◌∷◌, ◌++◌, length, replicate}
+use Rattle.std.specs.Prelude.{◌≡◌, ◌≢◌, ◌⊎◌, ℕ, ◌<◌, ◌≤◌, ◌==◌, Bool, true, false, if◌then◌else◌, List, [], ◌∷◌, ◌++◌, length}
 use Rattle.std.specs.declared.option.Option.{Option}
 use Rattle.std.specs.declared.option.Option.TheVariants.{None, Some}
 use Rattle.crl_model.specs.declared.directory.Section.{Section}
 use Rattle.crl_model.specs.declared.directory.Section.TheVariants.{Closed, Reading, Writing}
-use Rattle.crl_model.specs.declared.directory.Mark.{Mark}
-use Rattle.crl_model.specs.declared.directory.Mark.TheVariants.{Plain, Recalled, Yielding}
+use Rattle.crl_model.specs.declared.directory.Mark.TheVariants.{Recalled, Yielding}
 use Rattle.crl_model.specs.declared.directory.Listing.{Listing}
 use Rattle.crl_model.specs.declared.directory.Asked.{Asked}
 use Rattle.crl_model.specs.declared.directory.Due.{Due}
@@ -13,9 +12,8 @@ use Rattle.crl_model.specs.declared.message.Granted.{Granted}
 use Rattle.crl_model.specs.declared.message.Granted.TheVariants.{Shared, Exclusive, Upgrade}
 use Rattle.crl_protocol.specs.Places.{at, picks}
 use Rattle.crl_protocol.specs.Mail.{Mail, Ask, Grant, Recall, Yield, Return, Release}
-use Rattle.crl_protocol.specs.Home.{Home, blocks, is_servable, mark_for, new_home}
-use Rattle.crl_protocol.specs.Remote.{Copy, Remote, is_recall_due, is_yield_due, new_remote}
-use Rattle.crl_coherence.specs.Region.{Flying, Region}
+use Rattle.crl_protocol.specs.Remote.{Copy, Remote, is_recall_due, is_yield_due}
+use Rattle.crl_coherence.specs.Region.{Flying}
 
 -- x stands in the list
 abbrev pub In : ℕ → List ℕ → Type 0

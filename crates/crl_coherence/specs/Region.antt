@@ -1,8 +1,8 @@
 -- One region by itself: its home, the sides of all other nodes, its messages under way, and the bytes that the
 -- single machine's array has of it.
-use Rattle.std.specs.Prelude.{◌≡◌, ◌≢◌, ℕ, ◌+◌, ◌<◌, ◌^◌, ◌==◌, Bool, true, false, if◌then◌else◌, List, [], ◌∷◌, ◌++◌, length, map}
+use Rattle.std.specs.Prelude.{◌≡◌, ◌≢◌, ℕ, ◌+◌, ◌<◌, ◌^◌, Bool, true, false, List, [], ◌∷◌, ◌++◌, length, map}
 use Rattle.std.specs.declared.option.Option.{Option}
-use Rattle.std.specs.declared.option.Option.TheVariants.{None, Some}
+use Rattle.std.specs.declared.option.Option.TheVariants.{None}
 use Rattle.crl_model.specs.declared.directory.Section.{Section}
 use Rattle.crl_model.specs.declared.directory.Section.TheVariants.{Closed, Reading, Writing}
 use Rattle.crl_model.specs.declared.directory.Asked.{Asked}
@@ -10,8 +10,8 @@ use Rattle.crl_model.specs.declared.message.Granted.{Granted}
 use Rattle.crl_model.specs.Names.{at_node}
 use Rattle.crl_protocol.specs.Places.{Took}
 use Rattle.crl_protocol.specs.Mail.{Mail, Ask, Grant, Recall, Yield, Return, Release, Letter}
-use Rattle.crl_protocol.specs.Home.{Home, Served, is_reading, home_asked, home_returned, home_released, home_starts, home_ends_read, home_ends_write}
-use Rattle.crl_protocol.specs.Remote.{Copy, Remote, Moved, new_remote, remote_starts, remote_granted, remote_recalled, remote_yields, remote_ends_read, remote_ends_write, remote_flushes}
+use Rattle.crl_protocol.specs.Home.{Home, Served, home_asked, home_returned, home_released, home_starts, home_ends_read, home_ends_write}
+use Rattle.crl_protocol.specs.Remote.{Remote, Moved, new_remote, remote_starts, remote_granted, remote_recalled, remote_yields, remote_ends_read, remote_ends_write, remote_flushes}
 
 -- a message between the home and this other node
 pub record Flying : Type 0 where
