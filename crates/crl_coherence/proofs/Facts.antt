@@ -1,0 +1,100 @@
+-- What follows for one node from what holds of it and the home.
+use Rattle.std.proofs.Common.{ℕ, List, [], ◌∷◌, Bool, true, false, ◌≡◌, ◌≢◌, ◌⊎◌, refl, arith}
+use Rattle.std.specs.declared.option.Option.{Option}
+use Rattle.std.specs.declared.option.Option.TheVariants.{None, Some}
+use Rattle.crl_model.specs.declared.directory.Section.{Section}
+use Rattle.crl_model.specs.declared.directory.Section.TheVariants.{Closed, Reading, Writing}
+use Rattle.crl_model.specs.declared.directory.Listing.{Listing}
+use Rattle.crl_model.specs.declared.message.Granted.{Granted}
+use Rattle.crl_model.specs.declared.message.Granted.TheVariants.{Shared, Exclusive, Upgrade}
+use Rattle.crl_protocol.specs.Remote.{Copy, granted_copy, takes_grant}
+use Rattle.crl_protocol.specs.Sections.{is_writing}
+use Rattle.crl_coherence.specs.Kept.{Given, Back, Pair, IsKept}
+use Rattle.crl_coherence.proofs.Lists.{NoTwo}
+
+-- of each kind of message at most one is under way
+pub grants_one : (last : ℕ) (array : List ℕ) (p : Pair) → IsKept last array p → NoTwo p.grants
+grants_one last array p h y z ws e = let k = h.ask in let o = h.places in grind arith
+
+pub returns_one : (last : ℕ) (array : List ℕ) (p : Pair) → IsKept last array p → NoTwo p.returns
+returns_one last array p h y z ws e = let o = h.places in grind arith
+
+pub pending_one : (last : ℕ) (array : List ℕ) (p : Pair) → IsKept last array p → NoTwo p.pending
+pending_one last array p h y z ws e = let k = h.ask in grind arith
+
+-- a node with an open section has a listed copy
+pub reader_listed : (last : ℕ) (array : List ℕ) (p : Pair) → p.remote.here ≢ Closed → IsKept last array p → (l : Listing) × (p.listed ≡ Some l)
+reader_listed last array p is_open h = go p.listed refl
+  where
+    go : (o : Option Listing) → p.listed ≡ o → (l : Listing) × (p.listed ≡ Some l)
+    go None e = let s = h.section in let k = h.ask in let o = h.places in grind arith
+    go (Some l) e = (l, e)
+
+-- a node that writes has an exclusive one
+pub writer_listed : (last : ℕ) (array : List ℕ) (p : Pair) → p.remote.here ≡ Writing → IsKept last array p → (l : Listing) × (p.listed ≡ Some l) × (l.exclusive ≡ true)
+writer_listed last array p w h = go p.listed refl
+  where
+    go : (o : Option Listing) → p.listed ≡ o → (l : Listing) × (p.listed ≡ Some l) × (l.exclusive ≡ true)
+    go None e = let s = h.section in let k = h.ask in let o = h.places in grind arith
+    go (Some l) e = (l, e, (let s = h.section in let k = h.ask in let o = h.places in grind arith))
+
+-- a node that doesn't wait has its copy listed, and its bytes are the array's
+pub copy_listed : (last : ℕ) (array : List ℕ) (p : Pair) (c : Copy) → p.remote.copy ≡ Some c → p.remote.asking ≡ None → IsKept last array p
+    → (l : Listing) × (p.listed ≡ Some l) × (c.exclusive ≡ true → l.exclusive ≡ true) × (c.bytes ≡ array)
+copy_listed last array p c e idle h = go p.listed refl
+  where
+    go : (o : Option Listing) → p.listed ≡ o → (l : Listing) × (p.listed ≡ Some l) × (c.exclusive ≡ true → l.exclusive ≡ true) × (c.bytes ≡ array)
+    go None f = let k = h.ask in let o = h.places in grind arith
+    go (Some l) f = (l, f, (λ x. let k = h.ask in let o = h.places in grind arith), (let k = h.ask in let o = h.places in grind arith))
+
+-- what is listed where a grant is under way
+pub grant_listed : (last : ℕ) (array : List ℕ) (p : Pair) (g : Given) → p.grants ≡ g ∷ [] → IsKept last array p
+    → (l : Listing) × (w : Bool) × (p.listed ≡ Some l) × (p.remote.asking ≡ Some w) × (p.remote.here ≡ Closed) × (w ≡ true → l.exclusive ≡ true)
+grant_listed last array p g e h = go p.listed p.remote.asking refl refl
+  where
+    go : (o : Option Listing) (a : Option Bool) → p.listed ≡ o → p.remote.asking ≡ a
+        → (l : Listing) × (w : Bool) × (p.listed ≡ Some l) × (p.remote.asking ≡ Some w) × (p.remote.here ≡ Closed) × (w ≡ true → l.exclusive ≡ true)
+    go None a f k = let o = h.places in grind arith
+    go (Some l) None f k = let o = h.ask in grind arith
+    go (Some l) (Some w) f k = (l, w, f, k, (let s = h.section in grind arith), (λ x. let a = h.ask in let o = h.places in grind arith))
+
+-- the copy that a grant leaves has the array's bytes
+pub grant_shows : (last : ℕ) (array : List ℕ) (p : Pair) (g : Given) → p.grants ≡ g ∷ [] → IsKept last array p → (c : Copy) × (granted_copy g.version g.what p.remote.copy ≡ Some c) × (c.bytes ≡ array)
+grant_shows last array p g e h = go p.listed p.remote.copy g.what refl refl refl
+  where
+    go : (o : Option Listing) (d : Option Copy) (w : Granted) → p.listed ≡ o → p.remote.copy ≡ d → g.what ≡ w → (c : Copy) × (granted_copy g.version w d ≡ Some c) × (c.bytes ≡ array)
+    go None d w f k x = let o = h.places in grind arith
+    go (Some l) d (Shared bytes) f k x = (record { exclusive = false; version = g.version; bytes = bytes }, refl, (let o = h.places in grind arith))
+    go (Some l) d (Exclusive bytes) f k x = (record { exclusive = true; version = g.version; bytes = bytes }, refl, (let o = h.places in grind arith))
+    go (Some l) None Upgrade f k x = let o = h.places in grind arith
+    go (Some l) (Some c) Upgrade f k x = (record { exclusive = true; version = g.version; bytes = c.bytes }, refl, (let o = h.places in grind arith))
+
+-- a grant is what was asked for
+pub grant_fits : (last : ℕ) (array : List ℕ) (p : Pair) (g : Given) → p.grants ≡ g ∷ [] → IsKept last array p → takes_grant g.what p.remote ≡ true
+grant_fits last array p g e h = go p.listed p.remote.copy g.what refl refl refl
+  where
+    go : (o : Option Listing) (d : Option Copy) (w : Granted) → p.listed ≡ o → p.remote.copy ≡ d → g.what ≡ w → takes_grant w p.remote ≡ true
+    go None d w f k x = let o = h.places in grind arith
+    go (Some l) d (Shared bytes) f k x = let o = h.places in let a = h.ask in let s = h.asks_size in grind arith
+    go (Some l) d (Exclusive bytes) f k x = let o = h.places in let a = h.ask in let s = h.asks_size in grind arith
+    go (Some l) None Upgrade f k x = let o = h.places in grind arith
+    go (Some l) (Some c) Upgrade f k x = let o = h.places in let a = h.ask in grind arith
+
+-- what is listed where a return is under way
+pub return_listed : (last : ℕ) (array : List ℕ) (p : Pair) (b : Back) → p.returns ≡ b ∷ [] → IsKept last array p
+    → (l : Listing) × (p.listed ≡ Some l) × (l.version ≡ b.version) × ((b.bytes ≡ Some array) ⊎ (b.bytes ≡ None) × (l.exclusive ≡ false))
+return_listed last array p b e h = go p.listed refl
+  where
+    go : (o : Option Listing) → p.listed ≡ o → (l : Listing) × (p.listed ≡ Some l) × (l.version ≡ b.version) × ((b.bytes ≡ Some array) ⊎ (b.bytes ≡ None) × (l.exclusive ≡ false))
+    go None f = let o = h.places in grind arith
+    go (Some l) f = (l, f, (let o = h.places in grind arith), (let o = h.places in grind arith))
+
+pub section_closed : (s : Section) → (s ≢ Closed → ⊥) → s ≡ Closed
+section_closed Closed h = refl
+section_closed (Reading k) h = absurd (h (λ e. cc))
+section_closed Writing h = absurd (h (λ e. cc))
+
+pub not_writing : (s : Section) → (s ≡ Writing → ⊥) → is_writing s ≡ false
+not_writing Closed h = refl
+not_writing (Reading k) h = refl
+not_writing Writing h = absurd (h refl)
