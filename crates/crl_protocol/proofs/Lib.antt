@@ -1,1 +1,6 @@
 mod Computed
+mod Touching
+mod Enabling
+mod Growing
+mod Deciding
+mod Answering
