@@ -4,3 +4,6 @@ mod Enabling
 mod Growing
 mod Deciding
 mod Answering
+mod Placing
+mod Following
+mod Wording
