@@ -7,3 +7,8 @@ mod Answering
 mod Placing
 mod Following
 mod Wording
+mod Fitting
+mod Serving
+mod Tabling
+mod Keeping
+mod Opening
