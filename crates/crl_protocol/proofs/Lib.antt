@@ -12,3 +12,6 @@ mod Serving
 mod Tabling
 mod Keeping
 mod Opening
+mod Outcomes
+mod Calling
+mod Entering
