@@ -36,17 +36,17 @@ use Rattle.crl_protocol.proofs.Opening.{free, made, fits_made, fits_close, fits_
 use Rattle.crl_protocol.proofs.Outcomes.{Good, good_if, good_only, good_recording, free_apart, good_waits, fits_rounds, other_way, letters_leave, mails_leave, results_leave, purges_leave, here_of, here_if, there_if, not_mine, home_bytes, remote_bytes, queue_of, asking_of, mapped_home, mapped_remote, good_moved, good_forgets, is_cached, not_cached, kept_dropped, kept_more}
 
 -- A verdict that refuses nothing.
-none_of : (a b : Option Refusal) → else_if a b ≡ None → (a ≡ None) × (b ≡ None)
+pub none_of : (a b : Option Refusal) → else_if a b ≡ None → (a ≡ None) × (b ≡ None)
 none_of None b e = (refl, e)
 none_of (Some why) b e = cc
 
-live_by : (s : Stage) → by_stage s ≡ None → s ≡ stage.Live
+pub live_by : (s : Stage) → by_stage s ≡ None → s ≡ stage.Live
 live_by stage.Unknown e = cc
 live_by stage.Live e = refl
 live_by (stage.Going deleter) e = cc
 live_by stage.Gone e = cc
 
-mapped_by : (o : Option Mapping) → refuse_if (map_count o == 0) NotMapped ≡ None → (m : Mapping) × (o ≡ Some m)
+pub mapped_by : (o : Option Mapping) → refuse_if (map_count o == 0) NotMapped ≡ None → (m : Mapping) × (o ≡ Some m)
 mapped_by None e = cc
 mapped_by (Some m) e = (m, refl)
 
@@ -54,7 +54,7 @@ mapped_by (Some m) e = (m, refl)
 good_used : (i : ℕ) (d : Name → List ℕ) (n : Node) → Fits i n d → Fits i (used_up n) d
 good_used i d n f = cond_both (used n == COUNT_LIMIT) _ _ (λ m. Fits i m d) (λ w. f) (λ w. fits_used i n d f)
 
-good_refused : (i : ℕ) (d : Name → List ℕ) (n : Node) (why : Refusal) (c : Call) → Fits i n d → Good i d (call_refused why c n)
+pub good_refused : (i : ℕ) (d : Name → List ℕ) (n : Node) (why : Refusal) (c : Call) → Fits i n d → Good i d (call_refused why c n)
 unfolding call_refused
 good_refused i d n why (call.Create size) f = record { node = good_used i d n f; posts = tt }
 good_refused i d n why (call.Delete name) f = record { node = f; posts = tt }
@@ -79,7 +79,7 @@ good_own_delete i d n name lease (m ∷ rest) mine f = record {
   posts = purges_leave (free n) name (members n.nodes lease.asked);
 }
 
-good_delete : (i : ℕ) (d : Name → List ℕ) (n : Node) (name : Name) → Fits i (free n) d → Good i d (deletes name (free n))
+pub good_delete : (i : ℕ) (d : Name → List ℕ) (n : Node) (name : Name) → Fits i (free n) d → Good i d (deletes name (free n))
 unfolding lease_begins
 good_delete i d n name f =
     good_if i d (is_mine n name) _ _ (λ mine. good_own_delete i d n name (lease_of n name) (members n.nodes (lease_of n name).asked) mine f)
@@ -120,7 +120,7 @@ own_new : (b : Bool) (v : Seen) (k : Mapping) → b ≡ true → MappedHere (Som
 own_new true v k e h own = record { live = own.live; bytes = own.bytes; mapped = h; nothing = own.nothing }
 own_new false v k e h own = cc
 
-other_new : (b : Bool) (v : Seen) (k : Mapping) → b ≡ false → MappedThere (Some k) v.remote → OwnFits b v → OwnFits b (record v { mapping = Some k })
+pub other_new : (b : Bool) (v : Seen) (k : Mapping) → b ≡ false → MappedThere (Some k) v.remote → OwnFits b v → OwnFits b (record v { mapping = Some k })
 other_new true v k e h own = cc
 other_new false v k e h own = record { bytes = own.bytes; mapped = h; nothing = own.nothing; unknown = own.unknown }
 
@@ -129,7 +129,7 @@ there_sized None k h = tt
 there_sized (Some r) k h = sym h
 
 -- no section is open of what isn't mapped
-no_record : (i : ℕ) (d : Name → List ℕ) (n : Node) (name : Name) (k : Option Mapping) → n.maps name ≡ None → Fits i n d → RecordFits (n.sections.records name) k
+pub no_record : (i : ℕ) (d : Name → List ℕ) (n : Node) (name : Name) (k : Option Mapping) → n.maps name ≡ None → Fits i n d → RecordFits (n.sections.records name) k
 no_record i d n name k e f = record_new (n.sections.records name) k (subst (λ x. RecordFits (n.sections.records name) x) e (f.each name).record')
 
 good_map_own : (i : ℕ) (d : Name → List ℕ) (n : Node) (name : Name) → n.maps name ≡ None → is_mine n name ≡ true → (lease_of n name).stage ≡ stage.Live → Fits i (free n) d
@@ -154,7 +154,7 @@ good_map_cached i d n name (Some size) c e other f =
       posts = tt;
     }
 
-good_map : (i : ℕ) (d : Name → List ℕ) (n : Node) (name : Name) (o : Option Mapping) → n.maps name ≡ o → (is_mine n name ≡ true → (lease_of n name).stage ≡ stage.Live) → Fits i (free n) d → Good i d (maps_over name o (free n))
+pub good_map : (i : ℕ) (d : Name → List ℕ) (n : Node) (name : Name) (o : Option Mapping) → n.maps name ≡ o → (is_mine n name ≡ true → (lease_of n name).stage ≡ stage.Live) → Fits i (free n) d → Good i d (maps_over name o (free n))
 good_map i d n name (Some m) e live f = record { node = fits_same_size i d (free n) name m (record m { count = m.count + 1 }) e refl tt f; posts = tt }
 good_map i d n name None e live f =
     good_if i d (is_mine n name) _ _ (λ mine. good_map_own i d n name e mine (live mine) f) (λ other. good_map_cached i d n name (cached_size name n.cache) refl e other f)
@@ -205,7 +205,7 @@ sized_there : (o : Option Remote) (m : Mapping) → MappedThere (Some m) o → S
 sized_there None m h = tt
 sized_there (Some r) m h = sym h
 
-good_unmap : (i : ℕ) (d : Name → List ℕ) (n : Node) (name : Name) (o : Option Mapping) → n.maps name ≡ o → is_closed (section_at name n.sections) ≡ true → Fits i (free n) d → Good i d (unmaps_over name o (free n))
+pub good_unmap : (i : ℕ) (d : Name → List ℕ) (n : Node) (name : Name) (o : Option Mapping) → n.maps name ≡ o → is_closed (section_at name n.sections) ≡ true → Fits i (free n) d → Good i d (unmaps_over name o (free n))
 good_unmap i d n name None e closed f = good_only i d (free n) f
 good_unmap i d n name (Some m) e closed f =
     let g = fits_mapping i (free n) d name None (record_closed (n.sections.records name) (n.maps name) closed (f.each name).record') (own_none (is_mine n name) (seen (free n) d name) (f.each name).own) tt f in

@@ -222,13 +222,13 @@ pub either_way : {A B C : Type 0} → A ⊎ B → (B → ⊥) → A ⊎ C
 either_way (inl a) h = inl a
 either_way (inr b) h = absurd (h b)
 
-pub queue_calm : (me : ℕ) (q : Name) (h : Option Home) (a b : Activity) → Apart q a → QueueFits me q h a → QueueFits me q h b
+pub queue_calm : (me : ℕ) (q : Name) (h : Option Home) (a b : Activity) → (a ≡ Waiting (ForSection q) → ⊥) → QueueFits me q h a → QueueFits me q h b
 queue_calm me q None a b apart f = tt
-queue_calm me q (Some h) a b apart f = (f.0, either_way f.1 apart.section)
+queue_calm me q (Some h) a b apart f = (f.0, either_way f.1 apart)
 
-pub asking_calm : (q : Name) (r : Option Remote) (a b : Activity) → Apart q a → AskingFits q r a → AskingFits q r b
+pub asking_calm : (q : Name) (r : Option Remote) (a b : Activity) → (a ≡ Waiting (ForSection q) → ⊥) → AskingFits q r a → AskingFits q r b
 asking_calm q None a b apart f = tt
-asking_calm q (Some r) a b apart f = either_way f apart.section
+asking_calm q (Some r) a b apart f = either_way f apart
 
 pub going_calm : (me : ℕ) (q : Name) (s : Stage) (a b : Activity) → (a ≡ Waiting (ForDelete q) → ⊥) → GoingFits me q s a → GoingFits me q s b
 going_calm me q stage.Unknown a b apart f = tt
@@ -242,8 +242,8 @@ calm me q a b v apart w h = record {
   record' = h.record';
   draft = h.draft;
   own = h.own;
-  queue = queue_calm me q v.home a b apart h.queue;
-  asking = asking_calm q v.remote a b apart h.asking;
+  queue = queue_calm me q v.home a b apart.section h.queue;
+  asking = asking_calm q v.remote a b apart.section h.asking;
   going = going_calm me q v.stage a b apart.delete h.going;
   waiting = w;
 }

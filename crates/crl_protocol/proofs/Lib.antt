@@ -15,3 +15,5 @@ mod Opening
 mod Outcomes
 mod Calling
 mod Entering
+mod Obeying
+mod Handling

@@ -1,0 +1,73 @@
+-- What holds of a node that is free holds after each call that it may make.
+use Rattle.std.proofs.Common.{◌≡◌, ℕ, zero, suc, ◌+◌, ◌-◌, ◌==◌, nat_lt, Bool, true, false, not, ◌&&◌, None, Some, Option, List, [], ◌∷◌, ◌++◌, length, map, if◌then◌else◌, refl, ap, sym, ◌∙◌, subst}
+use Rattle.std.specs.List.{AllByRecursion}
+use Rattle.std.proofs.lemmas.Bool.{cond_both, eqb-true, not-false}
+use Rattle.std.proofs.Math.Logic.{◌⊎◌, inl, inr}
+use Rattle.crl_model.specs.declared.name.Name.{Name}
+use Rattle.crl_model.specs.declared.region.Stage.{Stage}
+use Rattle.crl_model.specs.declared.region.Stage.TheVariants as stage
+use Rattle.crl_model.specs.declared.directory.Section.{Section}
+use Rattle.crl_model.specs.declared.directory.Section.TheVariants as section
+use Rattle.crl_model.specs.declared.collective.Part.{Part}
+use Rattle.crl_model.specs.declared.collective.Fold.{Fold}
+use Rattle.crl_model.specs.declared.collective.Fold.TheVariants as fold
+use Rattle.crl_model.specs.declared.call.Call.{Call}
+use Rattle.crl_model.specs.declared.call.Call.TheVariants as call
+use Rattle.crl_model.specs.declared.call.CallKind.{CallKind}
+use Rattle.crl_model.specs.declared.call.Refusal.{Refusal}
+use Rattle.crl_model.specs.declared.call.Refusal.TheVariants.{NotMapped}
+use Rattle.crl_model.specs.declared.entry.What.TheVariants as what
+use Rattle.crl_model.specs.declared.message.Message.{Message}
+use Rattle.crl_model.specs.declared.message.Kind.TheVariants as kind
+use Rattle.crl_model.specs.Calls.{kind_of}
+use Rattle.crl_protocol.specs.Home.{Home, Served, home_starts, home_ends_read, home_ends_write}
+use Rattle.crl_protocol.specs.Remote.{Copy, Remote, Moved, is_closed, remote_starts, remote_ends_read, remote_ends_write, remote_flushes}
+use Rattle.crl_protocol.specs.Leases.{Mapping, new_mapping, Kept, Keeps, push_out, keeps, cached_size, dropped, Lease, lease_begins, members}
+use Rattle.crl_protocol.specs.Gathering.{Gathering, gathers}
+use Rattle.crl_protocol.specs.Sections.{Record, section_of, section_at, bytes_at, is_writing}
+use Rattle.crl_protocol.specs.Node.{Node, Outcome, only, Answer, Done, Awaited, ForSection, ForMap, ForDelete, ForRound, Activity, Free, Waiting, Ready, COUNT_LIMIT, used, is_mine, home_of, lease_of, with_home, with_remote, with_mapping, with_lease, map_count, message, letters, mails, section_opens}
+use Rattle.crl_protocol.specs.Verdict.{else_if, refuse_if, by_stage, of_more, of_open, verdict, used_up, call_refused}
+use Rattle.crl_protocol.specs.Sectioning.{waits, recording, starts_or_waits, home_start, remote_start, copy_bytes, starts_remote, starts_home, starts, left_home, closes, ends_remote, ends_home, ends_read, ends_write, flushes_remote, flushes}
+use Rattle.crl_protocol.specs.Calls.{is_gone, deletes_own, deletes, size_of, maps_in, maps_cached, maps_over, forgets_evicted, caches, parts_with, unmaps_over, unmaps, answer_of, gathered_own, comes_to, comes, call_taken, called_as, called}
+use Rattle.crl_protocol.proofs.Fitting.{begins, begun, Seen, seen, LiveFits, MappedHere, MappedThere, OwnHere, OwnThere, OwnFits, RecordFits, NoOwn, OneOwn, QueueFits, AskingFits, CopyFits, WaitFits, IsMapped, IsCached, SizeIs, FreshFits, Leaves, Fits, Holds}
+use Rattle.crl_protocol.proofs.Serving.{no_is_one, HomeGoes, HomeStarts, starts_fit, read_goes, write_goes, RemoteGoes, RemoteStarts, read_ends, write_ends, flushes_goes, remote_start as remote_begins}
+use Rattle.crl_protocol.proofs.Keeping.{fits_turn, fits_home, fits_remote, fits_mapping, fits_lease, fits_cache, fits_used}
+use Rattle.crl_protocol.proofs.Opening.{free, made, fits_made, fits_close, fits_open}
+use Rattle.crl_protocol.proofs.Outcomes.{Good, good_if, good_only, good_recording, free_apart, good_waits, fits_rounds, other_way, letters_leave, mails_leave, results_leave, purges_leave, here_of, here_if, there_if, not_mine, home_bytes, remote_bytes, queue_of, asking_of, mapped_home, mapped_remote, good_moved, good_forgets, is_cached, not_cached, kept_dropped, kept_more}
+use Rattle.crl_protocol.specs.World.{is_call}
+use Rattle.crl_protocol.proofs.Calling.{none_of, live_by, mapped_by, good_refused, good_delete, good_map, good_unmap}
+use Rattle.crl_protocol.proofs.Entering.{good_start, good_end_read, good_end_write, good_flush, good_come}
+
+allowed_by : (b : Bool) (why : Refusal) → refuse_if b why ≡ None → b ≡ false
+allowed_by true why e = cc
+allowed_by false why e = refl
+
+of_true : (b : Bool) (x y : Option Refusal) → (if b then x else y) ≡ None → b ≡ true → x ≡ None
+of_true true x y e w = e
+of_true false x y e w = cc
+
+good_taken : (i : ℕ) (d : Name → List ℕ) (n : Node) (c : Call) → verdict (free n) c ≡ None → is_call (free n) c None ≡ true → Fits i (free n) d → Good i d (call_taken c (free n))
+unfolding verdict call_taken
+good_taken i d n (call.Create size) v e f = record { node = fits_made i size (free n) d f; posts = tt }
+good_taken i d n (call.Delete name) v e f = good_delete i d n name f
+good_taken i d n (call.Map name) v e f =
+    good_map i d n name (n.maps name) refl (λ mine. live_by (lease_of n name).stage (none_of _ _ (of_true (is_mine n name) _ _ v mine)).0) f
+good_taken i d n (call.Unmap name) v e f =
+    good_recording i d _ _ (good_unmap i d n name (n.maps name) refl (not-false _ (allowed_by _ _ (none_of _ _ v).1)) f)
+good_taken i d n (call.StartRead name) v e f = let m = mapped_by (n.maps name) (none_of _ _ v).0 in good_start i d n false name m.0 m.1 f
+good_taken i d n (call.EndRead name) v e f = good_end_read i d n name f
+good_taken i d n (call.StartWrite name) v e f = let m = mapped_by (n.maps name) (none_of _ _ v).0 in good_start i d n true name m.0 m.1 f
+good_taken i d n (call.EndWrite name after) v e f = good_end_write i d n name after (not-false _ (allowed_by _ _ (none_of _ _ v).1)) (eqb-true _ _ e) f
+good_taken i d n (call.Put name offset len) v e f = good_only i d (free n) f
+good_taken i d n (call.Add name offset) v e f = good_only i d (free n) f
+good_taken i d n (call.Flush name) v e f = good_flush i d (free n) name f
+good_taken i d n (call.Come part) v e f = good_come i d n part f
+
+good_as : (i : ℕ) (d : Name → List ℕ) (n : Node) (c : Call) (o : Option Refusal) → verdict (free n) c ≡ o → is_call (free n) c o ≡ true → Fits i (free n) d → Good i d (called_as o c (free n))
+good_as i d n c None v e f = good_taken i d n c v e f
+good_as i d n c (Some why) v e f = good_refused i d (free n) why c f
+
+pub good_call : (i : ℕ) (d : Name → List ℕ) (n : Node) (c : Call) → n.activity ≡ Free → is_call n c (verdict n c) ≡ true → Fits i n d → Good i d (called c n)
+good_call i d n c e =
+    subst (λ a. is_call (record n { activity = a }) c (verdict (record n { activity = a }) c) ≡ true → Fits i (record n { activity = a }) d → Good i d (called c (record n { activity = a }))) (sym e)
+    (λ w f. good_as i d n c (verdict (free n) c) refl w f)
