@@ -17,3 +17,4 @@ mod Calling
 mod Entering
 mod Obeying
 mod Handling
+mod Informing
