@@ -128,7 +128,7 @@ good_end_read i d n name f =
     (λ r e. read_ends r (remote_bytes i d (free n) name r e f)) (fits_close i (free n) d name f))
 
 -- the section that is open has the size under which its region is mapped
-open_size : (o : Option Record) (m : Option Mapping) → is_writing (section_of o) ≡ true → RecordFits o m → (k : Mapping) × (m ≡ Some k) × (length (record_bytes o) ≡ k.size)
+pub open_size : (o : Option Record) (m : Option Mapping) → is_writing (section_of o) ≡ true → RecordFits o m → (k : Mapping) × (m ≡ Some k) × (length (record_bytes o) ≡ k.size)
 open_size None m w f = cc
 open_size (Some r) None w f = absurd f
 open_size (Some r) (Some m) w f = (m, refl, f.0)

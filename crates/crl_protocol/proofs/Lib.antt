@@ -18,3 +18,5 @@ mod Entering
 mod Obeying
 mod Handling
 mod Informing
+mod Sound
+mod Allowing

@@ -38,7 +38,7 @@ use Rattle.crl_protocol.specs.World.{is_call}
 use Rattle.crl_protocol.proofs.Calling.{none_of, live_by, mapped_by, good_refused, good_delete, good_map, good_unmap}
 use Rattle.crl_protocol.proofs.Entering.{good_start, good_end_read, good_end_write, good_flush, good_come}
 
-allowed_by : (b : Bool) (why : Refusal) → refuse_if b why ≡ None → b ≡ false
+pub allowed_by : (b : Bool) (why : Refusal) → refuse_if b why ≡ None → b ≡ false
 allowed_by true why e = cc
 allowed_by false why e = refl
 

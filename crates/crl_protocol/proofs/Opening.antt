@@ -63,7 +63,7 @@ fits_made i size n d f = record {
     }
 
 -- what a node has of a name but for its sections
-own_opened : (b : Bool) (v : Seen) (o : Option Record) (draft : List ℕ) → OwnFits b v → OwnFits b (record v { opened = o; draft = draft })
+pub own_opened : (b : Bool) (v : Seen) (o : Option Record) (draft : List ℕ) → OwnFits b v → OwnFits b (record v { opened = o; draft = draft })
 own_opened true v o draft own = record { live = own.live; bytes = own.bytes; mapped = own.mapped; nothing = own.nothing }
 own_opened false v o draft own = record { bytes = own.bytes; mapped = own.mapped; nothing = own.nothing; unknown = own.unknown }
 
