@@ -1,9 +1,8 @@
 -- A run that follows a script makes only calls that may come, and its drafts keep their lengths.
-use Rattle.std.proofs.Common.{◌≡◌, ℕ, zero, suc, ◌+◌, ◌-◌, ◌*◌, ◌^◌, ◌%◌, ◌<◌, ◌≤◌, ◌==◌, nat_lt, Bool, true, false, not, ◌&&◌, None, Some, Option, List, [], ◌∷◌, ◌++◌, length, take, drop, if◌then◌else◌, refl, ap, sym, ◌∙◌, subst, arith, length-take, length-drop, length-append}
+use Rattle.std.proofs.Common.{◌≡◌, ℕ, ◌+◌, ◌^◌, ◌%◌, ◌<◌, ◌≤◌, true, false, ◌&&◌, None, Some, Option, List, ◌∷◌, length, if◌then◌else◌, refl, ap, sym, ◌∙◌, subst, arith, length-take, length-drop, length-append}
 use Rattle.std.specs.Int.{to_be_bytes, from_be_bytes, w64}
 use Rattle.std.specs.List.{AllByRecursion}
-use Rattle.std.proofs.lemmas.Bool.{cond_both, eqb-true, eq-eqb, and_parts, and_from, lt-ltb, ltb-false, not-false, cases_Bool}
-use Rattle.std.proofs.Math.Logic.{◌⊎◌, inl, inr}
+use Rattle.std.proofs.lemmas.Bool.{eq-eqb, and_from, lt-ltb, ltb-false, not-false}
 use Rattle.crl_model.specs.declared.name.Name.{Name}
 use Rattle.crl_model.specs.declared.directory.Section.{Section}
 use Rattle.crl_model.specs.declared.directory.Section.TheVariants as section
@@ -14,16 +13,15 @@ use Rattle.crl_model.specs.declared.event.Event.{Event}
 use Rattle.crl_model.specs.declared.event.Event.TheVariants as event
 use Rattle.crl_model.specs.declared.statement.Statement.{Statement}
 use Rattle.crl_model.specs.declared.statement.Statement.TheVariants as statement
-use Rattle.crl_model.specs.Names.{at_name, at_node}
+use Rattle.crl_model.specs.Names.{at_name}
 use Rattle.crl_model.specs.Patches.{put_at}
-use Rattle.crl_protocol.specs.Leases.{Mapping}
 use Rattle.crl_protocol.specs.Sections.{Record, section_of, section_at, record_bytes, bytes_at, is_writing}
 use Rattle.crl_protocol.specs.Node.{Node, Free, is_mine}
-use Rattle.crl_protocol.specs.Verdict.{else_if, refuse_if, mapped_size, verdict}
-use Rattle.crl_protocol.specs.World.{World, step, is_enabled, is_free, is_call, IsRunFrom}
+use Rattle.crl_protocol.specs.Verdict.{mapped_size, verdict}
+use Rattle.crl_protocol.specs.World.{is_enabled, is_free, is_call, IsRunFrom}
 use Rattle.crl_protocol.specs.Chosen.{Actor, Running, left_by, call_with, call_of, eight_at, added, changed, is_change, is_allowed, goes_on, with_actor}
-use Rattle.crl_protocol.specs.Laws.{IsStatement, IsNext, passed, next_call, is_inside, node_of, Follows, ended, changes, calls, happens}
-use Rattle.crl_protocol.proofs.Fitting.{by_name, begun, seen, RecordFits, LengthFits, DraftFits, Holds, Fits}
+use Rattle.crl_protocol.specs.Laws.{IsStatement, IsNext, passed, next_call, is_inside, Follows, ended, changes, calls, happens}
+use Rattle.crl_protocol.proofs.Fitting.{by_name, begun, seen, LengthFits, DraftFits, Holds, Fits}
 use Rattle.crl_protocol.proofs.Opening.{own_opened}
 use Rattle.crl_protocol.proofs.Calling.{none_of}
 use Rattle.crl_protocol.proofs.Obeying.{allowed_by}

@@ -1,5 +1,5 @@
 -- Where entries are decided: those of a message.
-use Rattle.std.proofs.Common.{◌≡◌, ℕ, ◌==◌, Bool, true, false, None, Some, Option, List, [], ◌∷◌, refl, if◌then◌else◌}
+use Rattle.std.proofs.Common.{◌≡◌, ℕ, ◌==◌, Bool, None, Some, Option, List, [], ◌∷◌, refl, if◌then◌else◌}
 use Rattle.std.specs.List.{AllByRecursion}
 use Rattle.std.proofs.lemmas.Bool.{cond_both}
 use Rattle.crl_model.specs.declared.name.Name.{Name}
@@ -8,7 +8,6 @@ use Rattle.crl_model.specs.declared.region.Stage.TheVariants as stage
 use Rattle.crl_model.specs.declared.collective.Part.{Part}
 use Rattle.crl_model.specs.declared.collective.Fold.{Fold}
 use Rattle.crl_model.specs.declared.collective.Fold.TheVariants as fold
-use Rattle.crl_model.specs.declared.call.Call.TheVariants as call
 use Rattle.crl_model.specs.declared.call.CallKind.{CallKind}
 use Rattle.crl_model.specs.declared.entry.Entry.{Entry}
 use Rattle.crl_model.specs.declared.event.Event.{Event}
@@ -27,12 +26,12 @@ use Rattle.crl_protocol.specs.Remote.{Remote, Moved, remote_granted, remote_reca
 use Rattle.crl_protocol.specs.Leases.{Mapping, cached_size, dropped, Lease, lease_begins, lease_purged}
 use Rattle.crl_protocol.specs.Gathering.{gathers, awaits}
 use Rattle.crl_protocol.specs.Sections.{is_writing}
-use Rattle.crl_protocol.specs.Node.{Node, Activity, Free, Waiting, Ready, ForSection, ForMap, ForDelete, ForRound, Outcome, is_mine, home_of, lease_of, with_home, with_remote, with_lease}
+use Rattle.crl_protocol.specs.Node.{Node, Activity, Free, Waiting, Ready, ForSection, ForMap, ForDelete, ForRound, Outcome, home_of, lease_of, with_home, with_remote}
 use Rattle.crl_protocol.specs.Sectioning.{copy_bytes, served, moved, forgets_over, forgets}
 use Rattle.crl_protocol.specs.Calls.{size_of, is_gone, result_of}
-use Rattle.crl_protocol.specs.Handlers.{told_of, mapped_or_refused, info_is, is_queued_in, asked, returned, released, opened_with, granted, remote_called, delete_asked, delete_is, purged_cached, purged_over, purge, purged_by, purged, own_result, gathered_from, come, result, handled}
+use Rattle.crl_protocol.specs.Handlers.{told_of, mapped_or_refused, info_is, is_queued_in, asked, returned, released, granted, remote_called, delete_asked, delete_is, purged_cached, purged_over, purged_by, purged, own_result, gathered_from, come, result, handled}
 use Rattle.crl_protocol.specs.World.{World, handled_at, collected, carried, step}
-use Rattle.crl_protocol.specs.Laws.{IsOfCall, IsStart, IsResult, IsOfMessage, IsOfTaken, IsDecided}
+use Rattle.crl_protocol.specs.Laws.{IsStart, IsResult, IsOfMessage, IsOfTaken, IsDecided}
 use Rattle.crl_protocol.proofs.Deciding.{deleting, opened, of_call}
 
 -- entries of a message

@@ -1,39 +1,26 @@
 -- What holds of a node that is free holds after its call.
-use Rattle.std.proofs.Common.{◌≡◌, ℕ, zero, suc, ◌+◌, ◌-◌, ◌==◌, nat_lt, Bool, true, false, not, ◌&&◌, None, Some, Option, List, [], ◌∷◌, ◌++◌, length, map, if◌then◌else◌, refl, ap, sym, ◌∙◌, subst}
-use Rattle.std.specs.List.{AllByRecursion}
-use Rattle.std.proofs.lemmas.Bool.{cond_both, eqb-true, not-false}
+use Rattle.std.proofs.Common.{◌≡◌, ℕ, ◌+◌, ◌-◌, ◌==◌, nat_lt, Bool, true, false, None, Some, Option, List, [], ◌∷◌, length, refl, sym, ◌∙◌, subst}
+use Rattle.std.proofs.lemmas.Bool.{cond_both}
 use Rattle.std.proofs.Math.Logic.{◌⊎◌, inl, inr}
 use Rattle.crl_model.specs.declared.name.Name.{Name}
 use Rattle.crl_model.specs.declared.region.Stage.{Stage}
 use Rattle.crl_model.specs.declared.region.Stage.TheVariants as stage
-use Rattle.crl_model.specs.declared.directory.Section.{Section}
-use Rattle.crl_model.specs.declared.directory.Section.TheVariants as section
-use Rattle.crl_model.specs.declared.collective.Part.{Part}
-use Rattle.crl_model.specs.declared.collective.Fold.{Fold}
-use Rattle.crl_model.specs.declared.collective.Fold.TheVariants as fold
 use Rattle.crl_model.specs.declared.call.Call.{Call}
 use Rattle.crl_model.specs.declared.call.Call.TheVariants as call
-use Rattle.crl_model.specs.declared.call.CallKind.{CallKind}
 use Rattle.crl_model.specs.declared.call.Refusal.{Refusal}
 use Rattle.crl_model.specs.declared.call.Refusal.TheVariants.{NotMapped}
-use Rattle.crl_model.specs.declared.entry.What.TheVariants as what
-use Rattle.crl_model.specs.declared.message.Message.{Message}
 use Rattle.crl_model.specs.declared.message.Kind.TheVariants as kind
-use Rattle.crl_model.specs.Calls.{kind_of}
-use Rattle.crl_protocol.specs.Home.{Home, Served, home_starts, home_ends_read, home_ends_write}
-use Rattle.crl_protocol.specs.Remote.{Copy, Remote, Moved, is_closed, remote_starts, remote_ends_read, remote_ends_write, remote_flushes}
+use Rattle.crl_protocol.specs.Home.{Home}
+use Rattle.crl_protocol.specs.Remote.{Remote, is_closed}
 use Rattle.crl_protocol.specs.Leases.{Mapping, new_mapping, Kept, Keeps, push_out, keeps, cached_size, dropped, Lease, lease_begins, members}
-use Rattle.crl_protocol.specs.Gathering.{Gathering, gathers}
-use Rattle.crl_protocol.specs.Sections.{Record, section_of, section_at, bytes_at, is_writing}
-use Rattle.crl_protocol.specs.Node.{Node, Outcome, only, Answer, Done, Awaited, ForSection, ForMap, ForDelete, ForRound, Activity, Free, Waiting, Ready, COUNT_LIMIT, used, is_mine, home_of, lease_of, with_home, with_remote, with_mapping, with_lease, map_count, message, letters, mails, section_opens}
-use Rattle.crl_protocol.specs.Verdict.{else_if, refuse_if, by_stage, of_more, of_open, verdict, used_up, call_refused}
-use Rattle.crl_protocol.specs.Sectioning.{waits, recording, starts_or_waits, home_start, remote_start, copy_bytes, starts_remote, starts_home, starts, left_home, closes, ends_remote, ends_home, ends_read, ends_write, flushes_remote, flushes}
-use Rattle.crl_protocol.specs.Calls.{is_gone, deletes_own, deletes, size_of, maps_in, maps_cached, maps_over, forgets_evicted, caches, parts_with, unmaps_over, unmaps, answer_of, gathered_own, comes_to, comes, call_taken, called_as, called}
-use Rattle.crl_protocol.proofs.Fitting.{begins, begun, Seen, seen, LiveFits, MappedHere, MappedThere, OwnHere, OwnThere, OwnFits, RecordFits, NoOwn, OneOwn, QueueFits, AskingFits, CopyFits, WaitFits, IsMapped, IsCached, SizeIs, FreshFits, Leaves, Fits, Holds}
-use Rattle.crl_protocol.proofs.Serving.{no_is_one, HomeGoes, HomeStarts, starts_fit, read_goes, write_goes, RemoteGoes, RemoteStarts, read_ends, write_ends, flushes_goes, remote_start as remote_begins}
-use Rattle.crl_protocol.proofs.Keeping.{fits_turn, fits_home, fits_remote, fits_mapping, fits_lease, fits_cache, fits_used}
-use Rattle.crl_protocol.proofs.Opening.{free, made, fits_made, fits_close, fits_open}
-use Rattle.crl_protocol.proofs.Outcomes.{Good, good_if, good_only, good_recording, free_apart, good_waits, fits_rounds, other_way, letters_leave, mails_leave, results_leave, purges_leave, here_of, here_if, there_if, not_mine, home_bytes, remote_bytes, queue_of, asking_of, mapped_home, mapped_remote, good_moved, good_forgets, is_cached, not_cached, kept_dropped, kept_more}
+use Rattle.crl_protocol.specs.Sections.{Record, section_of, section_at}
+use Rattle.crl_protocol.specs.Node.{Node, ForMap, ForDelete, Free, Waiting, COUNT_LIMIT, used, is_mine, home_of, lease_of, with_mapping, map_count, message}
+use Rattle.crl_protocol.specs.Verdict.{else_if, refuse_if, by_stage, used_up, call_refused}
+use Rattle.crl_protocol.specs.Calls.{deletes_own, deletes, size_of, maps_in, maps_cached, maps_over, forgets_evicted, caches, unmaps_over}
+use Rattle.crl_protocol.proofs.Fitting.{Seen, seen, LiveFits, MappedHere, MappedThere, OwnFits, RecordFits, WaitFits, IsCached, SizeIs, Fits}
+use Rattle.crl_protocol.proofs.Keeping.{fits_turn, fits_mapping, fits_lease, fits_cache, fits_used}
+use Rattle.crl_protocol.proofs.Opening.{free}
+use Rattle.crl_protocol.proofs.Outcomes.{Good, good_if, good_only, free_apart, good_waits, other_way, purges_leave, here_if, there_if, good_forgets, is_cached, not_cached, kept_dropped, kept_more}
 
 -- A verdict that refuses nothing.
 pub none_of : (a b : Option Refusal) → else_if a b ≡ None → (a ≡ None) × (b ≡ None)
@@ -75,7 +62,7 @@ good_own_delete : (i : ℕ) (d : Name → List ℕ) (n : Node) (name : Name) (le
 good_own_delete i d n name lease [] mine f = record { node = fits_lease i (free n) d name (record lease { stage = stage.Gone }) mine tt tt f; posts = tt }
 good_own_delete i d n name lease (m ∷ rest) mine f = record {
   node = fits_lease i (record n { activity = Waiting (ForDelete name) }) d name (record lease { stage = stage.Going n.me; missing = lease.asked }) mine tt (inr refl)
-    (fits_turn i n d d Free (Waiting (ForDelete name)) free_apart (λ q. tt) tt refl f);
+      (fits_turn i n d d Free (Waiting (ForDelete name)) free_apart (λ q. tt) tt refl f);
   posts = purges_leave (free n) name (members n.nodes lease.asked);
 }
 
@@ -136,7 +123,7 @@ good_map_own : (i : ℕ) (d : Name → List ℕ) (n : Node) (name : Name) → n.
     → Good i d (maps_in name (new_mapping (size_of (home_of n name)) false) (free n))
 good_map_own i d n name e mine live f = record {
   node = fits_mapping i (free n) d name _ (no_record i d (free n) name _ e f)
-    (own_new (is_mine n name) (seen (free n) d name) _ mine (live_size (lease_of n name).stage (home_of n name) live (here_if i d (free n) name mine f).live) (f.each name).own) tt f;
+      (own_new (is_mine n name) (seen (free n) d name) _ mine (live_size (lease_of n name).stage (home_of n name) live (here_if i d (free n) name mine f).live) (f.each name).own) tt f;
   posts = tt;
 }
 
@@ -150,7 +137,7 @@ good_map_cached i d n name (Some size) c e other f =
     let m = free (record n { cache = dropped name n.cache }) in
     record {
       node = fits_mapping i m d name (Some (new_mapping size false)) (no_record i d m name _ e g)
-        (other_new (is_mine n name) (seen m d name) (new_mapping size false) other (there_sized (n.remotes name) (new_mapping size false) (f.cache name size (is_cached name n.cache size c))) (g.each name).own) tt g;
+          (other_new (is_mine n name) (seen m d name) (new_mapping size false) other (there_sized (n.remotes name) (new_mapping size false) (f.cache name size (is_cached name n.cache size c))) (g.each name).own) tt g;
       posts = tt;
     }
 

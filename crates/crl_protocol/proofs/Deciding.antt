@@ -1,8 +1,7 @@
 -- Where entries are decided: those of a call, and those of a message.
 use Rattle.std.proofs.Common.{◌≡◌, ℕ, ◌+◌, ◌==◌, Bool, true, false, None, Some, Option, List, [], ◌∷◌, refl, if◌then◌else◌}
-use Rattle.std.specs.List.{All, AllByRecursion}
+use Rattle.std.specs.List.{AllByRecursion}
 use Rattle.std.proofs.lemmas.Bool.{cond_both}
-use Rattle.std.proofs.lemmas.List.Elements.{All-from_recursion}
 use Rattle.crl_model.specs.declared.name.Name.{Name}
 use Rattle.crl_model.specs.declared.region.Stage.{Stage}
 use Rattle.crl_model.specs.declared.region.Stage.TheVariants as stage
@@ -11,7 +10,6 @@ use Rattle.crl_model.specs.declared.collective.Fold.{Fold}
 use Rattle.crl_model.specs.declared.collective.Fold.TheVariants as fold
 use Rattle.crl_model.specs.declared.call.Call.{Call}
 use Rattle.crl_model.specs.declared.call.Call.TheVariants as call
-use Rattle.crl_model.specs.declared.call.CallKind.{CallKind}
 use Rattle.crl_model.specs.declared.call.Refusal.{Refusal}
 use Rattle.crl_model.specs.declared.entry.Entry.{Entry}
 use Rattle.crl_model.specs.declared.entry.What.{What}
@@ -20,13 +18,13 @@ use Rattle.crl_model.specs.declared.message.Message.{Message}
 use Rattle.crl_model.specs.Calls.{kind_of}
 use Rattle.crl_protocol.specs.Home.{Home, Served, home_starts, home_ends_read, home_ends_write}
 use Rattle.crl_protocol.specs.Remote.{Remote, Moved, remote_starts, remote_ends_read, remote_ends_write, remote_flushes}
-use Rattle.crl_protocol.specs.Leases.{Mapping, keeps, cached_size, dropped, lease_begins}
+use Rattle.crl_protocol.specs.Leases.{Mapping, keeps, cached_size, lease_begins}
 use Rattle.crl_protocol.specs.Gathering.{gathers}
 use Rattle.crl_protocol.specs.Sections.{bytes_at}
-use Rattle.crl_protocol.specs.Node.{Node, Outcome, only, is_mine, home_of, lease_of, with_home, with_remote, with_mapping, section_opens}
+use Rattle.crl_protocol.specs.Node.{Node, Outcome, is_mine, home_of, lease_of, with_home, with_remote, with_mapping, section_opens}
 use Rattle.crl_protocol.specs.Verdict.{verdict, call_refused}
 use Rattle.crl_protocol.specs.Sectioning.{recording, forgets_over, forgets, starts_or_waits, starts_remote, starts_home, starts, moved, left_home, closes, ends_remote, ends_home, ends_read, ends_write, flushes_remote, flushes}
-use Rattle.crl_protocol.specs.Calls.{deleted_by, deletes, maps_cached, maps_over, forgets_evicted, parts_with, unmaps_over, unmaps, result_of, gathered_own, comes_to, comes, call_taken, called_as, called}
+use Rattle.crl_protocol.specs.Calls.{deleted_by, deletes, maps_cached, maps_over, forgets_evicted, parts_with, unmaps_over, unmaps, result_of, gathered_own, comes, call_taken, called_as, called}
 use Rattle.crl_protocol.specs.Laws.{IsOfCall, IsStart}
 
 -- entries of a call of this node

@@ -1,7 +1,6 @@
 -- What isn't there can't happen, and each event of a run may come after those before it.
-use Rattle.std.proofs.Common.{◌≡◌, ℕ, zero, suc, ◌<◌, nat_lt, Bool, true, false, ◌&&◌, None, Some, Option, List, [], ◌∷◌, ◌++◌, length, refl, arith}
+use Rattle.std.proofs.Common.{◌≡◌, ℕ, zero, suc, nat_lt, true, false, None, Some, Option, List, [], ◌∷◌, ◌++◌, length, refl, arith}
 use Rattle.std.proofs.lemmas.Bool.{and_right, le-ltb, ltb-false}
-use Rattle.std.proofs.lemmas.Grind.{common_steps}
 use Rattle.crl_model.specs.declared.event.Event.{Event}
 use Rattle.crl_model.specs.declared.event.Event.TheVariants as event
 use Rattle.crl_protocol.specs.Places.{Taken, behind, take_out}

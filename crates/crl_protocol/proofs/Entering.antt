@@ -1,39 +1,26 @@
 -- What holds of a node that is free holds after it starts or ends a section, flushes, or comes to a round.
-use Rattle.std.proofs.Common.{◌≡◌, ℕ, zero, suc, ◌+◌, ◌-◌, ◌==◌, nat_lt, Bool, true, false, not, ◌&&◌, None, Some, Option, List, [], ◌∷◌, ◌++◌, length, map, if◌then◌else◌, refl, ap, sym, ◌∙◌, subst}
-use Rattle.std.specs.List.{AllByRecursion}
-use Rattle.std.proofs.lemmas.Bool.{cond_both, eqb-true, not-false}
+use Rattle.std.proofs.Common.{◌≡◌, ℕ, ◌+◌, ◌-◌, ◌==◌, Bool, true, false, None, Some, Option, List, [], ◌∷◌, length, refl, sym, ◌∙◌, subst}
 use Rattle.std.proofs.Math.Logic.{◌⊎◌, inl, inr}
 use Rattle.crl_model.specs.declared.name.Name.{Name}
-use Rattle.crl_model.specs.declared.region.Stage.{Stage}
-use Rattle.crl_model.specs.declared.region.Stage.TheVariants as stage
-use Rattle.crl_model.specs.declared.directory.Section.{Section}
-use Rattle.crl_model.specs.declared.directory.Section.TheVariants as section
 use Rattle.crl_model.specs.declared.collective.Part.{Part}
 use Rattle.crl_model.specs.declared.collective.Fold.{Fold}
 use Rattle.crl_model.specs.declared.collective.Fold.TheVariants as fold
-use Rattle.crl_model.specs.declared.call.Call.{Call}
-use Rattle.crl_model.specs.declared.call.Call.TheVariants as call
 use Rattle.crl_model.specs.declared.call.CallKind.{CallKind}
-use Rattle.crl_model.specs.declared.call.Refusal.{Refusal}
-use Rattle.crl_model.specs.declared.call.Refusal.TheVariants.{NotMapped}
-use Rattle.crl_model.specs.declared.entry.What.TheVariants as what
-use Rattle.crl_model.specs.declared.message.Message.{Message}
 use Rattle.crl_model.specs.declared.message.Kind.TheVariants as kind
 use Rattle.crl_model.specs.Calls.{kind_of}
 use Rattle.crl_protocol.specs.Home.{Home, Served, home_starts, home_ends_read, home_ends_write}
-use Rattle.crl_protocol.specs.Remote.{Copy, Remote, Moved, is_closed, remote_starts, remote_ends_read, remote_ends_write, remote_flushes}
-use Rattle.crl_protocol.specs.Leases.{Mapping, new_mapping, Kept, Keeps, push_out, keeps, cached_size, dropped, Lease, lease_begins, members}
-use Rattle.crl_protocol.specs.Gathering.{Gathering, gathers}
+use Rattle.crl_protocol.specs.Remote.{Copy, Remote, Moved, remote_starts, remote_ends_read, remote_ends_write, remote_flushes}
+use Rattle.crl_protocol.specs.Leases.{Mapping}
+use Rattle.crl_protocol.specs.Gathering.{gathers}
 use Rattle.crl_protocol.specs.Sections.{Record, section_of, section_at, record_bytes, bytes_at, is_writing}
-use Rattle.crl_protocol.specs.Node.{Node, Outcome, only, Answer, Done, Awaited, ForSection, ForMap, ForDelete, ForRound, Activity, Free, Waiting, Ready, COUNT_LIMIT, used, is_mine, home_of, lease_of, with_home, with_remote, with_mapping, with_lease, map_count, message, letters, mails, section_opens}
-use Rattle.crl_protocol.specs.Verdict.{else_if, refuse_if, by_stage, of_more, of_open, verdict, used_up, call_refused}
-use Rattle.crl_protocol.specs.Sectioning.{waits, recording, starts_or_waits, home_start, remote_start, copy_bytes, starts_remote, starts_home, starts, left_home, closes, ends_remote, ends_home, ends_read, ends_write, flushes_remote, flushes}
-use Rattle.crl_protocol.specs.Calls.{is_gone, deletes_own, deletes, size_of, maps_in, maps_cached, maps_over, forgets_evicted, caches, parts_with, unmaps_over, unmaps, answer_of, gathered_own, comes_to, comes, call_taken, called_as, called}
-use Rattle.crl_protocol.proofs.Fitting.{begins, begun, Seen, seen, LiveFits, MappedHere, MappedThere, OwnHere, OwnThere, OwnFits, RecordFits, NoOwn, OneOwn, QueueFits, AskingFits, CopyFits, WaitFits, IsMapped, IsCached, SizeIs, FreshFits, Leaves, Fits, Holds}
+use Rattle.crl_protocol.specs.Node.{Node, ForSection, ForRound, Free, Waiting, is_mine, home_of, with_home, with_remote, message, letters, mails, section_opens}
+use Rattle.crl_protocol.specs.Sectioning.{starts_or_waits, copy_bytes, starts_remote, starts_home, starts, left_home, closes, ends_remote, ends_home, ends_read, ends_write, flushes_remote, flushes}
+use Rattle.crl_protocol.specs.Calls.{answer_of, gathered_own, comes}
+use Rattle.crl_protocol.proofs.Fitting.{begins, RecordFits, NoOwn, QueueFits, AskingFits, CopyFits, WaitFits, IsMapped, Fits}
 use Rattle.crl_protocol.proofs.Serving.{no_is_one, HomeGoes, HomeStarts, starts_fit, read_goes, write_goes, RemoteGoes, RemoteStarts, read_ends, write_ends, flushes_goes, remote_start as remote_begins}
-use Rattle.crl_protocol.proofs.Keeping.{fits_turn, fits_home, fits_remote, fits_mapping, fits_lease, fits_cache, fits_used}
-use Rattle.crl_protocol.proofs.Opening.{free, made, fits_made, fits_close, fits_open}
-use Rattle.crl_protocol.proofs.Outcomes.{Good, good_if, good_only, good_recording, free_apart, good_waits, fits_rounds, other_way, letters_leave, mails_leave, results_leave, purges_leave, here_of, here_if, there_if, not_mine, home_bytes, remote_bytes, queue_of, asking_of, mapped_home, mapped_remote, good_moved, good_forgets, is_cached, not_cached, kept_dropped, kept_more}
+use Rattle.crl_protocol.proofs.Keeping.{fits_turn, fits_home, fits_remote}
+use Rattle.crl_protocol.proofs.Opening.{free, fits_close, fits_open}
+use Rattle.crl_protocol.proofs.Outcomes.{Good, good_if, good_only, good_recording, free_apart, good_waits, fits_rounds, letters_leave, mails_leave, results_leave, not_mine, home_bytes, remote_bytes, queue_of, asking_of, mapped_home, mapped_remote, good_moved}
 
 -- the node waits for a section of a region that is mapped
 waits_mapped : (n : Node) (name : Name) (m : Mapping) → n.maps name ≡ Some m → (q : Name) → WaitFits q (Waiting (ForSection name)) (is_mine n q) (n.maps q)
@@ -55,12 +42,12 @@ start_here : (i : ℕ) (d : Name → List ℕ) (n : Node) (write : Bool) (name :
 unfolding section_opens
 start_here i d n write name h m s true o e mapped g f = record {
   node = fits_open i (with_home name s.home n) d write name s.home.bytes m mapped (g.bytes ∙ sym (mapped_home i d (free n) name h m e mapped f))
-    (fits_home i (free n) d name h s.home e g.size g.bytes (g.one, inl (g.after o)) f);
+      (fits_home i (free n) d name h s.home e g.size g.bytes (g.one, inl (g.after o)) f);
   posts = letters_leave (free n) name s.posts g.mail;
 }
 start_here i d n write name h m s false o e mapped g f = record {
   node = fits_home i (record n { activity = Waiting (ForSection name) }) d name h s.home e g.size g.bytes (g.one, inr refl)
-    (fits_turn i n d d Free (Waiting (ForSection name)) free_apart (waits_mapped n name m mapped) tt refl f);
+      (fits_turn i n d d Free (Waiting (ForSection name)) free_apart (waits_mapped n name m mapped) tt refl f);
   posts = letters_leave (free n) name s.posts g.mail;
 }
 
@@ -75,16 +62,16 @@ start_there i d n write name r m s true o e mapped g f =
     let copy = g.bytes o in
     record {
       node = fits_open i (with_remote name (Some s.remote) n) d write name (copy_bytes s.remote.copy) m mapped
-        (copy_length s.remote.copy r.copy copy.0 r.size g.copy copy.1 fits ∙ sym (mapped_remote i d (free n) name r m e mapped f))
-        (fits_remote i (free n) d name r s.remote e g.size (subst (λ x. CopyFits x s.remote.size) (sym g.copy) (subst (λ z. CopyFits r.copy z) (sym g.size) fits))
-        (inl (g.asking o ∙ not_asking name r (asking_of i d (free n) name r e f))) f);
+          (copy_length s.remote.copy r.copy copy.0 r.size g.copy copy.1 fits ∙ sym (mapped_remote i d (free n) name r m e mapped f))
+          (fits_remote i (free n) d name r s.remote e g.size (subst (λ x. CopyFits x s.remote.size) (sym g.copy) (subst (λ z. CopyFits r.copy z) (sym g.size) fits))
+          (inl (g.asking o ∙ not_asking name r (asking_of i d (free n) name r e f))) f);
       posts = mails_leave (free n) name s.posts (not_mine i d (free n) name r e f);
     }
 start_there i d n write name r m s false o e mapped g f =
     let fits = remote_bytes i d (free n) name r e f in
     record {
       node = fits_remote i (record n { activity = Waiting (ForSection name) }) d name r s.remote e g.size (subst (λ x. CopyFits x s.remote.size) (sym g.copy) (subst (λ z. CopyFits r.copy z) (sym g.size) fits)) (inr refl)
-        (fits_turn i n d d Free (Waiting (ForSection name)) free_apart (waits_mapped n name m mapped) tt refl f);
+          (fits_turn i n d d Free (Waiting (ForSection name)) free_apart (waits_mapped n name m mapped) tt refl f);
       posts = mails_leave (free n) name s.posts (not_mine i d (free n) name r e f);
     }
 

@@ -1,6 +1,6 @@
 -- What holds of a node at each moment of a run: the bytes of its tables, copies, sections and drafts have the
 -- sizes of their regions, and the node waits for what it has asked for.
-use Rattle.std.proofs.Common.{◌≡◌, ℕ, zero, suc, ◌+◌, ◌==◌, Bool, true, false, ◌&&◌, None, Some, Option, List, [], ◌∷◌, length, if◌then◌else◌, refl, ap, subst}
+use Rattle.std.proofs.Common.{◌≡◌, ℕ, ◌==◌, Bool, true, false, None, Some, Option, List, [], ◌∷◌, length, refl, subst}
 use Rattle.std.specs.Bool.{MatchBool}
 use Rattle.std.specs.List.{AllByRecursion}
 use Rattle.std.proofs.lemmas.Bool.{and_parts, and_from, eqb-true, eq-eqb}
@@ -19,7 +19,7 @@ use Rattle.crl_protocol.specs.Home.{Home}
 use Rattle.crl_protocol.specs.Remote.{Copy, Remote, is_closed}
 use Rattle.crl_protocol.specs.Leases.{Mapping, Kept}
 use Rattle.crl_protocol.specs.Sections.{Record}
-use Rattle.crl_protocol.specs.Node.{Node, Answer, Made, Mapped, Reading, Writing, Done, Came, Refused, Wait, Activity, Free, Waiting, Ready, ForSection, ForMap, ForDelete, ForRound, is_mine, home_of, lease_of}
+use Rattle.crl_protocol.specs.Node.{Node, Answer, Made, Mapped, Reading, Writing, Done, Came, Refused, Wait, Activity, Free, Waiting, Ready, ForSection, ForMap, ForDelete, is_mine, home_of, lease_of}
 
 -- Names that are tested to be one.
 pub same_name : (a b : Name) → name_eq a b ≡ true → a ≡ b

@@ -1,7 +1,7 @@
 -- The runs that follow a script are those that its choices give.
-use Rattle.std.proofs.Common.{◌≡◌, ℕ, zero, suc, ◌+◌, ◌-◌, ◌<◌, ◌≤◌, ◌%◌, ◌==◌, nat_lt, Bool, true, false, ◌&&◌, if◌then◌else◌, List, [], ◌∷◌, ◌++◌, length, get_or, refl, ap, sym, ◌∙◌, subst, append_assoc, arith}
+use Rattle.std.proofs.Common.{◌≡◌, ℕ, zero, suc, ◌+◌, ◌<◌, ◌%◌, ◌==◌, Bool, true, false, ◌&&◌, if◌then◌else◌, List, [], ◌∷◌, ◌++◌, length, get_or, refl, ap, sym, ◌∙◌, subst, append_assoc, arith}
 use Rattle.std.specs.List.{AllByRecursion}
-use Rattle.std.proofs.lemmas.Bool.{and_from, and_parts, lt-ltb, ltb-true, eq-eqb, cond-true, cond-false, cases_Bool}
+use Rattle.std.proofs.lemmas.Bool.{and_from, lt-ltb, eq-eqb, cond-true}
 use Rattle.crl_model.specs.declared.choice.Choice.{Choice}
 use Rattle.crl_model.specs.declared.choice.Choice.TheVariants as choice
 use Rattle.crl_model.specs.declared.event.Event.{Event}
@@ -9,13 +9,13 @@ use Rattle.crl_model.specs.declared.event.Event.TheVariants as event
 use Rattle.crl_model.specs.declared.message.Message.{Message}
 use Rattle.crl_model.specs.declared.statement.Statement.{Statement}
 use Rattle.crl_model.specs.Names.{at_node}
-use Rattle.crl_protocol.specs.Node.{Node, Activity, Free, Waiting, Ready}
+use Rattle.crl_protocol.specs.Node.{Activity, Free, Waiting, Ready}
 use Rattle.crl_protocol.specs.Verdict.{verdict}
-use Rattle.crl_protocol.specs.World.{World, step, is_enabled, is_ready, account_from, world_after}
-use Rattle.crl_protocol.specs.Chosen.{Actor, Running, next_of, nexts_from, handles_of, handles_from, carries_of, carries_from, choices, goes_on, with_actor, changed, is_change, is_allowed, states_call, states, takes, takes_at, turn, turns_from, running}
-use Rattle.crl_protocol.specs.Laws.{IsNext, passed, next_call, is_inside, node_of, is_call_event, Follows, ended, changes, calls, happens}
+use Rattle.crl_protocol.specs.World.{step, is_enabled, is_ready, account_from, world_after}
+use Rattle.crl_protocol.specs.Chosen.{Actor, Running, next_of, nexts_from, handles_of, handles_from, carries_of, carries_from, choices, goes_on, with_actor, changed, is_change, is_allowed, states, takes, takes_at, turn, turns_from, running}
+use Rattle.crl_protocol.specs.Laws.{IsNext, passed, next_call, is_inside, Follows, ended, changes, calls, happens}
 use Rattle.crl_protocol.proofs.Growing.{append_nil}
-use Rattle.crl_protocol.proofs.Placing.{At, at_head, at_tail, at_left, at_right, all_append, gather, all_gathered, at_gathered, chosen_is, chosen_at}
+use Rattle.crl_protocol.proofs.Placing.{all_append, gather, all_gathered, chosen_is}
 
 -- The choices of a turn, gathered by node.
 pub nexts_gather : (r : Running) (i k : ℕ) → nexts_from i k r ≡ gather (λ j. next_of j (r.actors j).left (r.world.nodes j).activity) i k
@@ -92,8 +92,8 @@ pub states_is : (r : Running) (i : ℕ) (s : Statement) (left : List Statement) 
 states_is r i s left =
     let actor : Actor = record (r.actors i) { left = left } in
     let twice : with_actor i (changed s ((passed r i left).actors i)) (passed r i left) ≡ with_actor i (changed s actor) r =
-        ap (λ a. with_actor i (changed s a) (passed r i left)) (here r.actors i actor)
-        ∙ ap (λ f. record r { actors = f }) (λ d m. again r.actors i actor (changed s actor) m d) in
+    ap (λ a. with_actor i (changed s a) (passed r i left)) (here r.actors i actor)
+    ∙ ap (λ f. record r { actors = f }) (λ d m. again r.actors i actor (changed s actor) m d) in
     ap (λ x. if is_change s then if is_allowed (verdict (r.world.nodes i) (next_call r i s)) then x
     else goes_on i (event.Call i (next_call r i s)) (passed r i left) else goes_on i (event.Call i (next_call r i s)) (passed r i left)) twice
     ∙ if_both (is_change s) (is_allowed (verdict (r.world.nodes i) (next_call r i s))) _ _

@@ -1,8 +1,7 @@
 -- A run with one event more at its end.
 use Rattle.std.proofs.Common.{◌≡◌, List, [], ◌∷◌, ◌++◌, refl, ap, sym, ◌∙◌, append_assoc}
-use Rattle.crl_model.specs.declared.entry.Entry.{Entry}
 use Rattle.crl_model.specs.declared.event.Event.{Event}
-use Rattle.crl_protocol.specs.World.{World, step, is_enabled, IsRunFrom, world_after, account_from}
+use Rattle.crl_protocol.specs.World.{World, step, world_after, account_from}
 
 pub append_nil : {A : Type 0} (xs : List A) → xs ++ [] ≡ xs
 append_nil [] = refl

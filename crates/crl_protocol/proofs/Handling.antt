@@ -1,27 +1,24 @@
 -- What holds of a node holds after it handles a message about copies.
-use Rattle.std.proofs.Common.{◌≡◌, ℕ, zero, suc, ◌+◌, ◌-◌, ◌==◌, Bool, true, false, not, ◌&&◌, ◌||◌, None, Some, Option, List, [], ◌∷◌, ◌++◌, length, map, if◌then◌else◌, refl, ap, sym, ◌∙◌, subst}
-use Rattle.std.specs.List.{AllByRecursion}
-use Rattle.std.proofs.lemmas.Bool.{cond_both, cond-true, eqb-true, and_parts}
+use Rattle.std.proofs.Common.{◌≡◌, ℕ, ◌==◌, Bool, true, false, None, Some, Option, List, length, refl, ap, sym, ◌∙◌, subst}
+use Rattle.std.proofs.lemmas.Bool.{cond-true, eqb-true, and_parts}
 use Rattle.std.proofs.Math.Logic.{◌⊎◌, inl, inr}
 use Rattle.crl_model.specs.declared.name.Name.{Name}
-use Rattle.crl_model.specs.declared.region.Stage.{Stage}
-use Rattle.crl_model.specs.declared.region.Stage.TheVariants as stage
 use Rattle.crl_model.specs.declared.message.Granted.{Granted}
 use Rattle.crl_model.specs.declared.message.Granted.TheVariants as granted_as
-use Rattle.crl_model.specs.Names.{name_eq, at_name}
-use Rattle.crl_protocol.specs.Home.{Home, Served, home_asked, home_returned, home_released, takes_return, takes_release}
+use Rattle.crl_model.specs.Names.{name_eq}
+use Rattle.crl_protocol.specs.Home.{Home, Served, takes_return, takes_release}
 use Rattle.crl_protocol.specs.Remote.{Copy, Remote, Moved, granted_copy, remote_granted, asks_to_write, asks_to_read, is_shared, takes_grant}
 use Rattle.crl_protocol.specs.Leases.{Mapping}
 use Rattle.crl_protocol.specs.Sections.{is_writing}
-use Rattle.crl_protocol.specs.Node.{Node, Outcome, only, Answer, Done, ForSection, ForMap, ForDelete, ForRound, Activity, Free, Waiting, Ready, is_mine, home_of, lease_of, with_home, with_remote, section_opens}
+use Rattle.crl_protocol.specs.Node.{Node, ForSection, Activity, Free, Waiting, Ready, home_of, lease_of, with_home, with_remote, section_opens}
 use Rattle.crl_protocol.specs.Sectioning.{copy_bytes, served}
-use Rattle.crl_protocol.specs.Handlers.{ignored, is_queued_in, asked, returned, released, opened_with, granted, remote_called}
-use Rattle.crl_protocol.proofs.Fitting.{name_self, other_name, begins, begun, seen, CopyFits, OneOwn, NoOwn, QueueFits, AskingFits, GoingFits, going_calm, WaitFits, IsMapped, FreshFits, Leaves, Fits, Apart}
+use Rattle.crl_protocol.specs.Handlers.{is_queued_in, asked, returned, released, opened_with, granted, remote_called}
+use Rattle.crl_protocol.proofs.Fitting.{name_self, other_name, begins, CopyFits, OneOwn, NoOwn, QueueFits, AskingFits, going_calm, IsMapped, Fits, Apart}
 use Rattle.crl_protocol.proofs.Serving.{HomeGoes, asked_goes, returned_goes, released_goes, RemoteGoes}
 use Rattle.crl_protocol.proofs.Tabling.{home_put}
 use Rattle.crl_protocol.proofs.Keeping.{fits_turn, fits_leave, fits_home, fits_remote}
 use Rattle.crl_protocol.proofs.Opening.{free, fits_open}
-use Rattle.crl_protocol.proofs.Outcomes.{Good, good_if, good_only, free_apart, letters_leave, mails_leave, here_of, there_if, not_mine, home_bytes, remote_bytes, queue_of, asking_of, mapped_home, mapped_remote, good_moved}
+use Rattle.crl_protocol.proofs.Outcomes.{Good, good_if, good_only, free_apart, letters_leave, here_of, there_if, not_mine, home_bytes, remote_bytes, queue_of, asking_of, mapped_home, mapped_remote, good_moved}
 
 -- the node with its activity written out
 pub fits_as : (i : ℕ) (d : Name → List ℕ) (n : Node) (a : Activity) → n.activity ≡ a → Fits i n d → Fits i (record n { activity = a }) d
@@ -138,8 +135,8 @@ granted_opens i d n name version g r e w f =
     let there : (with_remote name (Some s) n).remotes name ≡ Some s = cond-true (name_eq name name) _ _ (name_self name) in
     record {
       node = opens_ready i d (with_remote name (Some s) n) (asks_to_write r.asking) name (copy_bytes s.copy) m.0 m.1 (bytes.1 ∙ sym (mapped_remote i d waiting name r m.0 e m.1 f))
-        (done_waiting i d (with_remote name (Some s) n) name (subst (λ x. QueueFits n.me name x Free) (sym (there_if i d waiting name other f).nothing) tt)
-        (subst (λ x. AskingFits name x Free) (sym there) (inl refl)) (fits_remote i waiting d name r s e refl bytes.0 (inl refl) f));
+          (done_waiting i d (with_remote name (Some s) n) name (subst (λ x. QueueFits n.me name x Free) (sym (there_if i d waiting name other f).nothing) tt)
+          (subst (λ x. AskingFits name x Free) (sym there) (inl refl)) (fits_remote i waiting d name r s e refl bytes.0 (inl refl) f));
       posts = tt;
     }
 

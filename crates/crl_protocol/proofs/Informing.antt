@@ -1,7 +1,7 @@
 -- What holds of a node holds after it handles a message about maps, deletes and rounds.
-use Rattle.std.proofs.Common.{◌≡◌, ℕ, zero, suc, ◌+◌, ◌-◌, ◌==◌, Bool, true, false, not, ◌&&◌, ◌||◌, None, Some, Option, List, [], ◌∷◌, ◌++◌, length, map, if◌then◌else◌, refl, ap, sym, ◌∙◌, subst}
+use Rattle.std.proofs.Common.{◌≡◌, ℕ, ◌-◌, ◌==◌, Bool, true, false, ◌||◌, None, Some, Option, List, [], ◌∷◌, if◌then◌else◌, refl, ap, sym, ◌∙◌, subst}
 use Rattle.std.specs.List.{AllByRecursion}
-use Rattle.std.proofs.lemmas.Bool.{cond_both, cond-true, eqb-true, and_parts}
+use Rattle.std.proofs.lemmas.Bool.{cond_both, cond-true, eqb-true}
 use Rattle.std.proofs.Math.Logic.{◌⊎◌, inl, inr}
 use Rattle.crl_model.specs.declared.name.Name.{Name}
 use Rattle.crl_model.specs.declared.region.Stage.{Stage}
@@ -13,18 +13,16 @@ use Rattle.crl_model.specs.declared.message.Told.{Told}
 use Rattle.crl_model.specs.declared.message.Told.TheVariants as told
 use Rattle.crl_model.specs.declared.message.DeleteTold.{DeleteTold}
 use Rattle.crl_model.specs.declared.message.DeleteTold.TheVariants as delete_told
-use Rattle.crl_model.specs.declared.message.Message.{Message}
 use Rattle.crl_model.specs.declared.message.Kind.{Kind}
 use Rattle.crl_model.specs.declared.message.Kind.TheVariants as kind
-use Rattle.crl_model.specs.Names.{name_eq, at_node, at_name}
-use Rattle.crl_protocol.specs.Home.{Home}
+use Rattle.crl_model.specs.Names.{name_eq, at_node}
 use Rattle.crl_protocol.specs.Remote.{Remote, new_remote, remote_recalled, remote_yields}
-use Rattle.crl_protocol.specs.Leases.{Mapping, new_mapping, Kept, cached_size, dropped, Lease, no_lease, lease_asked, lease_begins, lease_after, lease_purged, members}
-use Rattle.crl_protocol.specs.Gathering.{Gathering, gathers, awaits}
-use Rattle.crl_protocol.specs.Node.{Node, Outcome, only, Answer, Mapped, Done, ForSection, ForMap, ForDelete, ForRound, Activity, Free, Waiting, Ready, is_mine, home_of, lease_of, with_home, with_lease, with_remote, with_mapping, message}
-use Rattle.crl_protocol.specs.Calls.{is_gone, size_of, answer_of, results, purges}
-use Rattle.crl_protocol.specs.Handlers.{ignored, becomes_ready, info_asked, info_told, info_is, delete_refused, delete_begun, delete_asked, delete_answer, delete_is, purges_waiting, purged_cached, purged_over, sending, purge, delete_done_at, purged_by, purged, own_result, gathered_from, come, result, handled}
-use Rattle.crl_protocol.proofs.Fitting.{same_name, name_self, other_name, by_name, begins, begun, Seen, seen, OwnFits, OwnThere, LiveFits, MappedThere, RemoteFits, AskingFits, asking_calm, QueueFits, queue_calm, GoingFits, going_calm, WaitFits, IsCached, SizeIs, FreshFits, IsAway, Leaves, Fits, Holds, Apart}
+use Rattle.crl_protocol.specs.Leases.{Mapping, new_mapping, Kept, cached_size, dropped, Lease, no_lease, lease_asked, lease_begins, lease_purged, members}
+use Rattle.crl_protocol.specs.Gathering.{gathers, awaits}
+use Rattle.crl_protocol.specs.Node.{Node, only, Answer, Mapped, Done, ForSection, ForMap, ForDelete, ForRound, Activity, Free, Waiting, Ready, is_mine, home_of, lease_of, with_lease, with_remote}
+use Rattle.crl_protocol.specs.Calls.{is_gone, answer_of}
+use Rattle.crl_protocol.specs.Handlers.{becomes_ready, info_asked, info_told, info_is, delete_begun, delete_asked, delete_answer, delete_is, purges_waiting, purged_cached, purged_over, purge, delete_done_at, purged_by, purged, own_result, gathered_from, come, result, handled}
+use Rattle.crl_protocol.proofs.Fitting.{same_name, name_self, other_name, by_name, begins, Seen, seen, OwnFits, LiveFits, MappedThere, RemoteFits, asking_calm, queue_calm, GoingFits, WaitFits, IsCached, SizeIs, FreshFits, IsAway, Leaves, Fits, Holds, Apart}
 use Rattle.crl_protocol.proofs.Serving.{recalled_goes, yields_goes}
 use Rattle.crl_protocol.proofs.Tabling.{lease_put}
 use Rattle.crl_protocol.proofs.Placing.{all_append}
@@ -53,7 +51,7 @@ good_info_asked : (i : ℕ) (d : Name → List ℕ) (n : Node) (from : ℕ) (nam
 unfolding lease_asked
 good_info_asked i d n from name f = record {
   node = cond_both (is_mine n name) _ _ (λ m. Fits i m d)
-    (λ mine. fits_same_stage i d n name (lease_asked from (lease_of n name)) mine (asked_stage from (lease_of n name) (lease_of n name).stage) f) (λ w. f);
+      (λ mine. fits_same_stage i d n name (lease_asked from (lease_of n name)) mine (asked_stage from (lease_of n name) (lease_of n name).stage) f) (λ w. f);
   posts = (tt, tt);
 }
 
@@ -226,9 +224,9 @@ good_done_at : (i : ℕ) (d : Name → List ℕ) (n : Node) (deleter : ℕ) (nam
     → Good i d (delete_done_at deleter name (with_lease name lease n))
 good_done_at i d n deleter name lease mine going gone f = record {
   node = cond_both (deleter == n.me) _ _ (λ m. Fits i m d)
-    (λ own. fits_deleted i d (with_lease name lease n) name Done refl (subst (λ s. GoingFits n.me name s (Ready Done)) (sym (gone_at n name lease mine gone)) tt)
-    (gone_fits (record n { activity = Waiting (ForDelete name) }) mine (fits_as i d n (Waiting (ForDelete name)) (going_waits n.me deleter name (lease_of n name).stage n.activity going own (f.each name).going) f)))
-    (λ other. gone_fits n mine f);
+      (λ own. fits_deleted i d (with_lease name lease n) name Done refl (subst (λ s. GoingFits n.me name s (Ready Done)) (sym (gone_at n name lease mine gone)) tt)
+      (gone_fits (record n { activity = Waiting (ForDelete name) }) mine (fits_as i d n (Waiting (ForDelete name)) (going_waits n.me deleter name (lease_of n name).stage n.activity going own (f.each name).going) f)))
+      (λ other. gone_fits n mine f);
   posts = cond_both (deleter == n.me) _ _ (λ ms. AllByRecursion Leaves ms) (λ own. tt) (λ other. (away_from name n.me deleter mine other, tt));
 }
   where

@@ -1,21 +1,15 @@
 -- What holds of a node stays so where one thing of it changes.
-use Rattle.std.proofs.Common.{◌≡◌, ℕ, zero, suc, ◌+◌, ◌==◌, Bool, true, false, ◌&&◌, None, Some, Option, List, [], ◌∷◌, ◌++◌, length, if◌then◌else◌, refl, ap, sym, ◌∙◌, subst}
-use Rattle.std.specs.List.{AllByRecursion}
-use Rattle.std.proofs.Math.Logic.{◌⊎◌, inl, inr}
+use Rattle.std.proofs.Common.{◌≡◌, ℕ, Bool, true, false, None, Some, Option, List, [], ◌∷◌, ◌++◌, length, if◌then◌else◌, refl, sym, ◌∙◌, subst}
 use Rattle.crl_model.specs.declared.name.Name.{Name}
 use Rattle.crl_model.specs.declared.region.Stage.{Stage}
 use Rattle.crl_model.specs.declared.region.Stage.TheVariants as stage
-use Rattle.crl_model.specs.declared.directory.Section.{Section}
-use Rattle.crl_model.specs.declared.directory.Section.TheVariants as section
-use Rattle.crl_model.specs.declared.message.Message.{Message}
-use Rattle.crl_model.specs.Names.{name_eq, at_node, at_name}
-use Rattle.crl_protocol.specs.Home.{Home, new_home, one_less, one_more}
-use Rattle.crl_protocol.specs.Remote.{Remote, is_closed}
-use Rattle.crl_protocol.specs.Leases.{Mapping, Kept, Lease, new_lease}
-use Rattle.crl_protocol.specs.Sections.{Record, Sections, begins_to_read, section_begins, section_ends, ends_over}
-use Rattle.crl_protocol.specs.Node.{Node, Answer, Activity, Free, Waiting, Ready, ForSection, ForMap, ForDelete, ForRound, is_mine, home_of, lease_of, with_home, with_lease, with_remote, with_mapping, next_name, used, section_opens, opening_of}
-use Rattle.crl_protocol.proofs.Fitting.{same_name, name_self, other_name, by_name, begins, begun, Seen, seen, RecordFits, DraftFits, LiveFits, HomeFits, MappedHere, RemoteFits, MappedThere, OwnHere, OwnThere, OwnFits, QueueFits, AskingFits, GoingFits, IsMapped, WaitFits, Holds, IsCached, SizeIs, FreshFits, Comes, Leaves, Fits, Apart, queue_calm, asking_calm, going_calm, calm}
-use Rattle.crl_protocol.proofs.Tabling.{home_put, lease_put, home_end, home_next, home_none}
+use Rattle.crl_model.specs.Names.{name_eq}
+use Rattle.crl_protocol.specs.Home.{Home}
+use Rattle.crl_protocol.specs.Remote.{Remote}
+use Rattle.crl_protocol.specs.Leases.{Mapping, Kept, Lease}
+use Rattle.crl_protocol.specs.Node.{Node, Activity, is_mine, home_of, lease_of, with_home, with_lease, with_remote, with_mapping}
+use Rattle.crl_protocol.proofs.Fitting.{by_name, begun, Seen, seen, RecordFits, LiveFits, MappedHere, RemoteFits, MappedThere, OwnFits, QueueFits, AskingFits, GoingFits, WaitFits, Holds, IsCached, SizeIs, FreshFits, Fits, Apart, calm}
+use Rattle.crl_protocol.proofs.Tabling.{home_put, lease_put, home_none}
 
 -- The activity changes: for no name anything waited, or for this one it is done.
 pub fits_turn : (i : ℕ) (n : Node) (d e : Name → List ℕ) (a b : Activity) → ((q : Name) → Apart q a) → ((q : Name) → WaitFits q b (is_mine n q) (n.maps q)) → FreshFits b n.cache
@@ -35,8 +29,8 @@ pub fits_leave : (i : ℕ) (n : Node) (d e : Name → List ℕ) (a b : Activity)
 fits_leave i n d e a b name apart wait fresh queue asking going same f = record {
   me = f.me;
   each = by_name name (λ t q. Holds n.me q b (seen (record n { activity = b }) e q))
-    (subst (λ g. Holds n.me name b (record (seen (record n { activity = a }) d name) { draft = g name })) (sym same) (at_it (f.each name)))
-    (λ q w. subst (λ g. Holds n.me q b (record (seen (record n { activity = a }) d q) { draft = g q })) (sym same) (calm n.me q a b (seen (record n { activity = a }) d q) (apart q w) (wait q) (f.each q)));
+      (subst (λ g. Holds n.me name b (record (seen (record n { activity = a }) d name) { draft = g name })) (sym same) (at_it (f.each name)))
+      (λ q w. subst (λ g. Holds n.me q b (record (seen (record n { activity = a }) d q) { draft = g q })) (sym same) (calm n.me q a b (seen (record n { activity = a }) d q) (apart q w) (wait q) (f.each q)));
   cache = f.cache;
   fresh = fresh;
   inbox = f.inbox;
@@ -71,7 +65,7 @@ pub fits_home : (i : ℕ) (n : Node) (d : Name → List ℕ) (name : Name) (h g 
 fits_home i n d name h g e size bytes queue f = record {
   me = f.me;
   each = λ q. subst (λ x. Holds n.me q n.activity (record (seen n d q) { home = x })) (sym (home_put n name h g e q))
-    (by_name name (λ b p. Holds n.me p n.activity (record (seen n d p) { home = if b then Some g else home_of n p })) (at_it (f.each name)) (λ p w. f.each p) q);
+      (by_name name (λ b p. Holds n.me p n.activity (record (seen n d p) { home = if b then Some g else home_of n p })) (at_it (f.each name)) (λ p w. f.each p) q);
   cache = f.cache;
   fresh = f.fresh;
   inbox = f.inbox;
@@ -180,7 +174,7 @@ pub fits_lease : (i : ℕ) (n : Node) (d : Name → List ℕ) (name : Name) (lea
 fits_lease i n d name lease mine live going f = record {
   me = f.me;
   each = λ q. subst (λ (x : Lease). Holds n.me q n.activity (record (seen n d q) { stage = x.stage })) (sym (lease_put n name lease mine q))
-    (by_name name (λ b p. Holds n.me p n.activity (record (seen n d p) { stage = (if b then lease else lease_of n p).stage })) (at_it (f.each name)) (λ p w. f.each p) q);
+      (by_name name (λ b p. Holds n.me p n.activity (record (seen n d p) { stage = (if b then lease else lease_of n p).stage })) (at_it (f.each name)) (λ p w. f.each p) q);
   cache = f.cache;
   fresh = f.fresh;
   inbox = f.inbox;

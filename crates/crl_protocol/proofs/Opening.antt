@@ -1,18 +1,18 @@
 -- What holds of a node stays so where a region is made, and where a section opens or ends.
-use Rattle.std.proofs.Common.{◌≡◌, ℕ, zero, suc, ◌+◌, ◌==◌, Bool, true, false, ◌&&◌, None, Some, Option, List, [], ◌∷◌, ◌++◌, length, replicate, if◌then◌else◌, refl, ap, sym, ◌∙◌, subst}
+use Rattle.std.proofs.Common.{◌≡◌, ℕ, ◌+◌, Bool, true, false, None, Some, Option, List, [], ◌∷◌, ◌++◌, length, if◌then◌else◌, refl, sym, subst}
 use Rattle.std.proofs.lemmas.Bool.{eq-eqb}
 use Rattle.std.proofs.lemmas.List.{length-replicate}
-use Rattle.std.proofs.Math.Logic.{◌⊎◌, inl, inr}
+use Rattle.std.proofs.Math.Logic.{inl}
 use Rattle.crl_model.specs.declared.name.Name.{Name}
 use Rattle.crl_model.specs.declared.region.Stage.TheVariants as stage
 use Rattle.crl_model.specs.declared.directory.Section.{Section}
 use Rattle.crl_model.specs.declared.directory.Section.TheVariants as section
-use Rattle.crl_model.specs.Names.{name_eq, at_node, at_name}
+use Rattle.crl_model.specs.Names.{at_node, at_name}
 use Rattle.crl_protocol.specs.Home.{Home, new_home, one_less, one_more}
 use Rattle.crl_protocol.specs.Remote.{is_closed}
 use Rattle.crl_protocol.specs.Leases.{Mapping, Lease, new_lease}
 use Rattle.crl_protocol.specs.Sections.{Record, Sections, begins_to_read, section_begins, section_ends, ends_over}
-use Rattle.crl_protocol.specs.Node.{Node, Answer, Activity, Free, is_mine, home_of, lease_of, next_name, used, section_opens, opening_of}
+use Rattle.crl_protocol.specs.Node.{Node, Free, is_mine, home_of, lease_of, next_name, used, section_opens}
 use Rattle.crl_protocol.specs.Sectioning.{closes}
 use Rattle.crl_protocol.proofs.Fitting.{by_name, begins, Seen, seen, RecordFits, LengthFits, DraftFits, MappedHere, OwnFits, Holds, Fits}
 use Rattle.crl_protocol.proofs.Tabling.{lease_put, home_end, home_next}
@@ -42,9 +42,9 @@ pub fits_made : (i size : ℕ) (n : Node) (d : Name → List ℕ) → Fits i n d
 fits_made i size n d f = record {
   me = f.me;
   each = λ q. subst (λ x. Holds n.me q n.activity (record (seen (made size n) d q) { home = x })) (sym (home_end n (made size n) (new_home size) refl refl q))
-    (subst (λ (x : Lease). Holds n.me q n.activity (record (seen (made size n) d q) { home = at_name (home_of n) (next_name n) (Some (new_home size)) q; stage = x.stage }))
-    (sym (lease_put n (next_name n) new_lease (eq-eqb n.me n.me refl) q))
-    (by_name (next_name n) (λ b p. Holds n.me p n.activity (record (seen n d p) { home = if b then Some (new_home size) else home_of n p; stage = (if b then new_lease else lease_of n p).stage })) (at_it (f.each (next_name n))) (λ p w. f.each p) q));
+      (subst (λ (x : Lease). Holds n.me q n.activity (record (seen (made size n) d q) { home = at_name (home_of n) (next_name n) (Some (new_home size)) q; stage = x.stage }))
+      (sym (lease_put n (next_name n) new_lease (eq-eqb n.me n.me refl) q))
+      (by_name (next_name n) (λ b p. Holds n.me p n.activity (record (seen n d p) { home = if b then Some (new_home size) else home_of n p; stage = (if b then new_lease else lease_of n p).stage })) (at_it (f.each (next_name n))) (λ p w. f.each p) q));
   cache = f.cache;
   fresh = f.fresh;
   inbox = f.inbox;

@@ -1,7 +1,7 @@
 -- What holds of a node after a call or a message, by the parts that these share.
-use Rattle.std.proofs.Common.{◌≡◌, ℕ, zero, suc, ◌+◌, ◌-◌, ◌==◌, nat_lt, Bool, true, false, not, ◌&&◌, None, Some, Option, List, [], ◌∷◌, ◌++◌, length, map, if◌then◌else◌, refl, ap, sym, ◌∙◌, subst}
+use Rattle.std.proofs.Common.{◌≡◌, ℕ, zero, suc, ◌+◌, ◌==◌, Bool, true, false, None, Some, Option, List, [], ◌∷◌, ◌++◌, length, map, if◌then◌else◌, refl, sym, ◌∙◌, subst}
 use Rattle.std.specs.List.{AllByRecursion}
-use Rattle.std.proofs.lemmas.Bool.{cond_both, eqb-true, eq-eqb, ne_eqb, eqb-false}
+use Rattle.std.proofs.lemmas.Bool.{cond_both, ne_eqb, eqb-false}
 use Rattle.std.proofs.Math.Logic.{◌⊎◌, inl, inr}
 use Rattle.crl_model.specs.declared.name.Name.{Name}
 use Rattle.crl_model.specs.declared.collective.Fold.{Fold}
@@ -10,19 +10,17 @@ use Rattle.crl_model.specs.declared.message.Message.{Message}
 use Rattle.crl_model.specs.declared.message.Kind.TheVariants as kind
 use Rattle.crl_model.specs.Names.{name_eq}
 use Rattle.crl_protocol.specs.Mail.{Mail, Ask, Grant, Recall, Yield, Return, Release, Letter, about}
-use Rattle.crl_protocol.specs.Home.{Home, Served}
-use Rattle.crl_protocol.specs.Remote.{Copy, Remote, Moved, remote_flushes}
-use Rattle.crl_protocol.specs.Leases.{Mapping, Kept, cached_size, dropped, Lease}
+use Rattle.crl_protocol.specs.Home.{Home}
+use Rattle.crl_protocol.specs.Remote.{Remote, Moved, remote_flushes}
+use Rattle.crl_protocol.specs.Leases.{Mapping, Kept, cached_size, dropped}
 use Rattle.crl_protocol.specs.Gathering.{Gathering}
-use Rattle.crl_protocol.specs.Sections.{Record}
-use Rattle.crl_protocol.specs.Node.{Node, Answer, Awaited, ForSection, ForMap, ForDelete, ForRound, Activity, Free, Waiting, Ready, Outcome, only, Done, is_mine, home_of, lease_of, message, letters, mails, with_remote}
+use Rattle.crl_protocol.specs.Node.{Node, Awaited, Free, Waiting, Outcome, only, Done, is_mine, home_of, message, letters, mails}
 use Rattle.crl_protocol.specs.Sectioning.{waits, recording, forgets_over, forgets, moved}
-use Rattle.crl_protocol.specs.Calls.{results_from, results}
-use Rattle.crl_protocol.proofs.Fitting.{begins, begun, seen, CopyFits, RemoteFits, HomeFits, OneOwn, NoOwn, OwnFits, OwnHere, OwnThere, MappedHere, MappedThere, RecordFits, QueueFits, AskingFits, WaitFits, IsCached, FreshFits, SizeIs, IsAway, Leaves, Fits, Apart, other_name, same_name}
+use Rattle.crl_protocol.specs.Calls.{results_from}
+use Rattle.crl_protocol.proofs.Fitting.{begins, seen, CopyFits, RemoteFits, HomeFits, OwnFits, OwnHere, OwnThere, MappedHere, MappedThere, QueueFits, AskingFits, WaitFits, IsCached, FreshFits, IsAway, Leaves, Fits, Apart, other_name, same_name}
 use Rattle.crl_protocol.proofs.Serving.{NoAsk, NoAsks, RemoteGoes}
 use Rattle.crl_protocol.proofs.Keeping.{fits_turn, fits_remote, fits_forget}
 use Rattle.crl_protocol.proofs.Opening.{free}
-use Rattle.crl_protocol.proofs.Placing.{all_append}
 
 -- the node that a step leaves, with its drafts, and what it sends
 pub record Good (i : ℕ) (d : Name → List ℕ) (o : Outcome) : Type 0 where

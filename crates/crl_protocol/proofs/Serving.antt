@@ -1,16 +1,16 @@
 -- What the events of a region's home and of another node's side leave: sizes stay, and no asks are posted.
-use Rattle.std.proofs.Common.{◌≡◌, ℕ, ◌+◌, ◌==◌, nat_lt, Bool, true, false, not, ◌&&◌, None, Some, Option, List, [], ◌∷◌, ◌++◌, length, if◌then◌else◌, refl, ap, sym, ◌∙◌}
+use Rattle.std.proofs.Common.{◌≡◌, ℕ, ◌+◌, ◌==◌, nat_lt, Bool, true, false, not, ◌&&◌, None, Some, Option, List, [], ◌∷◌, ◌++◌, length, if◌then◌else◌, refl, ap, ◌∙◌}
 use Rattle.std.specs.Bool.{MatchBool}
 use Rattle.std.specs.List.{AllByRecursion}
-use Rattle.std.proofs.lemmas.Bool.{and_parts, eqb-true, eq-eqb, cond_both, MatchBool-at_true, MatchBool-at_false}
+use Rattle.std.proofs.lemmas.Bool.{and_parts, eqb-true, cond_both, MatchBool-at_true, MatchBool-at_false}
 use Rattle.crl_model.specs.declared.directory.Section.{Section}
 use Rattle.crl_model.specs.declared.directory.Section.TheVariants as section
 use Rattle.crl_model.specs.declared.directory.Asked.{Asked}
 use Rattle.crl_model.specs.declared.directory.Listing.{Listing}
 use Rattle.crl_protocol.specs.Places.{at}
-use Rattle.crl_protocol.specs.Mail.{Mail, Ask, Grant, Recall, Yield, Return, Release, Letter}
+use Rattle.crl_protocol.specs.Mail.{Mail, Ask, Letter}
 use Rattle.crl_protocol.specs.Home.{Home, Served, is_servable, is_called, call_for, calls, open_own, grant_next, grant_for, opening, posting, serve, marked, home_asked, bytes_after, takes_return, bytes_fit, home_returned, is_lowered, home_released, takes_release, own_ask, is_empty, is_reading, home_starts, home_ends_read, home_ends_write, one_less}
-use Rattle.crl_protocol.specs.Remote.{Copy, Remote, Moved, remote_starts, starts_over, notes_due, is_newer, overtakes, recalled_in, recalled_over, remote_recalled, yields_in, yields_over, remote_yields, leaves_over, lowers_over, is_closed, remote_ends_read, written, remote_ends_write, flushes_over, remote_flushes, gives_back, lowers, quiet, with_due, opens, asks}
+use Rattle.crl_protocol.specs.Remote.{Copy, Remote, Moved, remote_starts, starts_over, notes_due, is_newer, overtakes, recalled_in, recalled_over, remote_recalled, yields_in, yields_over, remote_yields, leaves_over, lowers_over, is_closed, remote_ends_read, written, remote_ends_write, flushes_over, remote_flushes, gives_back, lowers, quiet}
 use Rattle.crl_protocol.proofs.Fitting.{NoOwn, OneOwn, CopyFits}
 use Rattle.crl_protocol.proofs.Placing.{all_append}
 
@@ -162,7 +162,7 @@ pub starts_fit : (me : ℕ) (write : Bool) (h : Home) → length h.bytes ≡ h.s
 unfolding home_starts
 starts_fit me write h b none =
     let at_once : (section : Section) → HomeStarts me h (record { home = record h { mine = section }; posts = []; opened = true }) =
-        λ section. record { size = refl; bytes = b; mail = tt; one = no_is_one me h.queue none; after = λ w. none } in
+    λ section. record { size = refl; bytes = b; mail = tt; one = no_is_one me h.queue none; after = λ w. none } in
     let queued = serves me h (h.queue ++ own_ask me write ∷ []) in
     let one' = one_more_own me h.queue (own_ask me write) none in
     cond_both (not write && is_reading h.mine) _ _ (HomeStarts me h) (λ w. at_once _)

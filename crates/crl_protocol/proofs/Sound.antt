@@ -1,12 +1,10 @@
 -- What holds of the nodes and actors of a run holds after each event.
-use Rattle.std.proofs.Common.{◌≡◌, ℕ, zero, suc, ◌+◌, ◌==◌, Bool, true, false, ◌&&◌, None, Some, Option, List, [], ◌∷◌, ◌++◌, length, if◌then◌else◌, refl, ap, sym, ◌∙◌, subst}
+use Rattle.std.proofs.Common.{◌≡◌, ℕ, zero, suc, ◌==◌, Bool, true, false, None, Some, Option, List, [], ◌∷◌, if◌then◌else◌, refl, sym, ◌∙◌, subst}
 use Rattle.std.specs.List.{All, AllByRecursion}
-use Rattle.std.proofs.lemmas.Bool.{cond_both, eqb-true, and_parts}
+use Rattle.std.proofs.lemmas.Bool.{eqb-true, and_parts}
 use Rattle.std.proofs.lemmas.List.Elements.{recursion_from_All}
-use Rattle.std.proofs.Math.Logic.{◌⊎◌, inl, inr}
 use Rattle.crl_model.specs.declared.name.Name.{Name}
 use Rattle.crl_model.specs.declared.region.Stage.TheVariants as stage
-use Rattle.crl_model.specs.declared.call.Call.{Call}
 use Rattle.crl_model.specs.declared.event.Event.{Event}
 use Rattle.crl_model.specs.declared.event.Event.TheVariants as event
 use Rattle.crl_model.specs.declared.message.Message.{Message}
@@ -14,18 +12,16 @@ use Rattle.crl_model.specs.declared.statement.Statement.{Statement}
 use Rattle.crl_model.specs.Names.{at_node}
 use Rattle.crl_protocol.specs.Places.{Taken, behind, take_out}
 use Rattle.crl_protocol.specs.Home.{Home}
-use Rattle.crl_protocol.specs.Leases.{Lease, no_lease}
-use Rattle.crl_protocol.specs.Node.{Node, new_node, Answer, Made, Mapped, Reading, Writing, Done, Came, Refused, Wait, Activity, Free, Waiting, Ready, Outcome, only, is_mine, home_of, lease_of, at_serial}
-use Rattle.crl_protocol.specs.Verdict.{verdict}
+use Rattle.crl_protocol.specs.Leases.{no_lease}
+use Rattle.crl_protocol.specs.Node.{Node, new_node, Answer, Made, Mapped, Reading, Writing, Done, Came, Refused, Wait, Activity, Free, Waiting, Ready, Outcome}
 use Rattle.crl_protocol.specs.Calls.{called}
-use Rattle.crl_protocol.specs.World.{World, new_world, committed, stepped, collected, handled_at, put_in, carried, note, step, is_enabled, is_free, is_call}
+use Rattle.crl_protocol.specs.World.{committed, stepped, collected, handled_at, put_in, carried, note, step, is_enabled, is_free}
 use Rattle.crl_protocol.specs.Handlers.{handled}
-use Rattle.crl_protocol.specs.Chosen.{Actor, new_actor, Running, block_of, running, given, going_on, goes_on, with_actor}
-use Rattle.crl_protocol.specs.Laws.{IsStatement, AreStatements, is_call_event, node_of}
-use Rattle.crl_protocol.proofs.Fitting.{begins, begun, Seen, seen, OwnFits, Holds, Comes, Leaves, IsAway, Fits}
+use Rattle.crl_protocol.specs.Chosen.{Actor, Running, block_of, running, given, going_on, goes_on}
+use Rattle.crl_protocol.specs.Laws.{IsStatement, AreStatements, node_of}
+use Rattle.crl_protocol.proofs.Fitting.{begins, seen, OwnFits, Holds, Comes, Leaves, IsAway, Fits}
 use Rattle.crl_protocol.proofs.Placing.{all_append}
 use Rattle.crl_protocol.proofs.Keeping.{fits_turn}
-use Rattle.crl_protocol.proofs.Opening.{free}
 use Rattle.crl_protocol.proofs.Outcomes.{Good, good_only}
 use Rattle.crl_protocol.proofs.Obeying.{good_call}
 use Rattle.crl_protocol.proofs.Handling.{fits_as}
@@ -64,8 +60,8 @@ fits_start : (count capacity i : ℕ) → Fits i (new_node count capacity i) (λ
 fits_start count capacity i = record {
   me = refl;
   each = λ q. subst (λ s. Holds i q Free (record (seen (new_node count capacity i) (λ p. []) q) { stage = s })) (sym (no_stage (q.home == i)))
-    (subst (λ h. Holds i q Free (record (seen (new_node count capacity i) (λ p. []) q) { stage = stage.Unknown; home = h })) (sym (no_table (q.home == i) (q.serial == 0)))
-    (record { record' = tt; draft = tt; own = own_start (q.home == i) q; queue = tt; asking = tt; going = tt; waiting = tt }));
+      (subst (λ h. Holds i q Free (record (seen (new_node count capacity i) (λ p. []) q) { stage = stage.Unknown; home = h })) (sym (no_table (q.home == i) (q.serial == 0)))
+      (record { record' = tt; draft = tt; own = own_start (q.home == i) q; queue = tt; asking = tt; going = tt; waiting = tt }));
   cache = λ q size c. absurd c;
   fresh = tt;
   inbox = tt;
@@ -119,7 +115,7 @@ left_given r i answer s =
 sound_stepped : (r : Running) (i : ℕ) (e f : Event) (o : Outcome) → Good i (r.actors i).drafts o → Sound r → Sound (going_on i f (stepped i e o r.world) r)
 sound_stepped r i e f o g s = record {
   fits = by_node i (λ b j. Fits j (if b then committed r.world.events e o else r.world.nodes j) (if b then given o.answer (r.actors i) else r.actors j).drafts)
-    (subst (λ x. Fits i (committed r.world.events e o) x) (sym (given_drafts o.answer (r.actors i))) (fits_committed i r.world.events (r.actors i).drafts e o g)) s.fits;
+      (subst (λ x. Fits i (committed r.world.events e o) x) (sym (given_drafts o.answer (r.actors i))) (fits_committed i r.world.events (r.actors i).drafts e o g)) s.fits;
   left = left_given r i o.answer s;
 }
 

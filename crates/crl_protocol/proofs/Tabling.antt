@@ -1,14 +1,13 @@
 -- The tables and leases of a home by name, where one of them was changed or added.
-use Rattle.std.proofs.Common.{◌≡◌, ℕ, zero, suc, ◌+◌, ◌-◌, ◌<◌, ◌==◌, Bool, true, false, ◌&&◌, None, Some, Option, List, [], ◌∷◌, ◌++◌, length, if◌then◌else◌, refl, ap, sym, ◌∙◌, arith}
-use Rattle.std.proofs.lemmas.Bool.{cond-true, cond-false, eq-eqb, ne_eqb, eqb-true, eqb-false, and_parts, and_from, and_left}
+use Rattle.std.proofs.Common.{◌≡◌, ℕ, zero, suc, ◌+◌, ◌-◌, ◌==◌, Bool, true, false, None, Some, Option, List, [], ◌∷◌, ◌++◌, length, if◌then◌else◌, refl, ap, sym, ◌∙◌, arith}
+use Rattle.std.proofs.lemmas.Bool.{cond-true, cond-false, eq-eqb, ne_eqb, eqb-true, eqb-false, and_from}
 use Rattle.crl_model.specs.declared.name.Name.{Name}
-use Rattle.crl_model.specs.declared.region.Stage.TheVariants as stage
 use Rattle.crl_model.specs.Names.{name_eq, at_node, at_name}
 use Rattle.crl_protocol.specs.Places.{at, put}
 use Rattle.crl_protocol.specs.Home.{Home}
 use Rattle.crl_protocol.specs.Leases.{Lease, no_lease}
-use Rattle.crl_protocol.specs.Node.{Node, at_serial, is_mine, home_of, lease_of, with_home, with_lease, next_name, used}
-use Rattle.crl_protocol.proofs.Fitting.{same_name, name_self}
+use Rattle.crl_protocol.specs.Node.{Node, at_serial, is_mine, home_of, lease_of, with_home, with_lease, next_name}
+use Rattle.crl_protocol.proofs.Fitting.{same_name}
 
 at_put_same : {A : Type 0} (n : ℕ) (v : Option A) (xs : List (Option A)) → at n (put n v xs) ≡ v
 at_put_same zero v [] = refl

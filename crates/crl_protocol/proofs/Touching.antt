@@ -1,13 +1,12 @@
 -- An event changes only the nodes that it touches.
-use Rattle.std.proofs.Common.{◌≡◌, ℕ, ◌==◌, Bool, true, false, ◌||◌, None, Some, Option, refl, ◌∙◌}
+use Rattle.std.proofs.Common.{◌≡◌, ℕ, ◌==◌, false, ◌||◌, None, Some, Option, refl, ◌∙◌}
 use Rattle.std.proofs.lemmas.Bool.{cond-false, or_parts}
 use Rattle.crl_model.specs.declared.event.Event.{Event}
 use Rattle.crl_model.specs.declared.event.Event.TheVariants as event
 use Rattle.crl_model.specs.declared.message.Message.{Message}
 use Rattle.crl_model.specs.Names.{at_node}
 use Rattle.crl_protocol.specs.Places.{Taken, take_out}
-use Rattle.crl_protocol.specs.Node.{Node, Outcome}
-use Rattle.crl_protocol.specs.World.{World, stepped, handled_at, carried, step}
+use Rattle.crl_protocol.specs.World.{World, handled_at, carried, step}
 use Rattle.crl_protocol.specs.Laws.{goes_to, touches}
 
 kept : {A : Type 0} (f : ℕ → A) (n m : ℕ) (v : A) → (n == m) ≡ false → at_node f n v m ≡ f m

@@ -1,5 +1,5 @@
 -- What follows a script is what some words choose.
-use Rattle.std.proofs.Common.{◌≡◌, ℕ, zero, suc, ◌+◌, ◌-◌, ◌<◌, ◌≤◌, ◌%◌, ◌==◌, nat_lt, Bool, true, false, ◌&&◌, if◌then◌else◌, List, [], ◌∷◌, ◌++◌, length, get_or, refl, ap, sym, ◌∙◌, subst, arith}
+use Rattle.std.proofs.Common.{◌≡◌, ℕ, zero, suc, ◌+◌, ◌-◌, ◌<◌, ◌≤◌, ◌==◌, true, false, if◌then◌else◌, List, [], ◌∷◌, length, refl, ap, sym, ◌∙◌, subst, arith}
 use Rattle.std.proofs.lemmas.Bool.{and_parts, ltb-true, cond-false, ne_eqb}
 use Rattle.crl_model.specs.declared.choice.Choice.{Choice}
 use Rattle.crl_model.specs.declared.choice.Choice.TheVariants as choice
@@ -8,10 +8,10 @@ use Rattle.crl_model.specs.declared.event.Event.TheVariants as event
 use Rattle.crl_model.specs.declared.message.Message.{Message}
 use Rattle.crl_model.specs.declared.statement.Statement.{Statement}
 use Rattle.crl_protocol.specs.Node.{Activity, Free, Waiting, Ready}
-use Rattle.crl_protocol.specs.World.{World, is_enabled, is_ready}
-use Rattle.crl_protocol.specs.Chosen.{Running, next_of, nexts_from, handles_of, handles_from, carries_of, carries_from, choices, goes_on, states, takes, takes_at, turn, turns_from}
-use Rattle.crl_protocol.specs.Laws.{IsNext, node_of, is_call_event, is_inside, Follows, ended, changes, calls, happens}
-use Rattle.crl_protocol.proofs.Placing.{At, at_head, at_tail, at_left, at_right, gather, at_gathered, chosen_at}
+use Rattle.crl_protocol.specs.World.{is_enabled, is_ready}
+use Rattle.crl_protocol.specs.Chosen.{Running, next_of, nexts_from, handles_of, handles_from, carries_of, choices, goes_on, states, takes, takes_at, turn, turns_from}
+use Rattle.crl_protocol.specs.Laws.{IsNext, node_of, is_call_event, Follows, ended, changes, calls, happens}
+use Rattle.crl_protocol.proofs.Placing.{At, at_head, at_tail, at_left, at_right, at_gathered, chosen_at}
 use Rattle.crl_protocol.proofs.Following.{nexts_gather, handles_gather, carries_gather, stated, states_is}
 
 -- Each choice that may be taken is one of the choices.
@@ -105,9 +105,12 @@ one_behind : (word : ℕ) (words : ℕ → ℕ) (q : ℕ) → 1 ≤ q → one_be
 one_behind word words q h = cond-false (q + 1 == 1) _ _ (ne_eqb (q + 1) 1 (λ e. omega arith)) ∙ ap words (omega arith)
 
 worded : (r next end : Running) → Reaches r next → IsWorded next end → IsWorded r end
-worded r next end first rest =
-    (one_before first.0 rest.0, suc rest.1, rest.2 ∙ ap (λ x. turns_from rest.0 1 rest.1 x) (sym first.1)
-    ∙ sym (shifted rest.0 (one_before first.0 rest.0) 1 rest.1 (turn first.0 r) (one_behind first.0 rest.0)))
+worded r next end first rest = (
+  one_before first.0 rest.0,
+  suc rest.1,
+  rest.2 ∙ ap (λ x. turns_from rest.0 1 rest.1 x) (sym first.1)
+      ∙ sym (shifted rest.0 (one_before first.0 rest.0) 1 rest.1 (turn first.0 r) (one_behind first.0 rest.0)),
+)
 
 pub all_worded : {r end : Running} {es : List Event} → Follows r es end → IsWorded r end
 all_worded (ended {r = r}) = (λ p. 0, 0, refl)

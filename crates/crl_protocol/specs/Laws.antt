@@ -7,7 +7,6 @@ use Rattle.std.specs.declared.option.Option.TheVariants.{None, Some}
 use Rattle.crl_model.specs.declared.name.Name.{Name}
 use Rattle.crl_model.specs.declared.call.Call.{Call}
 use Rattle.crl_model.specs.declared.call.Call.TheVariants as call
-use Rattle.crl_model.specs.declared.call.CallKind.TheVariants as word
 use Rattle.crl_model.specs.declared.entry.Entry.{Entry}
 use Rattle.crl_model.specs.declared.entry.What.{What}
 use Rattle.crl_model.specs.declared.entry.What.TheVariants as what
@@ -19,10 +18,10 @@ use Rattle.crl_model.specs.declared.message.Kind.TheVariants as kind
 use Rattle.crl_model.specs.declared.statement.Statement.{Statement}
 use Rattle.crl_model.specs.declared.statement.Statement.TheVariants as statement
 use Rattle.crl_protocol.specs.Places.{Taken, take_out}
-use Rattle.crl_protocol.specs.Node.{Node, Activity, Free}
+use Rattle.crl_protocol.specs.Node.{Free}
 use Rattle.crl_protocol.specs.Verdict.{verdict, word_of}
 use Rattle.crl_protocol.specs.World.{World, is_enabled}
-use Rattle.crl_protocol.specs.Chosen.{Actor, Running, goes_on, with_actor, changed, is_change, is_allowed, call_of}
+use Rattle.crl_protocol.specs.Chosen.{Running, goes_on, with_actor, changed, is_change, is_allowed, call_of}
 
 -- An event touches its node; a carriage touches the sender and the addressee.
 abbrev pub goes_to : ℕ → Option (Taken Message) → Bool
