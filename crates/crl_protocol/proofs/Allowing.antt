@@ -38,14 +38,16 @@ draft_length (Some r) draft w f = of_section r.section w f
     of_section (section.Reading count) w f = cc
     of_section section.Writing w f = f
 
-writing_draft : (i : ℕ) (n : Node) (d : Name → List ℕ) (name : Name) → n.activity ≡ Free → is_writing (section_at name n.sections) ≡ true → Fits i n d → length (d name) ≡ length (bytes_at name n.sections)
+writing_draft : (i : ℕ) (n : Node) (d : Name → List ℕ) (name : Name) → n.activity ≡ Free → is_writing (section_at name n.sections) ≡ true → Fits i n d
+    → length (d name) ≡ length (bytes_at name n.sections)
 writing_draft i n d name e w f =
     draft_length (n.sections.records name) (d name) w (subst (λ a. DraftFits (n.sections.records name) (begun a d name)) e (f.each name).draft)
 
 -- and the size under which the region is mapped
-writing_size : (i : ℕ) (n : Node) (d : Name → List ℕ) (name : Name) → n.activity ≡ Free → is_writing (section_at name n.sections) ≡ true → Fits i n d → length (d name) ≡ mapped_size (n.maps name)
+writing_size : (i : ℕ) (n : Node) (d : Name → List ℕ) (name : Name) → n.activity ≡ Free → is_writing (section_at name n.sections) ≡ true → Fits i n d
+    → length (d name) ≡ mapped_size (n.maps name)
 writing_size i n d name e w f =
-    let size = open_size (n.sections.records name) (n.maps name) w (f.each name).record' in writing_draft i n d name e w f ∙ size.2 ∙ sym (ap mapped_size size.1)
+    let size = open_size (n.sections.records name) (n.maps name) w (f.each name).sections in writing_draft i n d name e w f ∙ size.2 ∙ sym (ap mapped_size size.1)
 
 -- A change keeps the draft's length.
 put_length : (offset : ℕ) (bytes old : List ℕ) → offset + length bytes ≤ length old → length (put_at offset bytes old) ≡ length old
@@ -60,7 +62,8 @@ same_draft : (o : Option Record) (x y : List ℕ) → length x ≡ length y → 
 same_draft None x y e f = tt
 same_draft (Some r) x y e f = same_length r.section (length x) (length y) (length r.bytes) e f
 
-fits_draft_free : (i : ℕ) (n : Node) (d : Name → List ℕ) (name : Name) (bytes : List ℕ) → length bytes ≡ length (d name) → Fits i (record n { activity = Free }) d → Fits i (record n { activity = Free }) (at_name d name bytes)
+fits_draft_free : (i : ℕ) (n : Node) (d : Name → List ℕ) (name : Name) (bytes : List ℕ) → length bytes ≡ length (d name)
+    → Fits i (record n { activity = Free }) d → Fits i (record n { activity = Free }) (at_name d name bytes)
 fits_draft_free i n d name bytes e f = record {
   me = f.me;
   each = by_name name (λ b p. Holds n.me p Free (record (seen (record n { activity = Free }) d p) { draft = if b then bytes else d p })) (at_it (f.each name)) (λ p w. f.each p);
@@ -72,7 +75,7 @@ fits_draft_free i n d name bytes e f = record {
   where
     at_it : Holds n.me name Free (seen (record n { activity = Free }) d name) → Holds n.me name Free (record (seen (record n { activity = Free }) d name) { draft = bytes })
     at_it x = record {
-      record' = x.record';
+      sections = x.sections;
       draft = same_draft (n.sections.records name) bytes (d name) e x.draft;
       own = own_opened (is_mine n name) _ _ _ x.own;
       queue = x.queue;
@@ -81,17 +84,20 @@ fits_draft_free i n d name bytes e f = record {
       waiting = x.waiting;
     }
 
-fits_draft : (i : ℕ) (n : Node) (d : Name → List ℕ) (name : Name) (bytes : List ℕ) → n.activity ≡ Free → length bytes ≡ length (d name) → Fits i n d → Fits i n (at_name d name bytes)
+fits_draft : (i : ℕ) (n : Node) (d : Name → List ℕ) (name : Name) (bytes : List ℕ) → n.activity ≡ Free → length bytes ≡ length (d name) → Fits i n d
+    → Fits i n (at_name d name bytes)
 fits_draft i n d name bytes free e =
     subst (λ a. Fits i (record n { activity = a }) d → Fits i (record n { activity = a }) (at_name d name bytes)) (sym free) (fits_draft_free i n d name bytes e)
 
 -- what an allowed change may do
-in_range : (n : Node) (name : Name) (offset len : ℕ) → verdict n (call.Put name offset len) ≡ None → (is_writing (section_at name n.sections) ≡ true) × (offset + len ≤ mapped_size (n.maps name))
+in_range : (n : Node) (name : Name) (offset len : ℕ) → verdict n (call.Put name offset len) ≡ None
+    → (is_writing (section_at name n.sections) ≡ true) × (offset + len ≤ mapped_size (n.maps name))
 unfolding verdict
 in_range n name offset len v =
     let parts = none_of _ _ (none_of _ _ v).1 in (not-false _ (allowed_by _ _ parts.0), ltb-false _ _ (allowed_by _ _ parts.1))
 
-in_range_added : (n : Node) (name : Name) (offset : ℕ) → verdict n (call.Add name offset) ≡ None → (is_writing (section_at name n.sections) ≡ true) × (offset + 8 ≤ mapped_size (n.maps name))
+in_range_added : (n : Node) (name : Name) (offset : ℕ) → verdict n (call.Add name offset) ≡ None
+    → (is_writing (section_at name n.sections) ≡ true) × (offset + 8 ≤ mapped_size (n.maps name))
 unfolding verdict
 in_range_added n name offset v =
     let parts = none_of _ _ (none_of _ _ v).1 in (not-false _ (allowed_by _ _ parts.0), ltb-false _ _ (allowed_by _ _ parts.1))
@@ -100,7 +106,8 @@ allowed : (o : Option Refusal) → is_allowed o ≡ true → o ≡ None
 allowed None e = refl
 allowed (Some why) e = cc
 
-fits_changed : (i : ℕ) (n : Node) (a : Actor) (s : Statement) → n.activity ≡ Free → (is_change s && is_allowed (verdict n (call_of n a s))) ≡ true → Fits i n a.drafts → Fits i n (changed s a).drafts
+fits_changed : (i : ℕ) (n : Node) (a : Actor) (s : Statement) → n.activity ≡ Free → (is_change s && is_allowed (verdict n (call_of n a s))) ≡ true
+    → Fits i n a.drafts → Fits i n (changed s a).drafts
 fits_changed i n a (statement.Call c) free h f = f
 fits_changed i n a (statement.Put name offset bytes) free h f =
     let range = in_range n name offset (length bytes) (allowed _ h) in
@@ -111,7 +118,8 @@ fits_changed i n a (statement.Add name offset number) free h f =
     let range = in_range_added n name offset (allowed _ h) in
     let size = writing_size i n a.drafts name free range.0 f in
     let within : offset + 8 ≤ length (a.drafts name) = subst (λ z. offset + 8 ≤ z) (sym size) range.1 in
-    fits_draft i n a.drafts name (added offset number (a.drafts name)) free (put_length offset (to_be_bytes w64 ((from_be_bytes w64 (eight_at offset (a.drafts name)) + number) % 2 ^ 64)) (a.drafts name) within) f
+    fits_draft i n a.drafts name (added offset number (a.drafts name)) free
+    (put_length offset (to_be_bytes w64 ((from_be_bytes w64 (eight_at offset (a.drafts name)) + number) % 2 ^ 64)) (a.drafts name) within) f
 
 changed_left : (s : Statement) (a : Actor) → (changed s a).left ≡ a.left
 changed_left (statement.Call c) a = refl
@@ -119,7 +127,8 @@ changed_left (statement.Put name offset bytes) a = refl
 changed_left (statement.Add name offset number) a = refl
 
 -- A call of the script may come.
-end_call : (i : ℕ) (n : Node) (a : Actor) (name : Name) (after : List ℕ) (o : Option Refusal) → n.activity ≡ Free → verdict n (call.EndWrite name after) ≡ o → Fits i n a.drafts → is_call n (call.EndWrite name (left_by o name a)) o ≡ true
+end_call : (i : ℕ) (n : Node) (a : Actor) (name : Name) (after : List ℕ) (o : Option Refusal) → n.activity ≡ Free
+    → verdict n (call.EndWrite name after) ≡ o → Fits i n a.drafts → is_call n (call.EndWrite name (left_by o name a)) o ≡ true
 unfolding verdict
 end_call i n a name after None free v f = eq-eqb _ _ (writing_draft i n a.drafts name free (not-false _ (allowed_by _ _ (none_of _ _ v).1)) f)
 end_call i n a name after (Some why) free v f = refl
@@ -132,7 +141,8 @@ by_option : (o : Option Refusal) (P : Option Refusal → Type 0) → P None → 
 by_option None P none some = none
 by_option (Some why) P none some = some why
 
-plain_call : (i : ℕ) (n : Node) (a : Actor) (c : Call) → n.activity ≡ Free → IsStatement (statement.Call c) → Fits i n a.drafts → is_call n (call_with n a c) (verdict n (call_with n a c)) ≡ true
+plain_call : (i : ℕ) (n : Node) (a : Actor) (c : Call) → n.activity ≡ Free → IsStatement (statement.Call c) → Fits i n a.drafts
+    → is_call n (call_with n a c) (verdict n (call_with n a c)) ≡ true
 unfolding verdict
 plain_call i n a (call.Create size) free h f = by_option _ (λ o. is_call n (call.Create size) o ≡ true) refl (λ why. refl)
 plain_call i n a (call.Delete name) free h f = by_option _ (λ o. is_call n (call.Delete name) o ≡ true) refl (λ why. refl)
@@ -147,12 +157,15 @@ plain_call i n a (call.Add name offset) free h f = absurd h
 plain_call i n a (call.Flush name) free h f = by_option _ (λ o. is_call n (call.Flush name) o ≡ true) refl (λ why. refl)
 plain_call i n a (call.Come part) free h f = by_option _ (λ o. is_call n (call.Come part) o ≡ true) refl (λ why. refl)
 
-script_call : (i : ℕ) (n : Node) (a : Actor) (s : Statement) → n.activity ≡ Free → IsStatement s → (is_change s && is_allowed (verdict n (call_of n a s))) ≡ false → Fits i n a.drafts → is_call n (call_of n a s) (verdict n (call_of n a s)) ≡ true
+script_call : (i : ℕ) (n : Node) (a : Actor) (s : Statement) → n.activity ≡ Free → IsStatement s
+    → (is_change s && is_allowed (verdict n (call_of n a s))) ≡ false → Fits i n a.drafts
+    → is_call n (call_of n a s) (verdict n (call_of n a s)) ≡ true
 script_call i n a (statement.Call c) free h out f = plain_call i n a c free h f
 script_call i n a (statement.Put name offset bytes) free h out f = refused_call n (call.Put name offset (length bytes)) _ out
 script_call i n a (statement.Add name offset number) free h out f = refused_call n (call.Add name offset) _ out
 
-script_enabled : (r : Running) (i : ℕ) (s : Statement) → i < r.world.count → (r.world.nodes i).activity ≡ Free → IsStatement s → is_inside r i s ≡ false → Sound r → is_enabled (event.Call i (next_call r i s)) r.world ≡ true
+script_enabled : (r : Running) (i : ℕ) (s : Statement) → i < r.world.count → (r.world.nodes i).activity ≡ Free → IsStatement s
+    → is_inside r i s ≡ false → Sound r → is_enabled (event.Call i (next_call r i s)) r.world ≡ true
 unfolding is_enabled
 script_enabled r i s h free st out sound =
     and_from _ _ (lt-ltb i r.world.count h) (and_from _ _ (ap is_free free) (script_call i (r.world.nodes i) (r.actors i) s free st out (sound.fits i)))
@@ -167,15 +180,19 @@ sound_passed r i s left e sound = record {
   left = by_node i (λ b j. AllByRecursion IsStatement (if b then record (r.actors i) { left = left } else r.actors j).left) (of_left r i s left e sound).1 sound.left;
 }
 
-sound_changed : (r : Running) (i : ℕ) (s : Statement) (left : List Statement) → IsNext r i s left → is_inside r i s ≡ true → Sound r → Sound (with_actor i (changed s (record (r.actors i) { left = left })) r)
+sound_changed : (r : Running) (i : ℕ) (s : Statement) (left : List Statement) → IsNext r i s left → is_inside r i s ≡ true → Sound r
+    → Sound (with_actor i (changed s (record (r.actors i) { left = left })) r)
 sound_changed r i s left n inside sound =
     let actor : Actor = record (r.actors i) { left = left } in
     record {
-      fits = by_node i (λ b j. Fits j (r.world.nodes j) (if b then changed s actor else r.actors j).drafts) (fits_changed i (r.world.nodes i) actor s n.1 (same_call (r.world.nodes i) (r.actors i) left s inside) (sound.fits i)) sound.fits;
-      left = by_node i (λ b j. AllByRecursion IsStatement (if b then changed s actor else r.actors j).left) (subst (λ x. AllByRecursion IsStatement x) (sym (changed_left s actor)) (of_left r i s left n.0 sound).1) sound.left;
+      fits = by_node i (λ b j. Fits j (r.world.nodes j) (if b then changed s actor else r.actors j).drafts)
+          (fits_changed i (r.world.nodes i) actor s n.1 (same_call (r.world.nodes i) (r.actors i) left s inside) (sound.fits i)) sound.fits;
+      left = by_node i (λ b j. AllByRecursion IsStatement (if b then changed s actor else r.actors j).left)
+          (subst (λ x. AllByRecursion IsStatement x) (sym (changed_left s actor)) (of_left r i s left n.0 sound).1) sound.left;
     }
   where
-    same_call : (m : Node) (a : Actor) (left : List Statement) (s : Statement) → (is_change s && is_allowed (verdict m (call_of m a s))) ≡ true → (is_change s && is_allowed (verdict m (call_of m (record a { left = left }) s))) ≡ true
+    same_call : (m : Node) (a : Actor) (left : List Statement) (s : Statement) → (is_change s && is_allowed (verdict m (call_of m a s))) ≡ true
+        → (is_change s && is_allowed (verdict m (call_of m (record a { left = left }) s))) ≡ true
     same_call m a left (statement.Call c) h = h
     same_call m a left (statement.Put name offset bytes) h = h
     same_call m a left (statement.Add name offset number) h = h

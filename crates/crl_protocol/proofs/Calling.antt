@@ -94,9 +94,10 @@ own_same true v m k w e own = record { live = own.live; bytes = own.bytes; mappe
 own_same false v m k w e own =
     record { bytes = own.bytes; mapped = there_same v.remote m k e (subst (λ x. MappedThere x v.remote) w own.mapped); nothing = own.nothing; unknown = own.unknown }
 
-pub fits_same_size : (i : ℕ) (d : Name → List ℕ) (n : Node) (name : Name) (m k : Mapping) → n.maps name ≡ Some m → k.size ≡ m.size → WaitFits name n.activity (is_mine n name) (Some k) → Fits i n d → Fits i (with_mapping name (Some k) n) d
+pub fits_same_size : (i : ℕ) (d : Name → List ℕ) (n : Node) (name : Name) (m k : Mapping) → n.maps name ≡ Some m → k.size ≡ m.size
+    → WaitFits name n.activity (is_mine n name) (Some k) → Fits i n d → Fits i (with_mapping name (Some k) n) d
 fits_same_size i d n name m k w e wait f =
-    fits_mapping i n d name (Some k) (record_same (n.sections.records name) m k e (subst (λ x. RecordFits (n.sections.records name) x) w (f.each name).record'))
+    fits_mapping i n d name (Some k) (record_same (n.sections.records name) m k e (subst (λ x. RecordFits (n.sections.records name) x) w (f.each name).sections))
     (own_same (is_mine n name) (seen n d name) m k w e (f.each name).own) wait f
 
 live_size : (s : Stage) (h : Option Home) → s ≡ stage.Live → LiveFits s h → MappedHere (Some (new_mapping (size_of h) false)) h
@@ -117,7 +118,7 @@ there_sized (Some r) k h = sym h
 
 -- no section is open of what isn't mapped
 pub no_record : (i : ℕ) (d : Name → List ℕ) (n : Node) (name : Name) (k : Option Mapping) → n.maps name ≡ None → Fits i n d → RecordFits (n.sections.records name) k
-no_record i d n name k e f = record_new (n.sections.records name) k (subst (λ x. RecordFits (n.sections.records name) x) e (f.each name).record')
+no_record i d n name k e f = record_new (n.sections.records name) k (subst (λ x. RecordFits (n.sections.records name) x) e (f.each name).sections)
 
 good_map_own : (i : ℕ) (d : Name → List ℕ) (n : Node) (name : Name) → n.maps name ≡ None → is_mine n name ≡ true → (lease_of n name).stage ≡ stage.Live → Fits i (free n) d
     → Good i d (maps_in name (new_mapping (size_of (home_of n name)) false) (free n))
@@ -127,7 +128,8 @@ good_map_own i d n name e mine live f = record {
   posts = tt;
 }
 
-good_map_cached : (i : ℕ) (d : Name → List ℕ) (n : Node) (name : Name) (size : Option ℕ) → cached_size name n.cache ≡ size → n.maps name ≡ None → is_mine n name ≡ false → Fits i (free n) d
+good_map_cached : (i : ℕ) (d : Name → List ℕ) (n : Node) (name : Name) (size : Option ℕ) → cached_size name n.cache ≡ size → n.maps name ≡ None
+    → is_mine n name ≡ false → Fits i (free n) d
     → Good i d (maps_cached name size (free n))
 good_map_cached i d n name None c e other f =
     good_waits i d n (ForMap name false) (message n name.home (kind.InfoAsk name) ∷ [])
@@ -137,11 +139,13 @@ good_map_cached i d n name (Some size) c e other f =
     let m = free (record n { cache = dropped name n.cache }) in
     record {
       node = fits_mapping i m d name (Some (new_mapping size false)) (no_record i d m name _ e g)
-          (other_new (is_mine n name) (seen m d name) (new_mapping size false) other (there_sized (n.remotes name) (new_mapping size false) (f.cache name size (is_cached name n.cache size c))) (g.each name).own) tt g;
+          (other_new (is_mine n name) (seen m d name) (new_mapping size false) other
+          (there_sized (n.remotes name) (new_mapping size false) (f.cache name size (is_cached name n.cache size c))) (g.each name).own) tt g;
       posts = tt;
     }
 
-pub good_map : (i : ℕ) (d : Name → List ℕ) (n : Node) (name : Name) (o : Option Mapping) → n.maps name ≡ o → (is_mine n name ≡ true → (lease_of n name).stage ≡ stage.Live) → Fits i (free n) d → Good i d (maps_over name o (free n))
+pub good_map : (i : ℕ) (d : Name → List ℕ) (n : Node) (name : Name) (o : Option Mapping) → n.maps name ≡ o
+    → (is_mine n name ≡ true → (lease_of n name).stage ≡ stage.Live) → Fits i (free n) d → Good i d (maps_over name o (free n))
 good_map i d n name (Some m) e live f = record { node = fits_same_size i d (free n) name m (record m { count = m.count + 1 }) e refl tt f; posts = tt }
 good_map i d n name None e live f =
     good_if i d (is_mine n name) _ _ (λ mine. good_map_own i d n name e mine (live mine) f) (λ other. good_map_cached i d n name (cached_size name n.cache) refl e other f)
@@ -192,10 +196,12 @@ sized_there : (o : Option Remote) (m : Mapping) → MappedThere (Some m) o → S
 sized_there None m h = tt
 sized_there (Some r) m h = sym h
 
-pub good_unmap : (i : ℕ) (d : Name → List ℕ) (n : Node) (name : Name) (o : Option Mapping) → n.maps name ≡ o → is_closed (section_at name n.sections) ≡ true → Fits i (free n) d → Good i d (unmaps_over name o (free n))
+pub good_unmap : (i : ℕ) (d : Name → List ℕ) (n : Node) (name : Name) (o : Option Mapping) → n.maps name ≡ o
+    → is_closed (section_at name n.sections) ≡ true → Fits i (free n) d → Good i d (unmaps_over name o (free n))
 good_unmap i d n name None e closed f = good_only i d (free n) f
 good_unmap i d n name (Some m) e closed f =
-    let g = fits_mapping i (free n) d name None (record_closed (n.sections.records name) (n.maps name) closed (f.each name).record') (own_none (is_mine n name) (seen (free n) d name) (f.each name).own) tt f in
+    let g = fits_mapping i (free n) d name None (record_closed (n.sections.records name) (n.maps name) closed (f.each name).sections)
+    (own_none (is_mine n name) (seen (free n) d name) (f.each name).own) tt f in
     let u = with_mapping name None n in
     good_if i d (m.count == 1) _ _
     (λ w. good_if i d (is_mine n name) _ _ (λ mine. good_only i d (free u) g)

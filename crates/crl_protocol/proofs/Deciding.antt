@@ -102,7 +102,8 @@ unmap_call : (name : Name) (n : Node) → OfCall n.me (call.Unmap name) (unmaps 
 unmap_call name n = records n.me (call.Unmap name) (what.Unmap name) _ (unmap_over (call.Unmap name) name (n.maps name) n) refl
 
 -- a section opens
-pub opened : (write : Bool) (name : Name) (bytes : List ℕ) (n : Node) → ((section_opens write name bytes n).entry.node ≡ n.me) × IsStart name (section_opens write name bytes n).entry.what
+pub opened : (write : Bool) (name : Name) (bytes : List ℕ) (n : Node)
+    → ((section_opens write name bytes n).entry.node ≡ n.me) × IsStart name (section_opens write name bytes n).entry.what
 unfolding section_opens
 opened true name bytes n = (refl, refl)
 opened false name bytes n = (refl, refl)
@@ -115,7 +116,8 @@ unfolding section_opens
 opens_call true name bytes n = ((refl, refl), tt)
 opens_call false name bytes n = ((refl, refl), tt)
 
-start_over : (write open' : Bool) (name : Name) (bytes : List ℕ) (posts : List Message) (n : Node) → OfCall n.me (start_call write name) (starts_or_waits open' write name bytes posts n).entries
+start_over : (write at_once : Bool) (name : Name) (bytes : List ℕ) (posts : List Message) (n : Node)
+    → OfCall n.me (start_call write name) (starts_or_waits at_once write name bytes posts n).entries
 start_over write true name bytes posts n = opens_call write name bytes n
 start_over write false name bytes posts n = tt
 
@@ -151,11 +153,14 @@ end_home c name home_ends ends None n = end_remote c name ends (n.remotes name) 
 end_home c name home_ends ends (Some h) n = leave_home c name (home_ends h) n
 
 end_read_call : (name : Name) (n : Node) → OfCall n.me (call.EndRead name) (ends_read name n).entries
-end_read_call name n = records n.me (call.EndRead name) (what.Read name (bytes_at name n.sections)) _ (end_home (call.EndRead name) name (home_ends_read n.me) remote_ends_read (home_of n name) (closes name n)) refl
+end_read_call name n =
+    records n.me (call.EndRead name) (what.Read name (bytes_at name n.sections)) _
+    (end_home (call.EndRead name) name (home_ends_read n.me) remote_ends_read (home_of n name) (closes name n)) refl
 
 end_write_call : (name : Name) (after : List ℕ) (n : Node) → OfCall n.me (call.EndWrite name after) (ends_write name after n).entries
 end_write_call name after n =
-    records n.me (call.EndWrite name after) (what.Write name (bytes_at name n.sections) after) _ (end_home (call.EndWrite name after) name (home_ends_write n.me after) (remote_ends_write after) (home_of n name) (closes name n)) (refl, refl)
+    records n.me (call.EndWrite name after) (what.Write name (bytes_at name n.sections) after) _
+    (end_home (call.EndWrite name after) name (home_ends_write n.me after) (remote_ends_write after) (home_of n name) (closes name n)) (refl, refl)
 
 flush_remote : (c : Call) (name : Name) (r : Option Remote) (n : Node) → Keeps n.me c (flushes_remote name r n)
 flush_remote c name None n = record { same = refl; its = tt }
@@ -163,7 +168,8 @@ flush_remote c name (Some r) n = move c name (remote_flushes r) n
 
 flush_call : (name : Name) (n : Node) → OfCall n.me (call.Flush name) (flushes name n).entries
 flush_call name n =
-    records n.me (call.Flush name) (what.Flush name) _ (either n.me (call.Flush name) (is_mine n name) _ _ (record { same = refl; its = tt }) (flush_remote (call.Flush name) name (n.remotes name) n)) refl
+    records n.me (call.Flush name) (what.Flush name) _ (either n.me (call.Flush name) (is_mine n name) _ _ (record { same = refl; its = tt })
+    (flush_remote (call.Flush name) name (n.remotes name) n)) refl
 
 result_is : (round : ℕ) (part : Part) (f : Fold) → IsOfCall (call.Come part) (result_of round (kind_of part) f)
 result_is round part fold.Barrier = tt

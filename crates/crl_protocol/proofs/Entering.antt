@@ -37,7 +37,8 @@ not_asking : (name : Name) (r : Remote) → AskingFits name (Some r) Free → r.
 not_asking name r (inl w) = w
 not_asking name r (inr w) = cc
 
-start_here : (i : ℕ) (d : Name → List ℕ) (n : Node) (write : Bool) (name : Name) (h : Home) (m : Mapping) (s : Served) (b : Bool) → s.opened ≡ b → home_of n name ≡ Some h → n.maps name ≡ Some m → HomeStarts n.me h s → Fits i (free n) d
+start_here : (i : ℕ) (d : Name → List ℕ) (n : Node) (write : Bool) (name : Name) (h : Home) (m : Mapping) (s : Served) (b : Bool) → s.opened ≡ b
+    → home_of n name ≡ Some h → n.maps name ≡ Some m → HomeStarts n.me h s → Fits i (free n) d
     → Good i d (starts_or_waits b write name s.home.bytes (letters (free n) name s.posts) (with_home name s.home (free n)))
 unfolding section_opens
 start_here i d n write name h m s true o e mapped g f = record {
@@ -54,7 +55,8 @@ start_here i d n write name h m s false o e mapped g f = record {
 copy_length : (o p : Option Copy) (c : Copy) (size : ℕ) → o ≡ p → p ≡ Some c → CopyFits p size → length (copy_bytes o) ≡ size
 copy_length o p c size e w f = subst (λ x. length (copy_bytes x) ≡ size) (sym (e ∙ w)) (subst (λ x. CopyFits x size) w f)
 
-start_there : (i : ℕ) (d : Name → List ℕ) (n : Node) (write : Bool) (name : Name) (r : Remote) (m : Mapping) (s : Moved) (b : Bool) → s.opened ≡ b → n.remotes name ≡ Some r → n.maps name ≡ Some m → RemoteStarts r s → Fits i (free n) d
+start_there : (i : ℕ) (d : Name → List ℕ) (n : Node) (write : Bool) (name : Name) (r : Remote) (m : Mapping) (s : Moved) (b : Bool) → s.opened ≡ b
+    → n.remotes name ≡ Some r → n.maps name ≡ Some m → RemoteStarts r s → Fits i (free n) d
     → Good i d (starts_or_waits b write name (copy_bytes s.remote.copy) (mails (free n) name s.posts) (with_remote name (Some s.remote) (free n)))
 unfolding section_opens
 start_there i d n write name r m s true o e mapped g f =
@@ -70,41 +72,48 @@ start_there i d n write name r m s true o e mapped g f =
 start_there i d n write name r m s false o e mapped g f =
     let fits = remote_bytes i d (free n) name r e f in
     record {
-      node = fits_remote i (record n { activity = Waiting (ForSection name) }) d name r s.remote e g.size (subst (λ x. CopyFits x s.remote.size) (sym g.copy) (subst (λ z. CopyFits r.copy z) (sym g.size) fits)) (inr refl)
+      node = fits_remote i (record n { activity = Waiting (ForSection name) }) d name r s.remote e g.size
+          (subst (λ x. CopyFits x s.remote.size) (sym g.copy) (subst (λ z. CopyFits r.copy z) (sym g.size) fits)) (inr refl)
           (fits_turn i n d d Free (Waiting (ForSection name)) free_apart (waits_mapped n name m mapped) tt refl f);
       posts = mails_leave (free n) name s.posts (not_mine i d (free n) name r e f);
     }
 
-good_start_remote : (i : ℕ) (d : Name → List ℕ) (n : Node) (write : Bool) (name : Name) (m : Mapping) (o : Option Remote) → n.remotes name ≡ o → n.maps name ≡ Some m → Fits i (free n) d → Good i d (starts_remote write name o (free n))
+good_start_remote : (i : ℕ) (d : Name → List ℕ) (n : Node) (write : Bool) (name : Name) (m : Mapping) (o : Option Remote) → n.remotes name ≡ o
+    → n.maps name ≡ Some m → Fits i (free n) d → Good i d (starts_remote write name o (free n))
 good_start_remote i d n write name m None e mapped f = good_only i d (free n) f
 good_start_remote i d n write name m (Some r) e mapped f = start_there i d n write name r m (remote_starts write r) (remote_starts write r).opened refl e mapped (remote_begins write r) f
 
-good_start_home : (i : ℕ) (d : Name → List ℕ) (n : Node) (write : Bool) (name : Name) (m : Mapping) (o : Option Home) → home_of n name ≡ o → n.maps name ≡ Some m → Fits i (free n) d → Good i d (starts_home write name o (free n))
+good_start_home : (i : ℕ) (d : Name → List ℕ) (n : Node) (write : Bool) (name : Name) (m : Mapping) (o : Option Home) → home_of n name ≡ o
+    → n.maps name ≡ Some m → Fits i (free n) d → Good i d (starts_home write name o (free n))
 good_start_home i d n write name m None e mapped f = good_start_remote i d n write name m (n.remotes name) refl mapped f
 good_start_home i d n write name m (Some h) e mapped f =
     let s = home_starts n.me write h in
     start_here i d n write name h m s s.opened refl e mapped (starts_fit n.me write h (home_bytes i d (free n) name h e f) (not_waiting n.me name h (queue_of i d (free n) name h e f))) f
 
-pub good_start : (i : ℕ) (d : Name → List ℕ) (n : Node) (write : Bool) (name : Name) (m : Mapping) → n.maps name ≡ Some m → Fits i (free n) d → Good i d (starts write name (free n))
+pub good_start : (i : ℕ) (d : Name → List ℕ) (n : Node) (write : Bool) (name : Name) (m : Mapping) → n.maps name ≡ Some m → Fits i (free n) d
+    → Good i d (starts write name (free n))
 good_start i d n write name m mapped f = good_start_home i d n write name m (home_of n name) refl mapped f
 
 -- The end of a section.
 queue_free : (me : ℕ) (name : Name) (h g : Home) → (NoOwn me h.queue → NoOwn me g.queue) → QueueFits me name (Some h) Free → QueueFits me name (Some g) Free
 queue_free me name h g none q = let w = none (not_waiting me name h q) in (no_is_one me g.queue w, inl w)
 
-end_here : (i : ℕ) (d : Name → List ℕ) (n : Node) (name : Name) (h : Home) (s : Served) → home_of n name ≡ Some h → HomeGoes n.me h s → Fits i (free n) d → Good i d (left_home name s (free n))
+end_here : (i : ℕ) (d : Name → List ℕ) (n : Node) (name : Name) (h : Home) (s : Served) → home_of n name ≡ Some h → HomeGoes n.me h s
+    → Fits i (free n) d → Good i d (left_home name s (free n))
 unfolding left_home
 end_here i d n name h s e g f = record {
   node = fits_home i (free n) d name h s.home e g.size g.bytes (queue_free n.me name h s.home g.none (queue_of i d (free n) name h e f)) f;
   posts = letters_leave (free n) name s.posts g.mail;
 }
 
-end_there : (i : ℕ) (d : Name → List ℕ) (n : Node) (name : Name) (ends : Remote → Moved) (o : Option Remote) → n.remotes name ≡ o → ((r : Remote) → n.remotes name ≡ Some r → RemoteGoes r (ends r)) → Fits i n d → Good i d (ends_remote name ends o n)
+end_there : (i : ℕ) (d : Name → List ℕ) (n : Node) (name : Name) (ends : Remote → Moved) (o : Option Remote) → n.remotes name ≡ o
+    → ((r : Remote) → n.remotes name ≡ Some r → RemoteGoes r (ends r)) → Fits i n d → Good i d (ends_remote name ends o n)
 end_there i d n name ends None e g f = good_only i d n f
 end_there i d n name ends (Some r) e g f = good_moved i d n name r (ends r) e (g r e) f
 
 end_either : (i : ℕ) (d : Name → List ℕ) (n : Node) (name : Name) (home_ends : Home → Served) (ends : Remote → Moved) (o : Option Home) → home_of n name ≡ o
-    → ((h : Home) → home_of n name ≡ Some h → HomeGoes n.me h (home_ends h)) → ((r : Remote) → n.remotes name ≡ Some r → RemoteGoes r (ends r)) → Fits i (free n) d → Good i d (ends_home name home_ends ends o (free n))
+    → ((h : Home) → home_of n name ≡ Some h → HomeGoes n.me h (home_ends h)) → ((r : Remote) → n.remotes name ≡ Some r → RemoteGoes r (ends r)) → Fits i (free n) d
+    → Good i d (ends_home name home_ends ends o (free n))
 end_either i d n name home_ends ends None e g k f = end_there i d (free n) name ends (n.remotes name) refl k f
 end_either i d n name home_ends ends (Some h) e g k f = end_here i d n name h (home_ends h) e (g h e) f
 
@@ -120,9 +129,10 @@ open_size None m w f = cc
 open_size (Some r) None w f = absurd f
 open_size (Some r) (Some m) w f = (m, refl, f.0)
 
-pub good_end_write : (i : ℕ) (d : Name → List ℕ) (n : Node) (name : Name) (after : List ℕ) → is_writing (section_at name n.sections) ≡ true → length after ≡ length (bytes_at name n.sections) → Fits i (free n) d → Good i d (ends_write name after (free n))
+pub good_end_write : (i : ℕ) (d : Name → List ℕ) (n : Node) (name : Name) (after : List ℕ) → is_writing (section_at name n.sections) ≡ true
+    → length after ≡ length (bytes_at name n.sections) → Fits i (free n) d → Good i d (ends_write name after (free n))
 good_end_write i d n name after writing same f =
-    let size = open_size (n.sections.records name) (n.maps name) writing (f.each name).record' in
+    let size = open_size (n.sections.records name) (n.maps name) writing (f.each name).sections in
     good_recording i d _ _
     (end_either i d (closes name n) name (home_ends_write n.me after) (remote_ends_write after) (home_of n name) refl
     (λ h e. write_goes n.me after h (same ∙ size.2 ∙ mapped_home i d (free n) name h size.0 e size.1 f))
@@ -156,4 +166,5 @@ good_come i d n part f =
     let g = gathers n.nodes 0 part n.gathering in
     good_recording i d _ _
     (good_if i d (n.me == 0) _ _ (λ w. good_gathered i d (record next { gathering = g.gathering }) (n.rounds + 1) (kind_of part) g.fold (fits_rounds i d (free n) (n.rounds + 1) g.gathering f))
-    (λ w. good_waits i d next (ForRound (n.rounds + 1) (kind_of part)) (message n 0 (kind.Come (n.rounds + 1) part) ∷ []) (λ q. tt) tt (tt, tt) (fits_rounds i d (free n) (n.rounds + 1) n.gathering f)))
+    (λ w. good_waits i d next (ForRound (n.rounds + 1) (kind_of part)) (message n 0 (kind.Come (n.rounds + 1) part) ∷ []) (λ q. tt) tt (tt, tt)
+    (fits_rounds i d (free n) (n.rounds + 1) n.gathering f)))

@@ -170,7 +170,7 @@ WaitFits q (Waiting (ForMap p purged)) mine m = p ≡ q → (m ≡ None) × (min
 WaitFits q _ mine m = Unit {0}
 
 pub record Holds (me : ℕ) (q : Name) (a : Activity) (v : Seen) : Type 0 where
-  pub record' : RecordFits v.opened v.mapping
+  pub sections : RecordFits v.opened v.mapping
   pub draft : DraftFits v.opened v.draft
   pub own : OwnFits v.mine v
   pub queue : QueueFits me q v.home a
@@ -239,7 +239,7 @@ going_calm me q stage.Gone a b apart f = tt
 -- the node turns from one activity to another, where the name isn't concerned
 pub calm : (me : ℕ) (q : Name) (a b : Activity) (v : Seen) → Apart q a → WaitFits q b v.mine v.mapping → Holds me q a v → Holds me q b v
 calm me q a b v apart w h = record {
-  record' = h.record';
+  sections = h.sections;
   draft = h.draft;
   own = h.own;
   queue = queue_calm me q v.home a b apart.section h.queue;

@@ -44,13 +44,15 @@ next_all r i (s ∷ left) Free e h = ((h, e), tt)
 next_all r i left (Waiting awaited) e h = tt
 next_all r i left (Ready answer) e h = (and_from _ _ (lt-ltb i r.world.count h) (ap is_ready e), tt)
 
-handles_all : (r : Running) (i place : ℕ) (ms : List Message) → i < r.world.count → place + length ms ≡ length (r.world.nodes i).inbox → AllByRecursion (IsChoice r) (handles_of i place ms)
+handles_all : (r : Running) (i place : ℕ) (ms : List Message) → i < r.world.count → place + length ms ≡ length (r.world.nodes i).inbox
+    → AllByRecursion (IsChoice r) (handles_of i place ms)
 unfolding is_enabled
 handles_all r i place [] h e = tt
 handles_all r i place (m ∷ ms) h e =
     (and_from _ _ (lt-ltb i r.world.count h) (lt-ltb place (length (r.world.nodes i).inbox) (omega arith)), handles_all r i (place + 1) ms h (omega arith))
 
-carries_all : (r : Running) (i place : ℕ) (ms : List Message) → i < r.world.count → place + length ms ≡ length (r.world.nodes i).outbox → AllByRecursion (IsChoice r) (carries_of i place ms)
+carries_all : (r : Running) (i place : ℕ) (ms : List Message) → i < r.world.count → place + length ms ≡ length (r.world.nodes i).outbox
+    → AllByRecursion (IsChoice r) (carries_of i place ms)
 unfolding is_enabled
 carries_all r i place [] h e = tt
 carries_all r i place (m ∷ ms) h e =
@@ -102,11 +104,13 @@ states_is r i s left =
 abbrev pub Leads : Running → Running → Type 0
 Leads r end = (es : List Event) × Follows r es end
 
-stated_leads : (r end : Running) (es : List Event) (i : ℕ) (s : Statement) (left : List Statement) (b : Bool) → is_inside r i s ≡ b → i < r.world.count → IsNext r i s left → Follows (stated r i s left) es end → Leads r end
+stated_leads : (r end : Running) (es : List Event) (i : ℕ) (s : Statement) (left : List Statement) (b : Bool) → is_inside r i s ≡ b
+    → i < r.world.count → IsNext r i s left → Follows (stated r i s left) es end → Leads r end
 stated_leads r end es i s left true e h n f = (es, changes i s left h n e (rw e at f))
 stated_leads r end es i s left false e h n f = (event.Call i (next_call r i s) ∷ es, calls i s left h n e (rw e at f))
 
-states_lead : (r end : Running) (es : List Event) (i : ℕ) (left : List Statement) → (r.actors i).left ≡ left → i < r.world.count → (r.world.nodes i).activity ≡ Free → Follows (states i left r) es end → Leads r end
+states_lead : (r end : Running) (es : List Event) (i : ℕ) (left : List Statement) → (r.actors i).left ≡ left → i < r.world.count
+    → (r.world.nodes i).activity ≡ Free → Follows (states i left r) es end → Leads r end
 states_lead r end es i [] e h free f = (es, f)
 states_lead r end es i (s ∷ left) e h free f =
     stated_leads r end es i s left (is_inside r i s) refl h (e, free) (subst (λ x. Follows x es end) (states_is r i s left) f)
@@ -150,7 +154,8 @@ follow_account {r = r} (happens {es = es} i e a b c f) =
     let done = step e r.world in follow_account f ∙ append_assoc r.entries done.entries (account_from done.world es)
 
 -- a run that the choices give, from its start on
-pub follow_turns : (count capacity : ℕ) (blocks : List (List Statement)) (words : ℕ → ℕ) (k : ℕ) → Follows (running count capacity blocks) (turns_from words 1 k (running count capacity blocks)).events (turns_from words 1 k (running count capacity blocks))
+pub follow_turns : (count capacity : ℕ) (blocks : List (List Statement)) (words : ℕ → ℕ) (k : ℕ)
+    → Follows (running count capacity blocks) (turns_from words 1 k (running count capacity blocks)).events (turns_from words 1 k (running count capacity blocks))
 follow_turns count capacity blocks words k =
     let start = running count capacity blocks in
     let led = turns_lead words 1 k start in

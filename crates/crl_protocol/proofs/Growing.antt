@@ -13,4 +13,6 @@ world_grows w (x ∷ run) e = world_grows (step x w).world run e
 
 pub account_grows : (w : World) (run : List Event) (e : Event) → account_from w (run ++ e ∷ []) ≡ account_from w run ++ (step e (world_after w run)).entries
 account_grows w [] e = append_nil (step e w).entries
-account_grows w (x ∷ run) e = ap (λ es. (step x w).entries ++ es) (account_grows (step x w).world run e) ∙ sym (append_assoc (step x w).entries (account_from (step x w).world run) (step e (world_after (step x w).world run)).entries)
+account_grows w (x ∷ run) e =
+    ap (λ es. (step x w).entries ++ es) (account_grows (step x w).world run e) ∙ sym
+    (append_assoc (step x w).entries (account_from (step x w).world run) (step e (world_after (step x w).world run)).entries)

@@ -28,7 +28,8 @@ fits_as i d n a e f = subst (λ x. Fits i (record n { activity = x }) d) e f
 section_apart : (name q : Name) → name_eq name q ≡ false → Apart q (Waiting (ForSection name))
 section_apart name q e = record { section = λ w. other_name name q e (let k : name ≡ q = cc in k); delete = λ w. cc }
 
-done_waiting : (i : ℕ) (d : Name → List ℕ) (n : Node) (name : Name) → QueueFits n.me name (home_of n name) Free → AskingFits name (n.remotes name) Free → Fits i (record n { activity = Waiting (ForSection name) }) d → Fits i (free n) d
+done_waiting : (i : ℕ) (d : Name → List ℕ) (n : Node) (name : Name) → QueueFits n.me name (home_of n name) Free
+    → AskingFits name (n.remotes name) Free → Fits i (record n { activity = Waiting (ForSection name) }) d → Fits i (free n) d
 done_waiting i d n name queue asking f =
     fits_leave i n d d (Waiting (ForSection name)) Free name (section_apart name) (λ q. tt) tt queue asking
     (going_calm n.me name (lease_of n name).stage (Waiting (ForSection name)) Free (λ e. cc) (f.each name).going) refl f
@@ -49,7 +50,8 @@ opens_ready i d n write name bytes m mapped size f =
     fits_turn i o.node (begins o.answer d) d Free (Ready o.answer) free_apart (λ q. tt) tt refl (fits_open i n d write name bytes m mapped size f)
 
 -- Serve at the home.
-queue_more : (me : ℕ) (name : Name) (h g : Home) (a : Activity) → (NoOwn me h.queue → NoOwn me g.queue) → (OneOwn me h.queue → OneOwn me g.queue) → QueueFits me name (Some h) a → QueueFits me name (Some g) a
+queue_more : (me : ℕ) (name : Name) (h g : Home) (a : Activity) → (NoOwn me h.queue → NoOwn me g.queue) → (OneOwn me h.queue → OneOwn me g.queue)
+    → QueueFits me name (Some h) a → QueueFits me name (Some g) a
 queue_more me name h g a none one q = (one q.0, of_two q.1)
   where
     of_two : NoOwn me h.queue ⊎ (a ≡ Waiting (ForSection name)) → NoOwn me g.queue ⊎ (a ≡ Waiting (ForSection name))
@@ -63,7 +65,8 @@ waits_own me name h s a o g q = of_two q.1
     of_two (inl w) = let k = g.silent w in cc
     of_two (inr w) = w
 
-served_opens : (i : ℕ) (d : Name → List ℕ) (n : Node) (name : Name) (h : Home) (s : Served) (write : Bool) → home_of n name ≡ Some h → HomeGoes n.me h s → s.opened ≡ true → Fits i (record n { activity = Waiting (ForSection name) }) d
+served_opens : (i : ℕ) (d : Name → List ℕ) (n : Node) (name : Name) (h : Home) (s : Served) (write : Bool) → home_of n name ≡ Some h
+    → HomeGoes n.me h s → s.opened ≡ true → Fits i (record n { activity = Waiting (ForSection name) }) d
     → let o = section_opens write name s.home.bytes (with_home name s.home n) in Fits i (record o.node { activity = Ready o.answer }) d
 served_opens i d n name h s write e g o f =
     let m = is_mapped i d n name f in
@@ -88,19 +91,22 @@ good_served i d n name h s e g f =
       posts = letters_leave n name s.posts g.mail;
     })
 
-pub good_asked : (i : ℕ) (d : Name → List ℕ) (n : Node) (from : ℕ) (name : Name) (write : Bool) (have : ℕ) (o : Option Home) → home_of n name ≡ o → (from == n.me) ≡ false → Fits i n d → Good i d (asked from name write have o n)
+pub good_asked : (i : ℕ) (d : Name → List ℕ) (n : Node) (from : ℕ) (name : Name) (write : Bool) (have : ℕ) (o : Option Home) → home_of n name ≡ o
+    → (from == n.me) ≡ false → Fits i n d → Good i d (asked from name write have o n)
 good_asked i d n from name write have None e other f = good_only i d n f
 good_asked i d n from name write have (Some h) e other f =
     good_if i d (is_queued_in from n.homes) _ _ (λ w. good_only i d n f)
     (λ w. good_served i d n name h _ e (asked_goes n.me (record { node = from; write = write; have = have }) h other (home_bytes i d n name h e f)) f)
 
-pub good_returned : (i : ℕ) (d : Name → List ℕ) (n : Node) (from : ℕ) (name : Name) (version : ℕ) (bytes : Option (List ℕ)) (o : Option Home) → home_of n name ≡ o → Fits i n d → Good i d (returned from name version bytes o n)
+pub good_returned : (i : ℕ) (d : Name → List ℕ) (n : Node) (from : ℕ) (name : Name) (version : ℕ) (bytes : Option (List ℕ)) (o : Option Home)
+    → home_of n name ≡ o → Fits i n d → Good i d (returned from name version bytes o n)
 good_returned i d n from name version bytes None e f = good_only i d n f
 good_returned i d n from name version bytes (Some h) e f =
     good_if i d (takes_return from version bytes h) _ _ (λ w. good_served i d n name h _ e (returned_goes n.me from version bytes h (home_bytes i d n name h e f) w) f)
     (λ w. good_only i d n f)
 
-pub good_released : (i : ℕ) (d : Name → List ℕ) (n : Node) (from : ℕ) (name : Name) (version : ℕ) (bytes : List ℕ) (o : Option Home) → home_of n name ≡ o → Fits i n d → Good i d (released from name version bytes o n)
+pub good_released : (i : ℕ) (d : Name → List ℕ) (n : Node) (from : ℕ) (name : Name) (version : ℕ) (bytes : List ℕ) (o : Option Home)
+    → home_of n name ≡ o → Fits i n d → Good i d (released from name version bytes o n)
 good_released i d n from name version bytes None e f = good_only i d n f
 good_released i d n from name version bytes (Some h) e f =
     good_if i d (takes_release bytes h) _ _ (λ w. good_served i d n name h _ e (released_goes n.me from version bytes h (home_bytes i d n name h e f) w) f)
@@ -123,7 +129,8 @@ waits_granted : (name : Name) (g : Granted) (r : Remote) (a : Activity) → take
 waits_granted name g r a w (inl none) = absurd (asks_some g r r.asking refl w none)
 waits_granted name g r a w (inr e) = e
 
-granted_opens : (i : ℕ) (d : Name → List ℕ) (n : Node) (name : Name) (version : ℕ) (g : Granted) (r : Remote) → n.remotes name ≡ Some r → takes_grant g r ≡ true → Fits i (record n { activity = Waiting (ForSection name) }) d
+granted_opens : (i : ℕ) (d : Name → List ℕ) (n : Node) (name : Name) (version : ℕ) (g : Granted) (r : Remote) → n.remotes name ≡ Some r
+    → takes_grant g r ≡ true → Fits i (record n { activity = Waiting (ForSection name) }) d
     → Good i d (opened_with name (asks_to_write r.asking) (remote_granted version g r) n)
 unfolding section_opens remote_granted
 granted_opens i d n name version g r e w f =
@@ -140,7 +147,8 @@ granted_opens i d n name version g r e w f =
       posts = tt;
     }
 
-pub good_granted : (i : ℕ) (d : Name → List ℕ) (n : Node) (name : Name) (version : ℕ) (g : Granted) (o : Option Remote) → n.remotes name ≡ o → Fits i n d → Good i d (granted name version g o n)
+pub good_granted : (i : ℕ) (d : Name → List ℕ) (n : Node) (name : Name) (version : ℕ) (g : Granted) (o : Option Remote) → n.remotes name ≡ o
+    → Fits i n d → Good i d (granted name version g o n)
 good_granted i d n name version g None e f = good_only i d n f
 good_granted i d n name version g (Some r) e f =
     good_if i d (takes_grant g r) _ _
@@ -148,7 +156,8 @@ good_granted i d n name version g (Some r) e f =
     (λ w. good_only i d n f)
 
 -- a recall and a yield
-pub good_called : (i : ℕ) (d : Name → List ℕ) (n : Node) (name : Name) (step : Remote → Moved) (o : Option Remote) → n.remotes name ≡ o → ((r : Remote) → CopyFits r.copy r.size → RemoteGoes r (step r)) → Fits i n d
+pub good_called : (i : ℕ) (d : Name → List ℕ) (n : Node) (name : Name) (step : Remote → Moved) (o : Option Remote) → n.remotes name ≡ o
+    → ((r : Remote) → CopyFits r.copy r.size → RemoteGoes r (step r)) → Fits i n d
     → Good i d (remote_called name step o n)
 good_called i d n name step None e g f = good_only i d n f
 good_called i d n name step (Some r) e g f = good_moved i d n name r (step r) e (g r (remote_bytes i d n name r e f)) f

@@ -43,9 +43,11 @@ asked_stage from lease (stage.Going deleter) = refl
 asked_stage from lease stage.Gone = refl
 
 -- a lease of the same stage
-fits_same_stage : (i : ℕ) (d : Name → List ℕ) (n : Node) (name : Name) (lease : Lease) → is_mine n name ≡ true → lease.stage ≡ (lease_of n name).stage → Fits i n d → Fits i (with_lease name lease n) d
+fits_same_stage : (i : ℕ) (d : Name → List ℕ) (n : Node) (name : Name) (lease : Lease) → is_mine n name ≡ true → lease.stage ≡ (lease_of n name).stage
+    → Fits i n d → Fits i (with_lease name lease n) d
 fits_same_stage i d n name lease mine same f =
-    fits_lease i n d name lease mine (subst (λ s. LiveFits s (home_of n name)) (sym same) (here_if i d n name mine f).live) (subst (λ s. GoingFits n.me name s n.activity) (sym same) (f.each name).going) f
+    fits_lease i n d name lease mine (subst (λ s. LiveFits s (home_of n name)) (sym same) (here_if i d n name mine f).live)
+    (subst (λ s. GoingFits n.me name s n.activity) (sym same) (f.each name).going) f
 
 good_info_asked : (i : ℕ) (d : Name → List ℕ) (n : Node) (from : ℕ) (name : Name) → Fits i n d → Good i d (info_asked from name n)
 unfolding lease_asked
@@ -63,7 +65,8 @@ own_remote_new : (b : Bool) (v : Seen) (r : Remote) → b ≡ false → v.mappin
 own_remote_new true v r e none bytes own = cc
 own_remote_new false v r e none bytes own = record { bytes = bytes; mapped = subst (λ x. MappedThere x (Some r)) (sym none) tt; nothing = own.nothing; unknown = own.unknown }
 
-fits_remote_new : (i : ℕ) (d : Name → List ℕ) (n : Node) (name : Name) (size : ℕ) → is_mine n name ≡ false → n.maps name ≡ None → ((z : ℕ) → IsCached name z n.cache → ⊥) → Fits i n d → Fits i (with_remote name (Some (new_remote size)) n) d
+fits_remote_new : (i : ℕ) (d : Name → List ℕ) (n : Node) (name : Name) (size : ℕ) → is_mine n name ≡ false → n.maps name ≡ None
+    → ((z : ℕ) → IsCached name z n.cache → ⊥) → Fits i n d → Fits i (with_remote name (Some (new_remote size)) n) d
 fits_remote_new i d n name size other none fresh f = record {
   me = f.me;
   each = by_name name (λ b p. Holds n.me p n.activity (record (seen n d p) { remote = if b then Some (new_remote size) else n.remotes p })) (at_it (f.each name)) (λ p w. f.each p);
@@ -75,7 +78,7 @@ fits_remote_new i d n name size other none fresh f = record {
   where
     at_it : Holds n.me name n.activity (seen n d name) → Holds n.me name n.activity (record (seen n d name) { remote = Some (new_remote size) })
     at_it x = record {
-      record' = x.record';
+      sections = x.sections;
       draft = x.draft;
       own = own_remote_new (is_mine n name) (seen n d name) (new_remote size) other none tt x.own;
       queue = x.queue;
@@ -96,7 +99,8 @@ fits_told i d n name purged size f =
     fits_mapping i m d name (Some (new_mapping size purged)) (no_record i d m name _ new.0 sided)
     (other_new (is_mine n name) (seen m d name) (new_mapping size purged) new.1 (subst (λ x. MappedThere (Some (new_mapping size purged)) x) (sym there) refl) (sided.each name).own) tt sided
 
-good_told : (i : ℕ) (d : Name → List ℕ) (n : Node) (name : Name) (purged : Bool) (t : Told) → Fits i (record n { activity = Waiting (ForMap name purged) }) d → Good i d (only (info_told name purged t n) Done)
+good_told : (i : ℕ) (d : Name → List ℕ) (n : Node) (name : Name) (purged : Bool) (t : Told)
+    → Fits i (record n { activity = Waiting (ForMap name purged) }) d → Good i d (only (info_told name purged t n) Done)
 good_told i d n name purged (told.Live size) f = record { node = fits_told i d n name purged size f; posts = tt }
 good_told i d n name purged told.Unknown f = record { node = fits_turn i n d d (Waiting (ForMap name purged)) (Ready _) (map_apart name purged) (λ q. tt) tt refl f; posts = tt }
 good_told i d n name purged told.Deleted f = record { node = fits_turn i n d d (Waiting (ForMap name purged)) (Ready _) (map_apart name purged) (λ q. tt) tt refl f; posts = tt }
@@ -112,7 +116,8 @@ good_info_is i d n name t (Waiting (ForMap p purged)) e f =
     (λ w. good_told i d n name purged t (fits_as i d n (Waiting (ForMap name purged)) (e ∙ ap (λ x. Waiting (ForMap x purged)) (same_name p name w)) f)) (λ w. good_only i d n f)
 
 -- DeleteAsk
-good_begun : (i : ℕ) (d : Name → List ℕ) (n : Node) (from : ℕ) (name : Name) (lease : Lease) (ms : List ℕ) → is_mine n name ≡ true → (from == n.me) ≡ false → (name.home == from) ≡ false → Fits i n d
+good_begun : (i : ℕ) (d : Name → List ℕ) (n : Node) (from : ℕ) (name : Name) (lease : Lease) (ms : List ℕ) → is_mine n name ≡ true
+    → (from == n.me) ≡ false → (name.home == from) ≡ false → Fits i n d
     → Good i d (delete_begun from name (elim ms [ [] ↦ record lease { stage = stage.Gone } | m ∷ rest ↦ record lease { stage = stage.Going from; missing = lease.asked } ]) n)
 good_begun i d n from name lease [] mine other away f = record { node = fits_lease i n d name (record lease { stage = stage.Gone }) mine tt tt f; posts = (away, tt) }
 good_begun i d n from name lease (m ∷ rest) mine other away f = record {
@@ -124,7 +129,8 @@ live_mine : (i : ℕ) (d : Name → List ℕ) (n : Node) (name : Name) (b : Bool
 live_mine i d n name true e live f = e
 live_mine i d n name false e live f = let w = (there_if i d n name e f).unknown in cc
 
-good_delete_asked : (i : ℕ) (d : Name → List ℕ) (n : Node) (from : ℕ) (name : Name) (s : Stage) → (lease_of n name).stage ≡ s → (from == n.me) ≡ false → (name.home == from) ≡ false → Fits i n d → Good i d (delete_asked from name s n)
+good_delete_asked : (i : ℕ) (d : Name → List ℕ) (n : Node) (from : ℕ) (name : Name) (s : Stage) → (lease_of n name).stage ≡ s → (from == n.me) ≡ false
+    → (name.home == from) ≡ false → Fits i n d → Good i d (delete_asked from name s n)
 unfolding lease_begins
 good_delete_asked i d n from name stage.Unknown e other away f = record { node = f; posts = (away, tt) }
 good_delete_asked i d n from name stage.Live e other away f =
@@ -136,11 +142,13 @@ good_delete_asked i d n from name stage.Gone e other away f = record { node = f;
 delete_apart : (name q : Name) → name_eq name q ≡ false → Apart q (Waiting (ForDelete name))
 delete_apart name q e = record { section = λ w. cc; delete = λ w. other_name name q e (let k : name ≡ q = cc in k) }
 
-fits_deleted : (i : ℕ) (d : Name → List ℕ) (n : Node) (name : Name) (answer : Answer) → begins answer d ≡ d → GoingFits n.me name (lease_of n name).stage (Ready answer) → Fits i (record n { activity = Waiting (ForDelete name) }) d
+fits_deleted : (i : ℕ) (d : Name → List ℕ) (n : Node) (name : Name) (answer : Answer) → begins answer d ≡ d
+    → GoingFits n.me name (lease_of n name).stage (Ready answer) → Fits i (record n { activity = Waiting (ForDelete name) }) d
     → Fits i (becomes_ready answer n) d
 fits_deleted i d n name answer quiet going f =
     fits_leave i n d d (Waiting (ForDelete name)) (Ready answer) name (delete_apart name) (λ q. tt) tt
-    (queue_calm n.me name (home_of n name) (Waiting (ForDelete name)) (Ready answer) (λ w. cc) (f.each name).queue) (asking_calm name (n.remotes name) (Waiting (ForDelete name)) (Ready answer) (λ w. cc) (f.each name).asking) going quiet f
+    (queue_calm n.me name (home_of n name) (Waiting (ForDelete name)) (Ready answer) (λ w. cc) (f.each name).queue)
+    (asking_calm name (n.remotes name) (Waiting (ForDelete name)) (Ready answer) (λ w. cc) (f.each name).asking) going quiet f
 
 -- DeleteIs
 delete_quiet : (t : DeleteTold) (d : Name → List ℕ) → begins (delete_answer t) d ≡ d
@@ -148,7 +156,8 @@ delete_quiet delete_told.Done d = refl
 delete_quiet delete_told.Unknown d = refl
 delete_quiet delete_told.Deleted d = refl
 
-good_delete_is : (i : ℕ) (d : Name → List ℕ) (n : Node) (name : Name) (t : DeleteTold) (a : Activity) → n.activity ≡ a → (name.home == n.me) ≡ false → Fits i n d → Good i d (delete_is name t a n)
+good_delete_is : (i : ℕ) (d : Name → List ℕ) (n : Node) (name : Name) (t : DeleteTold) (a : Activity) → n.activity ≡ a → (name.home == n.me) ≡ false
+    → Fits i n d → Good i d (delete_is name t a n)
 good_delete_is i d n name t Free e away f = good_only i d n f
 good_delete_is i d n name t (Ready answer) e away f = good_only i d n f
 good_delete_is i d n name t (Waiting (ForSection p)) e away f = good_only i d n f
@@ -194,7 +203,8 @@ good_purged_cached i d n name (Some size) f =
 
 good_purged_over : (i : ℕ) (d : Name → List ℕ) (n : Node) (name : Name) (o : Option Mapping) → n.maps name ≡ o → Fits i n d → Good i d (purged_over name o n)
 good_purged_over i d n name (Some m) e f =
-    good_only i d _ (fits_same_size i d n name m (record m { doomed = true }) e refl (wait_same name n.activity (is_mine n name) m (record m { doomed = true }) (subst (λ x. WaitFits name n.activity (is_mine n name) x) e (f.each name).waiting)) f)
+    good_only i d _ (fits_same_size i d n name m (record m { doomed = true }) e refl
+    (wait_same name n.activity (is_mine n name) m (record m { doomed = true }) (subst (λ x. WaitFits name n.activity (is_mine n name) x) e (f.each name).waiting)) f)
 good_purged_over i d n name None e f = good_purged_cached i d n name (cached_size name n.cache) f
 
 good_purge : (i : ℕ) (d : Name → List ℕ) (n : Node) (from : ℕ) (name : Name) → Fits i n d → Good i d (purge from name n)
@@ -220,12 +230,14 @@ gone_at n name lease mine e = ap (λ (x : Lease). x.stage) (lease_put n name lea
 away_from : (name : Name) (me deleter : ℕ) → (name.home == me) ≡ true → (deleter == me) ≡ false → (name.home == deleter) ≡ false
 away_from name me deleter mine other = subst (λ x. (x == deleter) ≡ false) (sym (eqb-true name.home me mine)) (other_way deleter me other)
 
-good_done_at : (i : ℕ) (d : Name → List ℕ) (n : Node) (deleter : ℕ) (name : Name) (lease : Lease) → is_mine n name ≡ true → (lease_of n name).stage ≡ stage.Going deleter → lease.stage ≡ stage.Gone → Fits i n d
+good_done_at : (i : ℕ) (d : Name → List ℕ) (n : Node) (deleter : ℕ) (name : Name) (lease : Lease) → is_mine n name ≡ true
+    → (lease_of n name).stage ≡ stage.Going deleter → lease.stage ≡ stage.Gone → Fits i n d
     → Good i d (delete_done_at deleter name (with_lease name lease n))
 good_done_at i d n deleter name lease mine going gone f = record {
   node = cond_both (deleter == n.me) _ _ (λ m. Fits i m d)
       (λ own. fits_deleted i d (with_lease name lease n) name Done refl (subst (λ s. GoingFits n.me name s (Ready Done)) (sym (gone_at n name lease mine gone)) tt)
-      (gone_fits (record n { activity = Waiting (ForDelete name) }) mine (fits_as i d n (Waiting (ForDelete name)) (going_waits n.me deleter name (lease_of n name).stage n.activity going own (f.each name).going) f)))
+      (gone_fits (record n { activity = Waiting (ForDelete name) }) mine
+      (fits_as i d n (Waiting (ForDelete name)) (going_waits n.me deleter name (lease_of n name).stage n.activity going own (f.each name).going) f)))
       (λ other. gone_fits n mine f);
   posts = cond_both (deleter == n.me) _ _ (λ ms. AllByRecursion Leaves ms) (λ own. tt) (λ other. (away_from name n.me deleter mine other, tt));
 }
@@ -233,7 +245,8 @@ good_done_at i d n deleter name lease mine going gone f = record {
     gone_fits : (m : Node) → is_mine m name ≡ true → Fits i m d → Fits i (with_lease name lease m) d
     gone_fits m own g = fits_lease i m d name lease own (subst (λ s. LiveFits s (home_of m name)) (sym gone) tt) (subst (λ s. GoingFits m.me name s m.activity) (sym gone) tt) g
 
-good_purged_by : (i : ℕ) (d : Name → List ℕ) (n : Node) (name : Name) (s : Stage) (lease : Lease) → (lease_of n name).stage ≡ s → is_mine n name ≡ true → (lease.stage ≡ s) ⊎ (lease.stage ≡ stage.Gone) → Fits i n d → Good i d (purged_by name s lease n)
+good_purged_by : (i : ℕ) (d : Name → List ℕ) (n : Node) (name : Name) (s : Stage) (lease : Lease) → (lease_of n name).stage ≡ s
+    → is_mine n name ≡ true → (lease.stage ≡ s) ⊎ (lease.stage ≡ stage.Gone) → Fits i n d → Good i d (purged_by name s lease n)
 good_purged_by i d n name stage.Unknown lease e mine h f = good_only i d n f
 good_purged_by i d n name stage.Live lease e mine h f = good_only i d n f
 good_purged_by i d n name stage.Gone lease e mine h f = good_only i d n f
@@ -242,7 +255,8 @@ good_purged_by i d n name (stage.Going deleter) lease e mine (inl same) f =
 good_purged_by i d n name (stage.Going deleter) lease e mine (inr gone) f =
     good_if i d (is_gone lease.stage) _ _ (λ w. good_done_at i d n deleter name lease mine e gone f) (λ w. let k = ap is_gone gone in cc)
 
-after_stage : (missing : ℕ → Bool) (lease : Lease) (ms : List ℕ) → let l : Lease = elim ms [ [] ↦ record lease { stage = stage.Gone; missing = missing } | m ∷ rest ↦ record lease { missing = missing } ] in (l.stage ≡ lease.stage) ⊎ (l.stage ≡ stage.Gone)
+after_stage : (missing : ℕ → Bool) (lease : Lease) (ms : List ℕ)
+    → let l : Lease = elim ms [ [] ↦ record lease { stage = stage.Gone; missing = missing } | m ∷ rest ↦ record lease { missing = missing } ] in (l.stage ≡ lease.stage) ⊎ (l.stage ≡ stage.Gone)
 after_stage missing lease [] = inr refl
 after_stage missing lease (m ∷ rest) = inl refl
 
@@ -256,7 +270,8 @@ good_purged i d n from name f =
     (λ w. good_only i d n f)
 
 -- Come and Result
-round_apart : (n : Node) (round : ℕ) (f : Fold) (i : ℕ) (d : Name → List ℕ) (waited : ℕ) (k : CallKind) → Fits i (record n { activity = Waiting (ForRound waited k) }) d → Fits i (becomes_ready (answer_of round f) n) d
+round_apart : (n : Node) (round : ℕ) (f : Fold) (i : ℕ) (d : Name → List ℕ) (waited : ℕ) (k : CallKind)
+    → Fits i (record n { activity = Waiting (ForRound waited k) }) d → Fits i (becomes_ready (answer_of round f) n) d
 round_apart n round f i d waited k g =
     fits_turn i n d d (Waiting (ForRound waited k)) (Ready (answer_of round f)) (λ q. record { section = λ w. cc; delete = λ w. cc }) (λ q. tt) tt (answer_quiet round f d) g
 
@@ -275,7 +290,8 @@ good_gathered_from i d n round (Some v) f = record { node = fits_result i d n v 
 good_come_from : (i : ℕ) (d : Name → List ℕ) (n : Node) (from : ℕ) (part : Part) → Fits i n d → Good i d (come from part n)
 good_come_from i d n from part f =
     let g = gathers n.nodes from part n.gathering in
-    good_if i d (awaits from n.gathering) _ _ (λ w. good_gathered_from i d (record n { gathering = g.gathering }) n.gathering.round g.fold (fits_rounds i d n n.rounds g.gathering f)) (λ w. good_only i d n f)
+    good_if i d (awaits from n.gathering) _ _ (λ w. good_gathered_from i d (record n { gathering = g.gathering }) n.gathering.round g.fold
+    (fits_rounds i d n n.rounds g.gathering f)) (λ w. good_only i d n f)
 
 good_result : (i : ℕ) (d : Name → List ℕ) (n : Node) (round : ℕ) (v : Fold) (a : Activity) → n.activity ≡ a → Fits i n d → Good i d (result round v a n)
 good_result i d n round v Free e f = good_only i d n f

@@ -16,21 +16,24 @@ pub fits_turn : (i : ℕ) (n : Node) (d e : Name → List ℕ) (a b : Activity) 
     → begun b e ≡ begun a d → Fits i (record n { activity = a }) d → Fits i (record n { activity = b }) e
 fits_turn i n d e a b apart wait fresh same f = record {
   me = f.me;
-  each = λ q. subst (λ g. Holds n.me q b (record (seen (record n { activity = a }) d q) { draft = g q })) (sym same) (calm n.me q a b (seen (record n { activity = a }) d q) (apart q) (wait q) (f.each q));
+  each = λ q. subst (λ g. Holds n.me q b (record (seen (record n { activity = a }) d q) { draft = g q })) (sym same)
+      (calm n.me q a b (seen (record n { activity = a }) d q) (apart q) (wait q) (f.each q));
   cache = f.cache;
   fresh = fresh;
   inbox = f.inbox;
   outbox = f.outbox;
 }
 
-pub fits_leave : (i : ℕ) (n : Node) (d e : Name → List ℕ) (a b : Activity) (name : Name) → ((q : Name) → name_eq name q ≡ false → Apart q a) → ((q : Name) → WaitFits q b (is_mine n q) (n.maps q)) → FreshFits b n.cache
+pub fits_leave : (i : ℕ) (n : Node) (d e : Name → List ℕ) (a b : Activity) (name : Name) → ((q : Name) → name_eq name q ≡ false → Apart q a)
+    → ((q : Name) → WaitFits q b (is_mine n q) (n.maps q)) → FreshFits b n.cache
     → QueueFits n.me name (home_of n name) b → AskingFits name (n.remotes name) b → GoingFits n.me name (lease_of n name).stage b
     → begun b e ≡ begun a d → Fits i (record n { activity = a }) d → Fits i (record n { activity = b }) e
 fits_leave i n d e a b name apart wait fresh queue asking going same f = record {
   me = f.me;
   each = by_name name (λ t q. Holds n.me q b (seen (record n { activity = b }) e q))
       (subst (λ g. Holds n.me name b (record (seen (record n { activity = a }) d name) { draft = g name })) (sym same) (at_it (f.each name)))
-      (λ q w. subst (λ g. Holds n.me q b (record (seen (record n { activity = a }) d q) { draft = g q })) (sym same) (calm n.me q a b (seen (record n { activity = a }) d q) (apart q w) (wait q) (f.each q)));
+      (λ q w. subst (λ g. Holds n.me q b (record (seen (record n { activity = a }) d q) { draft = g q })) (sym same)
+      (calm n.me q a b (seen (record n { activity = a }) d q) (apart q w) (wait q) (f.each q)));
   cache = f.cache;
   fresh = fresh;
   inbox = f.inbox;
@@ -38,7 +41,7 @@ fits_leave i n d e a b name apart wait fresh queue asking going same f = record 
 }
   where
     at_it : Holds n.me name a (seen (record n { activity = a }) d name) → Holds n.me name b (seen (record n { activity = a }) d name)
-    at_it h = record { record' = h.record'; draft = h.draft; own = h.own; queue = queue; asking = asking; going = going; waiting = wait name }
+    at_it h = record { sections = h.sections; draft = h.draft; own = h.own; queue = queue; asking = asking; going = going; waiting = wait name }
 
 -- The home's table of a name, with the same size.
 live_home : (s : Stage) (h : Home) → LiveFits s (Some h)
@@ -60,7 +63,8 @@ own_home true v h g e size bytes own = record {
 }
 own_home false v h g e size bytes own = let w = own.nothing in cc
 
-pub fits_home : (i : ℕ) (n : Node) (d : Name → List ℕ) (name : Name) (h g : Home) → home_of n name ≡ Some h → g.size ≡ h.size → length g.bytes ≡ h.size → QueueFits n.me name (Some g) n.activity
+pub fits_home : (i : ℕ) (n : Node) (d : Name → List ℕ) (name : Name) (h g : Home) → home_of n name ≡ Some h → g.size ≡ h.size
+    → length g.bytes ≡ h.size → QueueFits n.me name (Some g) n.activity
     → Fits i n d → Fits i (with_home name g n) d
 fits_home i n d name h g e size bytes queue f = record {
   me = f.me;
@@ -74,7 +78,7 @@ fits_home i n d name h g e size bytes queue f = record {
   where
     at_it : Holds n.me name n.activity (seen n d name) → Holds n.me name n.activity (record (seen n d name) { home = Some g })
     at_it x = record {
-      record' = x.record';
+      sections = x.sections;
       draft = x.draft;
       own = own_home (is_mine n name) (seen n d name) h g e size bytes x.own;
       queue = queue;
@@ -97,7 +101,8 @@ own_remote false v r s e size bytes own = record {
   unknown = own.unknown;
 }
 
-pub fits_remote : (i : ℕ) (n : Node) (d : Name → List ℕ) (name : Name) (r s : Remote) → n.remotes name ≡ Some r → s.size ≡ r.size → RemoteFits (Some s) → AskingFits name (Some s) n.activity
+pub fits_remote : (i : ℕ) (n : Node) (d : Name → List ℕ) (name : Name) (r s : Remote) → n.remotes name ≡ Some r → s.size ≡ r.size
+    → RemoteFits (Some s) → AskingFits name (Some s) n.activity
     → Fits i n d → Fits i (with_remote name (Some s) n) d
 fits_remote i n d name r s e size bytes asking f = record {
   me = f.me;
@@ -110,7 +115,7 @@ fits_remote i n d name r s e size bytes asking f = record {
   where
     at_it : Holds n.me name n.activity (seen n d name) → Holds n.me name n.activity (record (seen n d name) { remote = Some s })
     at_it x = record {
-      record' = x.record';
+      sections = x.sections;
       draft = x.draft;
       own = own_remote (is_mine n name) (seen n d name) r s e size bytes x.own;
       queue = x.queue;
@@ -140,7 +145,7 @@ fits_forget i n d name f = record {
   where
     at_it : Holds n.me name n.activity (seen n d name) → Holds n.me name n.activity (record (seen n d name) { remote = None })
     at_it x = record {
-      record' = x.record';
+      sections = x.sections;
       draft = x.draft;
       own = own_nothing (is_mine n name) (seen n d name) x.own;
       queue = x.queue;
@@ -150,7 +155,8 @@ fits_forget i n d name f = record {
     }
 
 -- A mapping of a name.
-pub fits_mapping : (i : ℕ) (n : Node) (d : Name → List ℕ) (name : Name) (m : Option Mapping) → RecordFits (n.sections.records name) m → OwnFits (is_mine n name) (record (seen n d name) { mapping = m }) → WaitFits name n.activity (is_mine n name) m
+pub fits_mapping : (i : ℕ) (n : Node) (d : Name → List ℕ) (name : Name) (m : Option Mapping) → RecordFits (n.sections.records name) m
+    → OwnFits (is_mine n name) (record (seen n d name) { mapping = m }) → WaitFits name n.activity (is_mine n name) m
     → Fits i n d → Fits i (with_mapping name m n) d
 fits_mapping i n d name m rec own wait f = record {
   me = f.me;
@@ -162,14 +168,15 @@ fits_mapping i n d name m rec own wait f = record {
 }
   where
     at_it : Holds n.me name n.activity (seen n d name) → Holds n.me name n.activity (record (seen n d name) { mapping = m })
-    at_it x = record { record' = rec; draft = x.draft; own = own; queue = x.queue; asking = x.asking; going = x.going; waiting = wait }
+    at_it x = record { sections = rec; draft = x.draft; own = own; queue = x.queue; asking = x.asking; going = x.going; waiting = wait }
 
 -- A lease of one of its own regions.
 own_lease : (b : Bool) (v : Seen) (s : Stage) → b ≡ true → LiveFits s v.home → OwnFits b v → OwnFits b (record v { stage = s })
 own_lease true v s e live own = record { live = live; bytes = own.bytes; mapped = own.mapped; nothing = own.nothing }
 own_lease false v s e live own = cc
 
-pub fits_lease : (i : ℕ) (n : Node) (d : Name → List ℕ) (name : Name) (lease : Lease) → is_mine n name ≡ true → LiveFits lease.stage (home_of n name) → GoingFits n.me name lease.stage n.activity
+pub fits_lease : (i : ℕ) (n : Node) (d : Name → List ℕ) (name : Name) (lease : Lease) → is_mine n name ≡ true → LiveFits lease.stage (home_of n name)
+    → GoingFits n.me name lease.stage n.activity
     → Fits i n d → Fits i (with_lease name lease n) d
 fits_lease i n d name lease mine live going f = record {
   me = f.me;
@@ -183,7 +190,7 @@ fits_lease i n d name lease mine live going f = record {
   where
     at_it : Holds n.me name n.activity (seen n d name) → Holds n.me name n.activity (record (seen n d name) { stage = lease.stage })
     at_it x = record {
-      record' = x.record';
+      sections = x.sections;
       draft = x.draft;
       own = own_lease (is_mine n name) (seen n d name) lease.stage mine live x.own;
       queue = x.queue;
@@ -193,7 +200,8 @@ fits_lease i n d name lease mine live going f = record {
     }
 
 -- The cache.
-pub fits_cache : (i : ℕ) (n : Node) (d : Name → List ℕ) (cache : List Kept) → ((q : Name) (size : ℕ) → IsCached q size cache → SizeIs (n.remotes q) size) → FreshFits n.activity cache
+pub fits_cache : (i : ℕ) (n : Node) (d : Name → List ℕ) (cache : List Kept)
+    → ((q : Name) (size : ℕ) → IsCached q size cache → SizeIs (n.remotes q) size) → FreshFits n.activity cache
     → Fits i n d → Fits i (record n { cache = cache }) d
 fits_cache i n d cache sizes fresh f = record { me = f.me; each = f.each; cache = sizes; fresh = fresh; inbox = f.inbox; outbox = f.outbox }
 

@@ -40,11 +40,13 @@ good_taken i d n (call.Add name offset) v e f = good_only i d (free n) f
 good_taken i d n (call.Flush name) v e f = good_flush i d (free n) name f
 good_taken i d n (call.Come part) v e f = good_come i d n part f
 
-good_as : (i : ℕ) (d : Name → List ℕ) (n : Node) (c : Call) (o : Option Refusal) → verdict (free n) c ≡ o → is_call (free n) c o ≡ true → Fits i (free n) d → Good i d (called_as o c (free n))
+good_as : (i : ℕ) (d : Name → List ℕ) (n : Node) (c : Call) (o : Option Refusal) → verdict (free n) c ≡ o → is_call (free n) c o ≡ true
+    → Fits i (free n) d → Good i d (called_as o c (free n))
 good_as i d n c None v e f = good_taken i d n c v e f
 good_as i d n c (Some why) v e f = good_refused i d (free n) why c f
 
 pub good_call : (i : ℕ) (d : Name → List ℕ) (n : Node) (c : Call) → n.activity ≡ Free → is_call n c (verdict n c) ≡ true → Fits i n d → Good i d (called c n)
 good_call i d n c e =
-    subst (λ a. is_call (record n { activity = a }) c (verdict (record n { activity = a }) c) ≡ true → Fits i (record n { activity = a }) d → Good i d (called c (record n { activity = a }))) (sym e)
+    subst (λ a. is_call (record n { activity = a }) c (verdict (record n { activity = a }) c) ≡ true → Fits i (record n { activity = a }) d → Good i d
+    (called c (record n { activity = a }))) (sym e)
     (λ w f. good_as i d n c (verdict (free n) c) refl w f)

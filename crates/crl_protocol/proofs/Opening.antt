@@ -44,16 +44,19 @@ fits_made i size n d f = record {
   each = λ q. subst (λ x. Holds n.me q n.activity (record (seen (made size n) d q) { home = x })) (sym (home_end n (made size n) (new_home size) refl refl q))
       (subst (λ (x : Lease). Holds n.me q n.activity (record (seen (made size n) d q) { home = at_name (home_of n) (next_name n) (Some (new_home size)) q; stage = x.stage }))
       (sym (lease_put n (next_name n) new_lease (eq-eqb n.me n.me refl) q))
-      (by_name (next_name n) (λ b p. Holds n.me p n.activity (record (seen n d p) { home = if b then Some (new_home size) else home_of n p; stage = (if b then new_lease else lease_of n p).stage })) (at_it (f.each (next_name n))) (λ p w. f.each p) q));
+      (by_name (next_name n) (λ b p. Holds n.me p n.activity
+      (record (seen n d p) { home = if b then Some (new_home size) else home_of n p; stage = (if b then new_lease else lease_of n p).stage })) (at_it (f.each (next_name n)))
+      (λ p w. f.each p) q));
   cache = f.cache;
   fresh = f.fresh;
   inbox = f.inbox;
   outbox = f.outbox;
 }
   where
-    at_it : Holds n.me (next_name n) n.activity (seen n d (next_name n)) → Holds n.me (next_name n) n.activity (record (seen n d (next_name n)) { home = Some (new_home size); stage = stage.Live })
+    at_it : Holds n.me (next_name n) n.activity (seen n d (next_name n))
+        → Holds n.me (next_name n) n.activity (record (seen n d (next_name n)) { home = Some (new_home size); stage = stage.Live })
     at_it x = record {
-      record' = x.record';
+      sections = x.sections;
       draft = x.draft;
       own = own_made (is_mine n (next_name n)) (seen n d (next_name n)) size (eq-eqb n.me n.me refl) (home_next n) x.own;
       queue = (tt, inl tt);
@@ -82,7 +85,8 @@ less_draft r section.Closed draft = tt
 less_draft r (section.Reading count) draft = tt
 less_draft r section.Writing draft = tt
 
-fits_less : (i : ℕ) (n : Node) (d : Name → List ℕ) (name : Name) (o : Option Record) → n.sections.records name ≡ o → Fits i n d → Fits i (record n { sections = ends_over name o n.sections }) d
+fits_less : (i : ℕ) (n : Node) (d : Name → List ℕ) (name : Name) (o : Option Record) → n.sections.records name ≡ o → Fits i n d
+    → Fits i (record n { sections = ends_over name o n.sections }) d
 fits_less i n d name None e f = f
 fits_less i n d name (Some r) e f = record {
   me = f.me;
@@ -95,7 +99,7 @@ fits_less i n d name (Some r) e f = record {
   where
     at_it : Holds n.me name n.activity (seen n d name) → Holds n.me name n.activity (record (seen n d name) { opened = less r (one_less r.section) })
     at_it x = record {
-      record' = less_record r (one_less r.section) (n.maps name) (subst (λ y. RecordFits y (n.maps name)) e x.record');
+      sections = less_record r (one_less r.section) (n.maps name) (subst (λ y. RecordFits y (n.maps name)) e x.sections);
       draft = less_draft r (one_less r.section) (seen n d name).draft;
       own = own_opened (is_mine n name) _ _ _ x.own;
       queue = x.queue;
@@ -112,7 +116,8 @@ fits_close i n d name f = fits_less i n d name (n.sections.records name) refl f
 abbrev anew : Section → List ℕ → Sections → Record
 anew s bytes all = record { section = s; number = all.last + 1; bytes = bytes }
 
-anew_record : (s : Section) (bytes : List ℕ) (all : Sections) (o : Option Mapping) (m : Mapping) → o ≡ Some m → length bytes ≡ m.size → is_closed s ≡ false → RecordFits (Some (anew s bytes all)) o
+anew_record : (s : Section) (bytes : List ℕ) (all : Sections) (o : Option Mapping) (m : Mapping) → o ≡ Some m → length bytes ≡ m.size
+    → is_closed s ≡ false → RecordFits (Some (anew s bytes all)) o
 anew_record s bytes all o m e size h = subst (λ x. RecordFits (Some (anew s bytes all)) x) (sym e) (size, h)
 
 more_record : (r : Record) (s : Section) (m : Option Mapping) → RecordFits (Some r) m → is_closed (one_more s) ≡ false → RecordFits (Some (record r { section = one_more s })) m
@@ -129,11 +134,13 @@ more_draft section.Closed a b f = tt
 more_draft (section.Reading count) a b f = tt
 more_draft section.Writing a b f = f
 
-fits_read : (i : ℕ) (n : Node) (d : Name → List ℕ) (name : Name) (bytes : List ℕ) (m : Mapping) (o : Option Record) → n.sections.records name ≡ o → n.maps name ≡ Some m → length bytes ≡ m.size
+fits_read : (i : ℕ) (n : Node) (d : Name → List ℕ) (name : Name) (bytes : List ℕ) (m : Mapping) (o : Option Record) → n.sections.records name ≡ o
+    → n.maps name ≡ Some m → length bytes ≡ m.size
     → Fits i (free n) d → Fits i (free (record n { sections = (begins_to_read name o bytes n.sections).sections })) d
 fits_read i n d name bytes m None e mapped size f = record {
   me = f.me;
-  each = by_name name (λ b p. Holds n.me p Free (record (seen (free n) d p) { opened = if b then Some (anew (section.Reading 1) bytes n.sections) else n.sections.records p })) (at_it (f.each name)) (λ p w. f.each p);
+  each = by_name name (λ b p. Holds n.me p Free (record (seen (free n) d p) { opened = if b then Some (anew (section.Reading 1) bytes n.sections) else n.sections.records p }))
+      (at_it (f.each name)) (λ p w. f.each p);
   cache = f.cache;
   fresh = f.fresh;
   inbox = f.inbox;
@@ -142,7 +149,7 @@ fits_read i n d name bytes m None e mapped size f = record {
   where
     at_it : Holds n.me name Free (seen (free n) d name) → Holds n.me name Free (record (seen (free n) d name) { opened = Some (anew (section.Reading 1) bytes n.sections) })
     at_it x = record {
-      record' = anew_record (section.Reading 1) bytes n.sections (n.maps name) m mapped size refl;
+      sections = anew_record (section.Reading 1) bytes n.sections (n.maps name) m mapped size refl;
       draft = tt;
       own = own_opened (is_mine n name) _ _ _ x.own;
       queue = x.queue;
@@ -152,7 +159,8 @@ fits_read i n d name bytes m None e mapped size f = record {
     }
 fits_read i n d name bytes m (Some r) e mapped size f = record {
   me = f.me;
-  each = by_name name (λ b p. Holds n.me p Free (record (seen (free n) d p) { opened = if b then Some (record r { section = one_more r.section }) else n.sections.records p })) (at_it (f.each name)) (λ p w. f.each p);
+  each = by_name name (λ b p. Holds n.me p Free (record (seen (free n) d p) { opened = if b then Some (record r { section = one_more r.section }) else n.sections.records p }))
+      (at_it (f.each name)) (λ p w. f.each p);
   cache = f.cache;
   fresh = f.fresh;
   inbox = f.inbox;
@@ -161,7 +169,7 @@ fits_read i n d name bytes m (Some r) e mapped size f = record {
   where
     at_it : Holds n.me name Free (seen (free n) d name) → Holds n.me name Free (record (seen (free n) d name) { opened = Some (record r { section = one_more r.section }) })
     at_it x = record {
-      record' = more_record r r.section (n.maps name) (subst (λ y. RecordFits y (n.maps name)) e x.record') (more_open r.section);
+      sections = more_record r r.section (n.maps name) (subst (λ y. RecordFits y (n.maps name)) e x.sections) (more_open r.section);
       draft = more_draft r.section _ _ (subst (λ y. DraftFits y (d name)) e x.draft);
       own = own_opened (is_mine n name) _ _ _ x.own;
       queue = x.queue;
@@ -171,19 +179,25 @@ fits_read i n d name bytes m (Some r) e mapped size f = record {
     }
 
 fits_write : (i : ℕ) (n : Node) (d : Name → List ℕ) (name : Name) (bytes : List ℕ) (m : Mapping) → n.maps name ≡ Some m → length bytes ≡ m.size
-    → Fits i (free n) d → Fits i (free (record n { sections = record { records = at_name n.sections.records name (Some (anew section.Writing bytes n.sections)); last = n.sections.last + 1 } })) (at_name d name bytes)
+    → Fits i (free n) d
+    → Fits i (free (record n { sections = record { records = at_name n.sections.records name (Some (anew section.Writing bytes n.sections)); last = n.sections.last + 1 } })) (at_name d name bytes)
 fits_write i n d name bytes m mapped size f = record {
   me = f.me;
-  each = by_name name (λ b p. Holds n.me p Free (record (seen (free n) d p) { opened = if b then Some (anew section.Writing bytes n.sections) else n.sections.records p; draft = if b then bytes else d p })) (at_it (f.each name)) (λ p w. f.each p);
+  each = by_name name (λ b p. Holds n.me p Free (record (seen (free n) d p) {
+    opened = if b then Some
+        (anew section.Writing bytes n.sections) else n.sections.records p;
+    draft = if b then bytes else d p;
+  })) (at_it (f.each name)) (λ p w. f.each p);
   cache = f.cache;
   fresh = f.fresh;
   inbox = f.inbox;
   outbox = f.outbox;
 }
   where
-    at_it : Holds n.me name Free (seen (free n) d name) → Holds n.me name Free (record (seen (free n) d name) { opened = Some (anew section.Writing bytes n.sections); draft = bytes })
+    at_it : Holds n.me name Free (seen (free n) d name)
+        → Holds n.me name Free (record (seen (free n) d name) { opened = Some (anew section.Writing bytes n.sections); draft = bytes })
     at_it x = record {
-      record' = anew_record section.Writing bytes n.sections (n.maps name) m mapped size refl;
+      sections = anew_record section.Writing bytes n.sections (n.maps name) m mapped size refl;
       draft = refl;
       own = own_opened (is_mine n name) _ _ _ x.own;
       queue = x.queue;

@@ -40,7 +40,8 @@ good_recording i d what o g = record { node = g.node; posts = g.posts }
 pub free_apart : (q : Name) → Apart q Free
 free_apart q = record { section = λ e. cc; delete = λ e. cc }
 
-pub good_waits : (i : ℕ) (d : Name → List ℕ) (n : Node) (awaited : Awaited) (posts : List Message) → ((q : Name) → WaitFits q (Waiting awaited) (is_mine n q) (n.maps q)) → FreshFits (Waiting awaited) n.cache → AllByRecursion Leaves posts
+pub good_waits : (i : ℕ) (d : Name → List ℕ) (n : Node) (awaited : Awaited) (posts : List Message)
+    → ((q : Name) → WaitFits q (Waiting awaited) (is_mine n q) (n.maps q)) → FreshFits (Waiting awaited) n.cache → AllByRecursion Leaves posts
     → Fits i (free n) d → Good i d (waits (free n) awaited posts)
 good_waits i d n awaited posts wait fresh leave f = record { node = fits_turn i n d d Free (Waiting awaited) free_apart wait fresh refl f; posts = leave }
 
@@ -85,7 +86,8 @@ purges_leave n name [] = tt
 purges_leave n name (m ∷ ms) = (tt, purges_leave n name ms)
 
 -- A name with a table is the node's own, and one with a copy isn't.
-own_here : (i : ℕ) (d : Name → List ℕ) (n : Node) (name : Name) (h : Home) (b : Bool) → is_mine n name ≡ b → home_of n name ≡ Some h → OwnFits b (seen n d name) → OwnHere (seen n d name)
+own_here : (i : ℕ) (d : Name → List ℕ) (n : Node) (name : Name) (h : Home) (b : Bool) → is_mine n name ≡ b → home_of n name ≡ Some h
+    → OwnFits b (seen n d name) → OwnHere (seen n d name)
 own_here i d n name h true e w own = own
 own_here i d n name h false e w own = let k = own.nothing in cc
 
@@ -151,7 +153,8 @@ pub is_cached : (name : Name) (cache : List Kept) (size : ℕ) → cached_size n
 is_cached name [] size e = cc
 is_cached name (kept ∷ cache) size e = either (name_eq kept.name name) refl e (is_cached name cache size)
   where
-    either : (b : Bool) → name_eq kept.name name ≡ b → (if b then Some kept.size else cached_size name cache) ≡ Some size → (cached_size name cache ≡ Some size → IsCached name size cache)
+    either : (b : Bool) → name_eq kept.name name ≡ b → (if b then Some kept.size else cached_size name cache) ≡ Some size
+        → (cached_size name cache ≡ Some size → IsCached name size cache)
         → IsCached name size (kept ∷ cache)
     either true w k rest = inl (same_name kept.name name w, cc)
     either false w k rest = inr (rest k)
@@ -160,7 +163,8 @@ pub not_cached : (name : Name) (cache : List Kept) → cached_size name cache �
 not_cached name [] e size c = c
 not_cached name (kept ∷ cache) e size c = either (name_eq kept.name name) refl e (not_cached name cache) c
   where
-    either : (b : Bool) → name_eq kept.name name ≡ b → (if b then Some kept.size else cached_size name cache) ≡ None → (cached_size name cache ≡ None → (z : ℕ) → IsCached name z cache → ⊥)
+    either : (b : Bool) → name_eq kept.name name ≡ b → (if b then Some kept.size else cached_size name cache) ≡ None
+        → (cached_size name cache ≡ None → (z : ℕ) → IsCached name z cache → ⊥)
         → IsCached name size (kept ∷ cache) → ⊥
     either true w k rest c = cc
     either false w k rest (inl h) = other_name kept.name name w h.0
@@ -170,7 +174,8 @@ pub kept_dropped : (name q : Name) (size : ℕ) (cache : List Kept) → IsCached
 kept_dropped name q size [] c = c
 kept_dropped name q size (kept ∷ cache) c = either (name_eq kept.name name) (kept_dropped name q size cache) c
   where
-    either : (b : Bool) → (IsCached q size (dropped name cache) → IsCached q size cache) → IsCached q size (if b then cache else kept ∷ dropped name cache) → IsCached q size (kept ∷ cache)
+    either : (b : Bool) → (IsCached q size (dropped name cache) → IsCached q size cache)
+        → IsCached q size (if b then cache else kept ∷ dropped name cache) → IsCached q size (kept ∷ cache)
     either true rest c = inr c
     either false rest (inl h) = inl h
     either false rest (inr h) = inr (rest h)

@@ -37,7 +37,8 @@ abbrev pub gather : {A : Type 0} → (ℕ → List A) → ℕ → ℕ → List A
 gather f i zero = []
 gather f i (suc k) = f i ++ gather f (i + 1) k
 
-pub all_gathered : {A : Type 0} (P : A → Type 0) (f : ℕ → List A) (i k count : ℕ) → i + k ≡ count → ((j : ℕ) → j < count → AllByRecursion P (f j)) → AllByRecursion P (gather f i k)
+pub all_gathered : {A : Type 0} (P : A → Type 0) (f : ℕ → List A) (i k count : ℕ) → i + k ≡ count
+    → ((j : ℕ) → j < count → AllByRecursion P (f j)) → AllByRecursion P (gather f i k)
 all_gathered P f i zero count e h = tt
 all_gathered P f i (suc k) count e h =
     all_append P (f i) (gather f (i + 1) k) (h i (omega arith)) (all_gathered P f (i + 1) k count (omega arith) h)

@@ -45,14 +45,16 @@ calls_mail m (None ∷ listed) ask = calls_mail (m + 1) listed ask
 calls_mail m (Some copy ∷ listed) ask =
     cond_both (is_called m copy ask) _ _ NoAsks (λ w. (call_mail ask copy.version m, calls_mail (m + 1) listed ask)) (λ w. calls_mail (m + 1) listed ask)
 
-served_next : (me : ℕ) (h : Home) (ask : Asked) (queue : List Asked) (x y : Served) (servable own : Bool) → (ask.node == me) ≡ own → Serves me (open_own h ask) queue x → Serves me (grant_next h ask) queue y
-    → Serves me h (ask ∷ queue) (if servable then (if own then opening x else posting (grant_for h ask) y) else record { home = record h { listed = marked 0 h.listed ask; queue = ask ∷ queue }; posts = calls 0 h.listed ask; opened = false })
+served_next : (me : ℕ) (h : Home) (ask : Asked) (queue : List Asked) (x y : Served) (servable own : Bool) → (ask.node == me) ≡ own
+    → Serves me (open_own h ask) queue x → Serves me (grant_next h ask) queue y
+    → Serves me h (ask ∷ queue) (if servable then (if own then opening x else posting (grant_for h ask) y)
+    else record { home = record h { listed = marked 0 h.listed ask; queue = ask ∷ queue }; posts = calls 0 h.listed ask; opened = false })
 served_next me h ask queue x y true true e fx fy = record {
   size = fx.size;
   bytes = fx.bytes;
   mail = fx.mail;
-  none = λ no'. let w = no'.0 in cc;
-  silent = λ no'. let w = no'.0 in cc;
+  none = λ none. let w = none.0 in cc;
+  silent = λ none. let w = none.0 in cc;
   one = λ one. no_is_one me x.home.queue (fx.none (MatchBool-at_true _ _ e one));
   after = λ one w. fx.none (MatchBool-at_true _ _ e one);
 }
@@ -60,8 +62,8 @@ served_next me h ask queue x y true false e fx fy = record {
   size = fy.size;
   bytes = fy.bytes;
   mail = (tt, fy.mail);
-  none = λ no'. fy.none no'.1;
-  silent = λ no'. fy.silent no'.1;
+  none = λ none. fy.none none.1;
+  silent = λ none. fy.silent none.1;
   one = λ one. fy.one (MatchBool-at_false _ _ e one);
   after = λ one w. fy.after (MatchBool-at_false _ _ e one) w;
 }
@@ -69,8 +71,8 @@ served_next me h ask queue x y false own e fx fy = record {
   size = refl;
   bytes = refl;
   mail = calls_mail 0 h.listed ask;
-  none = λ no'. no';
-  silent = λ no'. refl;
+  none = λ none. none;
+  silent = λ none. refl;
   one = λ one. one;
   after = λ one w. cc;
 }
@@ -91,7 +93,8 @@ pub record HomeGoes (me : ℕ) (h : Home) (s : Served) : Type 0 where
   pub one : OneOwn me h.queue → OneOwn me s.home.queue
   pub after : OneOwn me h.queue → s.opened ≡ true → NoOwn me s.home.queue
 
-goes : (me : ℕ) (h g : Home) (queue : List Asked) → g.size ≡ h.size → length g.bytes ≡ h.size → (NoOwn me h.queue → NoOwn me queue) → (OneOwn me h.queue → OneOwn me queue) → HomeGoes me h (serve me g queue)
+goes : (me : ℕ) (h g : Home) (queue : List Asked) → g.size ≡ h.size → length g.bytes ≡ h.size → (NoOwn me h.queue → NoOwn me queue)
+    → (OneOwn me h.queue → OneOwn me queue) → HomeGoes me h (serve me g queue)
 goes me h g queue e b none one =
     let f = serves me g queue in record {
       size = f.size ∙ e;
@@ -127,11 +130,13 @@ pub asked_goes : (me : ℕ) (ask : Asked) (h : Home) → (ask.node == me) ≡ fa
 unfolding home_asked
 asked_goes me ask h e b = goes me h h (h.queue ++ ask ∷ []) refl b (more_none me h.queue ask e) (more_one me h.queue ask e)
 
-after_length : (bytes : Option (List ℕ)) (old : List ℕ) (size : ℕ) (copy : Option Listing) → length old ≡ size → bytes_fit bytes copy size ≡ true → length (bytes_after bytes old) ≡ size
+after_length : (bytes : Option (List ℕ)) (old : List ℕ) (size : ℕ) (copy : Option Listing) → length old ≡ size → bytes_fit bytes copy size ≡ true
+    → length (bytes_after bytes old) ≡ size
 after_length None old size copy b f = b
 after_length (Some bytes) old size copy b f = eqb-true (length bytes) size f
 
-pub returned_goes : (me n version : ℕ) (bytes : Option (List ℕ)) (h : Home) → length h.bytes ≡ h.size → takes_return n version bytes h ≡ true → HomeGoes me h (home_returned me n bytes h)
+pub returned_goes : (me n version : ℕ) (bytes : Option (List ℕ)) (h : Home) → length h.bytes ≡ h.size → takes_return n version bytes h ≡ true
+    → HomeGoes me h (home_returned me n bytes h)
 unfolding home_returned
 returned_goes me n version bytes h b f =
     goes me h _ h.queue refl (after_length bytes h.bytes h.size (at n h.listed) b (and_parts _ _ f).1) (λ w. w) (λ w. w)
@@ -164,10 +169,10 @@ starts_fit me write h b none =
     let at_once : (section : Section) → HomeStarts me h (record { home = record h { mine = section }; posts = []; opened = true }) =
     λ section. record { size = refl; bytes = b; mail = tt; one = no_is_one me h.queue none; after = λ w. none } in
     let queued = serves me h (h.queue ++ own_ask me write ∷ []) in
-    let one' = one_more_own me h.queue (own_ask me write) none in
+    let last = one_more_own me h.queue (own_ask me write) none in
     cond_both (not write && is_reading h.mine) _ _ (HomeStarts me h) (λ w. at_once _)
     (λ w. cond_both (is_empty h.queue && is_servable h (own_ask me write)) _ _ (HomeStarts me h) (λ w. at_once _)
-    (λ w. record { size = queued.size; bytes = ap (λ xs. length xs) queued.bytes ∙ b; mail = queued.mail; one = queued.one one'; after = λ o. queued.after one' o }))
+    (λ w. record { size = queued.size; bytes = ap (λ xs. length xs) queued.bytes ∙ b; mail = queued.mail; one = queued.one last; after = λ o. queued.after last o }))
 
 -- An event at another node's side that isn't the start of a section.
 pub record RemoteGoes (r : Remote) (s : Moved) : Type 0 where

@@ -61,7 +61,7 @@ fits_start count capacity i = record {
   me = refl;
   each = λ q. subst (λ s. Holds i q Free (record (seen (new_node count capacity i) (λ p. []) q) { stage = s })) (sym (no_stage (q.home == i)))
       (subst (λ h. Holds i q Free (record (seen (new_node count capacity i) (λ p. []) q) { stage = stage.Unknown; home = h })) (sym (no_table (q.home == i) (q.serial == 0)))
-      (record { record' = tt; draft = tt; own = own_start (q.home == i) q; queue = tt; asking = tt; going = tt; waiting = tt }));
+      (record { sections = tt; draft = tt; own = own_start (q.home == i) q; queue = tt; asking = tt; going = tt; waiting = tt }));
   cache = λ q size c. absurd c;
   fresh = tt;
   inbox = tt;
@@ -110,7 +110,8 @@ given_left Wait a = refl
 
 left_given : (r : Running) (i : ℕ) (answer : Answer) → Sound r → (j : ℕ) → AllByRecursion IsStatement (at_node r.actors i (given answer (r.actors i)) j).left
 left_given r i answer s =
-    by_node i (λ b j. AllByRecursion IsStatement (if b then given answer (r.actors i) else r.actors j).left) (subst (λ x. AllByRecursion IsStatement x) (sym (given_left answer (r.actors i))) (s.left i)) s.left
+    by_node i (λ b j. AllByRecursion IsStatement (if b then given answer (r.actors i) else r.actors j).left)
+    (subst (λ x. AllByRecursion IsStatement x) (sym (given_left answer (r.actors i))) (s.left i)) s.left
 
 sound_stepped : (r : Running) (i : ℕ) (e f : Event) (o : Outcome) → Good i (r.actors i).drafts o → Sound r → Sound (going_on i f (stepped i e o r.world) r)
 sound_stepped r i e f o g s = record {
@@ -120,7 +121,8 @@ sound_stepped r i e f o g s = record {
 }
 
 -- What is taken out of a list was one of its elements.
-all_behind : {A : Type 0} (P : A → Type 0) (x : A) (o : Option (Taken A)) (t : Taken A) → behind x o ≡ Some t → P x → ((u : Taken A) → o ≡ Some u → P u.taken × AllByRecursion P u.rest) → P t.taken × AllByRecursion P t.rest
+all_behind : {A : Type 0} (P : A → Type 0) (x : A) (o : Option (Taken A)) (t : Taken A) → behind x o ≡ Some t → P x
+    → ((u : Taken A) → o ≡ Some u → P u.taken × AllByRecursion P u.rest) → P t.taken × AllByRecursion P t.rest
 all_behind P x None t e h k = cc
 all_behind P x (Some u) t e h k =
     let parts = k u refl in
@@ -133,7 +135,8 @@ all_taken P zero (x ∷ xs) t e h =
     let same : record { taken = x; rest = xs } ≡ t = cc in subst (λ (v : Taken _). P v.taken × AllByRecursion P v.rest) same h
 all_taken P (suc place) (x ∷ xs) t e h = all_behind P x (take_out place xs) t e h.0 (λ u w. all_taken P place xs u w h.1)
 
-sound_handled : (r : Running) (i place : ℕ) (e f : Event) (o : Option (Taken Message)) → take_out place (r.world.nodes i).inbox ≡ o → Sound r → Sound (going_on i f (handled_at i e o r.world) r)
+sound_handled : (r : Running) (i place : ℕ) (e f : Event) (o : Option (Taken Message)) → take_out place (r.world.nodes i).inbox ≡ o → Sound r
+    → Sound (going_on i f (handled_at i e o r.world) r)
 sound_handled r i place e f None w s = record {
   fits = by_node i (λ b j. Fits j (r.world.nodes j) (if b then r.actors i else r.actors j).drafts) (s.fits i) s.fits;
   left = left_given r i Done s;
@@ -154,7 +157,8 @@ good_collected i d n (Ready answer) e f = record {
   posts = tt;
 }
 
-sound_carried : (r : Running) (i place : ℕ) (e f : Event) (o : Option (Taken Message)) → take_out place (r.world.nodes i).outbox ≡ o → Sound r → Sound (going_on i f (carried i e o r.world) r)
+sound_carried : (r : Running) (i place : ℕ) (e f : Event) (o : Option (Taken Message)) → take_out place (r.world.nodes i).outbox ≡ o → Sound r
+    → Sound (going_on i f (carried i e o r.world) r)
 sound_carried r i place e f None w s = record {
   fits = by_node i (λ b j. Fits j (r.world.nodes j) (if b then r.actors i else r.actors j).drafts) (s.fits i) s.fits;
   left = left_given r i Done s;
@@ -190,7 +194,8 @@ sound_carried r i place e f (Some t) w s = record {
     }
 
     arrived : (j : ℕ) → Fits j (at_node between t.taken.addressee (put_in t.taken (between t.taken.addressee)) j) (r.actors j).drafts
-    arrived = by_node t.taken.addressee (λ b j. Fits j (if b then put_in t.taken (between t.taken.addressee) else between j) (r.actors j).drafts) (put t.taken.addressee (between t.taken.addressee) refl (left_there t.taken.addressee)) left_there
+    arrived = by_node t.taken.addressee (λ b j. Fits j (if b then put_in t.taken (between t.taken.addressee) else between j) (r.actors j).drafts)
+        (put t.taken.addressee (between t.taken.addressee) refl (left_there t.taken.addressee)) left_there
 
 is_freed : (a : Activity) → is_free a ≡ true → a ≡ Free
 is_freed Free e = refl
@@ -204,6 +209,7 @@ sound_event r (event.Call i c) h s =
     let parts = and_parts _ _ (and_parts _ _ h).1 in
     sound_stepped r i _ (event.Call i c) (called c (r.world.nodes i)) (good_call i (r.actors i).drafts (r.world.nodes i) c (is_freed (r.world.nodes i).activity parts.0) parts.1 (s.fits i)) s
 sound_event r (event.Collect i) h s =
-    sound_stepped r i _ (event.Collect i) (collected (r.world.nodes i).activity (r.world.nodes i)) (good_collected i (r.actors i).drafts (r.world.nodes i) (r.world.nodes i).activity refl (s.fits i)) s
+    sound_stepped r i _ (event.Collect i) (collected (r.world.nodes i).activity (r.world.nodes i))
+    (good_collected i (r.actors i).drafts (r.world.nodes i) (r.world.nodes i).activity refl (s.fits i)) s
 sound_event r (event.Handle i place) h s = sound_handled r i place (event.Handle i place) (event.Handle i place) (take_out place (r.world.nodes i).inbox) refl s
 sound_event r (event.Carry i place) h s = sound_carried r i place (event.Carry i place) (event.Carry i place) (take_out place (r.world.nodes i).outbox) refl s

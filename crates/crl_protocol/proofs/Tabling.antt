@@ -54,7 +54,8 @@ other_serial name q e h s = let w = and_from (name.home == q.home) (name.serial 
 abbrev found : {A : Type 0} → ℕ → A → (ℕ → A) → Name → A
 found me none f q = if q.home == me then f q.serial else none
 
-found_at : {A : Type 0} (me : ℕ) (none : A) (f g : ℕ → A) (name : Name) (v : A) → (name.home == me) ≡ true → g name.serial ≡ v → ((s : ℕ) → (name.serial ≡ s → ⊥) → g s ≡ f s)
+found_at : {A : Type 0} (me : ℕ) (none : A) (f g : ℕ → A) (name : Name) (v : A) → (name.home == me) ≡ true → g name.serial ≡ v
+    → ((s : ℕ) → (name.serial ≡ s → ⊥) → g s ≡ f s)
     → (q : Name) → found me none g q ≡ at_name (found me none f) name v q
 found_at me none f g name v mine same other q = go (name_eq name q) (q.home == me) refl refl
   where
@@ -67,7 +68,8 @@ found_at me none f g name v mine same other q = go (name_eq name q) (q.home == m
 is_found : (n : Node) (name : Name) (h : Home) → home_of n name ≡ Some h → (is_mine n name ≡ true) × ((name.serial == 0) ≡ false)
 is_found n name h e = go (is_mine n name) (name.serial == 0) refl refl e
   where
-    go : (b c : Bool) → is_mine n name ≡ b → (name.serial == 0) ≡ c → (if b then if c then None else at (name.serial - 1) n.homes else None) ≡ Some h → (is_mine n name ≡ true) × ((name.serial == 0) ≡ false)
+    go : (b c : Bool) → is_mine n name ≡ b → (name.serial == 0) ≡ c → (if b then if c then None else at (name.serial - 1) n.homes else None) ≡ Some h
+        → (is_mine n name ≡ true) × ((name.serial == 0) ≡ false)
     go true true e1 e2 w = cc
     go true false e1 e2 w = (e1, e2)
     go false c e1 e2 w = cc
@@ -76,7 +78,8 @@ at_suc : {A : Type 0} (s : ℕ) (xs : List (Option A)) → at_serial (suc s) xs 
 at_suc s xs =
     let e : suc s - 1 ≡ s = omega arith in cond-false (suc s == 0) None (at (suc s - 1) xs) (ne_eqb (suc s) 0 (λ w. omega arith)) ∙ ap (λ m. at m xs) e
 
-serial_put : {A : Type 0} (name : Name) (v : Option A) (xs : List (Option A)) (s : ℕ) → (name.serial == 0) ≡ false → (name.serial ≡ s → ⊥) → at_serial s (put (name.serial - 1) v xs) ≡ at_serial s xs
+serial_put : {A : Type 0} (name : Name) (v : Option A) (xs : List (Option A)) (s : ℕ) → (name.serial == 0) ≡ false → (name.serial ≡ s → ⊥)
+    → at_serial s (put (name.serial - 1) v xs) ≡ at_serial s xs
 serial_put name v xs zero e h = refl
 serial_put name v xs (suc s) e h =
     at_suc s _ ∙ at_put_other s (name.serial - 1) v xs (λ w. h (let k = eqb-false name.serial 0 e in omega arith)) ∙ sym (at_suc s xs)

@@ -52,8 +52,8 @@ at_collect i left Free h = cc
 at_collect i left (Waiting awaited) h = cc
 at_collect i left (Ready answer) h = at_head _ _
 
-at_statement : (i : ℕ) (s : Statement) (left left' : List Statement) (a : Activity) → left' ≡ s ∷ left → a ≡ Free → At (choice.Statement i) (next_of i left' a)
-at_statement i s left left' a e free = rw (e, free) (at_head (choice.Statement i) [])
+at_statement : (i : ℕ) (s : Statement) (left all : List Statement) (a : Activity) → all ≡ s ∷ left → a ≡ Free → At (choice.Statement i) (next_of i all a)
+at_statement i s left all a e free = rw (e, free) (at_head (choice.Statement i) [])
 
 -- Some word leads to it.
 abbrev Reaches : Running → Running → Type 0
