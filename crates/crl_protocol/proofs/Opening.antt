@@ -26,26 +26,26 @@ unmapped : (m : Option Mapping) (h : Home) → MappedHere m None → MappedHere 
 unmapped None h w = tt
 unmapped (Some m) h w = absurd w
 
-own_made : (b : Bool) (v : Seen) (size : ℕ) → b ≡ true → v.home ≡ None → OwnFits b v → OwnFits b (record v { home = Some (new_home size); stage = stage.Live })
-own_made true v size e none own = record {
+own_made : (b : Bool) (v : Seen) (nodes size : ℕ) → b ≡ true → v.home ≡ None → OwnFits b v → OwnFits b (record v { home = Some (new_home nodes size); stage = stage.Live })
+own_made true v nodes size e none own = record {
   live = tt;
   bytes = length-replicate size 0;
-  mapped = unmapped v.mapping (new_home size) (subst (λ x. MappedHere v.mapping x) none own.mapped);
+  mapped = unmapped v.mapping (new_home nodes size) (subst (λ x. MappedHere v.mapping x) none own.mapped);
   nothing = own.nothing;
 }
-own_made false v size e none own = cc
+own_made false v nodes size e none own = cc
 
 abbrev pub made : ℕ → Node → Node
-made size n = record n { homes = n.homes ++ Some (new_home size) ∷ []; leases = at_node n.leases (used n + 1) new_lease }
+made size n = record n { homes = n.homes ++ Some (new_home n.nodes size) ∷ []; leases = at_node n.leases (used n + 1) new_lease }
 
 pub fits_made : (i size : ℕ) (n : Node) (d : Name → List ℕ) → Fits i n d → Fits i (made size n) d
 fits_made i size n d f = record {
   me = f.me;
-  each = λ q. subst (λ x. Holds n.me q n.activity (record (seen (made size n) d q) { home = x })) (sym (home_end n (made size n) (new_home size) refl refl q))
-      (subst (λ (x : Lease). Holds n.me q n.activity (record (seen (made size n) d q) { home = at_name (home_of n) (next_name n) (Some (new_home size)) q; stage = x.stage }))
+  each = λ q. subst (λ x. Holds n.me q n.activity (record (seen (made size n) d q) { home = x })) (sym (home_end n (made size n) (new_home n.nodes size) refl refl q))
+      (subst (λ (x : Lease). Holds n.me q n.activity (record (seen (made size n) d q) { home = at_name (home_of n) (next_name n) (Some (new_home n.nodes size)) q; stage = x.stage }))
       (sym (lease_put n (next_name n) new_lease (eq-eqb n.me n.me refl) q))
       (by_name (next_name n) (λ b p. Holds n.me p n.activity
-      (record (seen n d p) { home = if b then Some (new_home size) else home_of n p; stage = (if b then new_lease else lease_of n p).stage })) (at_it (f.each (next_name n)))
+      (record (seen n d p) { home = if b then Some (new_home n.nodes size) else home_of n p; stage = (if b then new_lease else lease_of n p).stage })) (at_it (f.each (next_name n)))
       (λ p w. f.each p) q));
   cache = f.cache;
   fresh = f.fresh;
@@ -54,11 +54,11 @@ fits_made i size n d f = record {
 }
   where
     at_it : Holds n.me (next_name n) n.activity (seen n d (next_name n))
-        → Holds n.me (next_name n) n.activity (record (seen n d (next_name n)) { home = Some (new_home size); stage = stage.Live })
+        → Holds n.me (next_name n) n.activity (record (seen n d (next_name n)) { home = Some (new_home n.nodes size); stage = stage.Live })
     at_it x = record {
       sections = x.sections;
       draft = x.draft;
-      own = own_made (is_mine n (next_name n)) (seen n d (next_name n)) size (eq-eqb n.me n.me refl) (home_next n) x.own;
+      own = own_made (is_mine n (next_name n)) (seen n d (next_name n)) n.nodes size (eq-eqb n.me n.me refl) (home_next n) x.own;
       queue = (tt, inl tt);
       asking = x.asking;
       going = tt;
