@@ -1,5 +1,6 @@
 mod Allowing
 mod Answering
+mod Bounding
 mod Calling
 mod Computed
 mod Deciding

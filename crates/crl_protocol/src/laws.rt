@@ -1,11 +1,11 @@
 //! Laws of the definitions.
-ghost use Rattle.std.specs.Prelude.{◌≡◌, ℕ, List, [], ◌∷◌, ◌++◌, Bool, true, false, None};
+ghost use Rattle.std.specs.Prelude.{◌≡◌, ◌≤◌, ◌^◌, ℕ, List, [], ◌∷◌, ◌++◌, Bool, true, false, None};
 ghost use Rattle.std.specs.List.{All};
 ghost use Rattle.crl_model.specs.declared.event.Event.{Event};
 ghost use Rattle.crl_model.specs.declared.event.Event.TheVariants as event;
 ghost use Rattle.crl_model.specs.declared.statement.Statement.{Statement};
 ghost use Rattle.crl_protocol.specs.Places.{take_out};
-ghost use Rattle.crl_protocol.specs.World.{World, step, is_enabled, IsRun, IsRunFrom, new_world, world_of, account};
+ghost use Rattle.crl_protocol.specs.World.{World, step, is_enabled, IsRun, world_of, account};
 ghost use Rattle.crl_protocol.specs.Chosen.{Running, running, turns_from};
 ghost use Rattle.crl_protocol.specs.Laws.{touches, IsDecided, Follows, AreStatements};
 
@@ -29,11 +29,12 @@ pub fn entries_are_decided()
     ensures decided { (e : Event) (w : World) → All (IsDecided e w) (step e w).entries }
 {}
 
-/// What a script and an order choose is a run, with its world and its account.
+/// What a script and an order choose is a run, with its world and its account. It has at most an event for
+/// each turn.
 pub fn choices_make_runs()
     ensures world { (count capacity : ℕ) (blocks : List (List Statement)) (words : ℕ → ℕ) (k : ℕ) → (turns_from words 1 k (running count capacity blocks)).world ≡ world_of count capacity (turns_from words 1 k (running count capacity blocks)).events }
     ensures account { (count capacity : ℕ) (blocks : List (List Statement)) (words : ℕ → ℕ) (k : ℕ) → (turns_from words 1 k (running count capacity blocks)).entries ≡ account count capacity (turns_from words 1 k (running count capacity blocks)).events }
-    ensures run { (count capacity : ℕ) (blocks : List (List Statement)) (words : ℕ → ℕ) (k : ℕ) → AreStatements blocks → IsRunFrom (new_world count capacity) (turns_from words 1 k (running count capacity blocks)).events }
+    ensures run { (count capacity : ℕ) (blocks : List (List Statement)) (words : ℕ → ℕ) (k : ℕ) → AreStatements blocks → k ≤ 2 ^ 62 → IsRun count capacity (turns_from words 1 k (running count capacity blocks)).events }
 {}
 
 /// The runs that follow a script are those that its choices give.
