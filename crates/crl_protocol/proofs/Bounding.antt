@@ -1,5 +1,5 @@
 -- A run has at most an event for each turn.
-use Rattle.std.proofs.Common.{◌≡◌, ℕ, zero, suc, ◌+◌, ◌≤◌, Bool, true, false, if◌then◌else◌, List, [], ◌∷◌, ◌++◌, length, arith, length-append, slice_index_or, ◌%◌}
+use Rattle.std.proofs.Common.{ℕ, zero, suc, ◌+◌, ◌≤◌, Bool, true, false, if◌then◌else◌, List, [], ◌∷◌, length, arith, length-append, slice_index_or, ◌%◌}
 use Rattle.crl_model.specs.declared.call.Call.{Call}
 use Rattle.crl_model.specs.declared.choice.Choice.{Choice}
 use Rattle.crl_model.specs.declared.choice.Choice.TheVariants as choice

@@ -1,4 +1,4 @@
-use Rattle.std.proofs.Common.{ℕ, ◌≤◌, length, arith}
+use Rattle.std.proofs.Common.{◌+◌, ◌≤◌, length, arith}
 use Rattle.crl_protocol.specs.Chosen.{running, turns_from}
 use Rattle.crl_protocol.proofs.Bounding.{turns_bounded}
 use Rattle.crl_protocol.proofs.Following.{follow_turns, follow_world, follow_account}
