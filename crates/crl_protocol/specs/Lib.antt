@@ -5,6 +5,7 @@ pub mod Ends
 pub mod Gathering
 pub mod Handlers
 pub mod Home
+pub mod Laws
 pub mod Leases
 pub mod Mail
 pub mod Node

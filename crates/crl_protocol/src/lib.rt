@@ -3,4 +3,5 @@
 //! contracts are laws of the definitions.
 #![tactic(auto)]
 
+pub mod laws;
 pub mod worked;

@@ -1,0 +1,132 @@
+-- What the definitions have to mean: which nodes an event touches, where entries are decided, and which runs
+-- a script has.
+use Rattle.std.specs.Prelude.{◌≡◌, ℕ, ◌<◌, ◌==◌, Bool, true, false, ◌&&◌, ◌||◌, List, [], ◌∷◌}
+use Rattle.std.specs.List.{All}
+use Rattle.std.specs.declared.option.Option.{Option}
+use Rattle.std.specs.declared.option.Option.TheVariants.{None, Some}
+use Rattle.crl_model.specs.declared.name.Name.{Name}
+use Rattle.crl_model.specs.declared.call.Call.{Call}
+use Rattle.crl_model.specs.declared.call.Call.TheVariants as call
+use Rattle.crl_model.specs.declared.entry.Entry.{Entry}
+use Rattle.crl_model.specs.declared.entry.What.{What}
+use Rattle.crl_model.specs.declared.entry.What.TheVariants as what
+use Rattle.crl_model.specs.declared.event.Event.{Event}
+use Rattle.crl_model.specs.declared.event.Event.TheVariants as event
+use Rattle.crl_model.specs.declared.message.Message.{Message}
+use Rattle.crl_model.specs.declared.message.Kind.{Kind}
+use Rattle.crl_model.specs.declared.message.Kind.TheVariants as kind
+use Rattle.crl_model.specs.declared.statement.Statement.{Statement}
+use Rattle.crl_model.specs.declared.statement.Statement.TheVariants as statement
+use Rattle.crl_protocol.specs.Places.{Taken, take_out}
+use Rattle.crl_protocol.specs.Node.{Free}
+use Rattle.crl_protocol.specs.Verdict.{verdict, word_of}
+use Rattle.crl_protocol.specs.World.{World, is_enabled}
+use Rattle.crl_protocol.specs.Chosen.{Running, goes_on, with_actor, changed, is_change, is_allowed, call_of}
+
+-- An event touches its node; a carriage touches the sender and the addressee.
+abbrev pub goes_to : ℕ → Option (Taken Message) → Bool
+goes_to m None = false
+goes_to m (Some t) = t.taken.addressee == m
+
+abbrev pub touches : Event → World → ℕ → Bool
+touches (event.Call i c) w m = i == m
+touches (event.Collect i) w m = i == m
+touches (event.Handle i place) w m = i == m
+touches (event.Carry i place) w m = (i == m) || goes_to m (take_out place (w.nodes i).outbox)
+
+-- The entries that are decided where a node makes a call: those of this call.
+abbrev pub IsOfCall : Call → What → Type 0
+IsOfCall (call.Create size) (what.Create name n) = n ≡ size
+IsOfCall (call.Delete q) (what.Deleting name) = name ≡ q
+IsOfCall (call.Delete q) (what.Deleted name) = name ≡ q
+IsOfCall (call.Map q) (what.Map name size) = name ≡ q
+IsOfCall (call.Unmap q) (what.Unmap name) = name ≡ q
+IsOfCall (call.StartRead q) (what.StartRead name) = name ≡ q
+IsOfCall (call.EndRead q) (what.Read name seen) = name ≡ q
+IsOfCall (call.StartWrite q) (what.StartWrite name) = name ≡ q
+IsOfCall (call.EndWrite q bytes) (what.Write name before after) = (name ≡ q) × (after ≡ bytes)
+IsOfCall (call.Flush q) (what.Flush name) = name ≡ q
+IsOfCall (call.Come p) (what.Come part) = part ≡ p
+IsOfCall (call.Come p) (what.Came round fold) = Unit {0}
+IsOfCall c (what.Refused kind place why) = kind ≡ word_of c
+IsOfCall _ _ = ⊥
+
+-- a section of the region that opens, and the result of a round
+abbrev pub IsStart : Name → What → Type 0
+IsStart q (what.StartRead name) = name ≡ q
+IsStart q (what.StartWrite name) = name ≡ q
+IsStart q _ = ⊥
+
+abbrev pub IsResult : What → Type 0
+IsResult (what.Came round fold) = Unit {0}
+IsResult (what.Refused kind place why) = Unit {0}
+IsResult _ = ⊥
+
+-- The entries that are decided where a node handles a message: a map and a delete at the home, for the node
+-- that asked; a section where its copy comes, or at the home with the message that let it open; the end of a
+-- delete with the last answer; the result of a round where the node learns it.
+abbrev pub IsOfMessage : ℕ → ℕ → Kind → Entry → Type 0
+IsOfMessage me from (kind.InfoAsk q) e = (e.node ≡ from) × IsOfCall (call.Map q) e.what
+IsOfMessage me from (kind.Ask q write have) e = (e.node ≡ me) × IsStart q e.what
+IsOfMessage me from (kind.Grant q version granted) e = (e.node ≡ me) × IsStart q e.what
+IsOfMessage me from (kind.Return q version bytes) e = (e.node ≡ me) × IsStart q e.what
+IsOfMessage me from (kind.Release q version bytes) e = (e.node ≡ me) × IsStart q e.what
+IsOfMessage me from (kind.DeleteAsk q) e = (e.node ≡ from) × IsOfCall (call.Delete q) e.what
+IsOfMessage me from (kind.Purged q) e = e.what ≡ what.Deleted q
+IsOfMessage me from (kind.Come round part) e = (e.node ≡ me) × IsResult e.what
+IsOfMessage me from (kind.Result round fold) e = (e.node ≡ me) × IsResult e.what
+IsOfMessage me from _ e = ⊥
+
+abbrev pub IsOfTaken : ℕ → Option (Taken Message) → Entry → Type 0
+IsOfTaken me None e = ⊥
+IsOfTaken me (Some t) e = IsOfMessage me t.taken.sender t.taken.kind e
+
+abbrev pub IsDecided : Event → World → Entry → Type 0
+IsDecided (event.Call i c) w e = (e.node ≡ (w.nodes i).me) × IsOfCall c e.what
+IsDecided (event.Collect i) w e = ⊥
+IsDecided (event.Handle i place) w e = IsOfTaken (w.nodes i).me (take_out place (w.nodes i).inbox) e
+IsDecided (event.Carry i place) w e = ⊥
+
+-- A run follows a script: each node's calls are its statements in order, the changes inside write sections
+-- left out, and the answers and messages come in any order in which they may.
+abbrev pub IsNext : Running → ℕ → Statement → List Statement → Type 0
+IsNext r i s left = ((r.actors i).left ≡ s ∷ left) × ((r.world.nodes i).activity ≡ Free)
+
+abbrev pub passed : Running → ℕ → List Statement → Running
+passed r i left = with_actor i (record (r.actors i) { left = left }) r
+
+abbrev pub next_call : Running → ℕ → Statement → Call
+next_call r i s = call_of (r.world.nodes i) (r.actors i) s
+
+-- the statement is a change that is allowed
+abbrev pub is_inside : Running → ℕ → Statement → Bool
+is_inside r i s = is_change s && is_allowed (verdict (r.world.nodes i) (next_call r i s))
+
+abbrev pub node_of : Event → ℕ
+node_of (event.Call i c) = i
+node_of (event.Collect i) = i
+node_of (event.Handle i place) = i
+node_of (event.Carry i place) = i
+
+abbrev pub is_call_event : Event → Bool
+is_call_event (event.Call i c) = true
+is_call_event _ = false
+
+pub data Follows : Running → List Event → Running → Type 0 where
+  ended : {r : Running} → Follows r [] r
+  changes : {r end : Running} {es : List Event} (i : ℕ) (s : Statement) (left : List Statement) → (i < r.world.count) → IsNext r i s left
+      → is_inside r i s ≡ true → Follows (with_actor i (changed s (record (r.actors i) { left = left })) r) es end → Follows r es end
+  calls : {r end : Running} {es : List Event} (i : ℕ) (s : Statement) (left : List Statement) → (i < r.world.count) → IsNext r i s left
+      → is_inside r i s ≡ false → Follows (goes_on i (event.Call i (next_call r i s)) (passed r i left)) es end
+      → Follows r (event.Call i (next_call r i s) ∷ es) end
+  happens : {r end : Running} {es : List Event} (i : ℕ) (e : Event) → node_of e ≡ i → is_call_event e ≡ false → is_enabled e r.world ≡ true
+      → Follows (goes_on i e r) es end → Follows r (e ∷ es) end
+
+-- a statement as scripts have them: a change is no plain call
+abbrev pub IsStatement : Statement → Type 0
+IsStatement (statement.Call (call.Put name offset len)) = ⊥
+IsStatement (statement.Call (call.Add name offset)) = ⊥
+IsStatement _ = Unit {0}
+
+abbrev pub AreStatements : List (List Statement) → Type 0
+AreStatements blocks = All (λ block. All IsStatement block) blocks
