@@ -70,6 +70,7 @@ ask_loose me g a rest other took k =
       own = k.loose.own;
       own_ask = subst (λ l. OwnAsk g.home.mine l) (sym (last_other me a g.home.queue other)) k.loose.own_ask;
       alone = k.loose.alone;
+      distinct = k.loose.distinct;
       mine = k.loose.mine;
       bytes = k.loose.bytes;
       recalled = λ n l e r. head_blocks_more n l g.home.queue a (k.loose.recalled n l e r);
@@ -127,6 +128,7 @@ return_loose me g n version bytes rest other took k =
       own = at-put_other me n None g.home.listed (λ e. other (sym e)) ∙ k.loose.own;
       own_ask = k.loose.own_ask;
       alone = λ m j l p e x f. k.loose.alone m j l p (left_listed m n g.home.listed l e).1 x (left_listed j n g.home.listed p f).1;
+      distinct = λ m j l p e f v. k.loose.distinct m j l p (left_listed m n g.home.listed l e).1 (left_listed j n g.home.listed p f).1 v;
       mine = λ m l e. k.loose.mine m l (left_listed m n g.home.listed l e).1;
       bytes = λ none. let u = return_at me g n version bytes rest k other took in after u.0 u.1 u.3 none;
       recalled = λ m l e r. k.loose.recalled m l (left_listed m n g.home.listed l e).1 r;
@@ -213,6 +215,7 @@ module _ (me : ℕ) (g : Region) (n version : ℕ) (bytes : List ℕ) (rest : Li
           own = k.loose.own;
           own_ask = k.loose.own_ask;
           alone = k.loose.alone;
+          distinct = k.loose.distinct;
           mine = k.loose.mine;
           bytes = k.loose.bytes;
           recalled = k.loose.recalled;
@@ -234,6 +237,17 @@ module _ (me : ℕ) (g : Region) (n version : ℕ) (bytes : List ℕ) (rest : Li
           | inl u ↦ (let v : lowered version ≡ l = (let w = u.1 in cc) in inl (u.0, sym (ap (λ x. x.exclusive) v), sym (ap (λ x. x.mark) v)))
           | inr u ↦ inr u
         ]
+
+        -- the node's copy keeps its version
+        version_then : (m : ℕ) (l : Listing) → at m table ≡ Some l → (old : Listing) × (at m g.home.listed ≡ Some old) × (old.version ≡ l.version)
+        unfolding table
+        version_then m l e = elim (put_listed m n g.home.listed (Some (lowered version)) l e) [
+          | inl u ↦ (let v : lowered version ≡ l = (let w = u.1 in cc) in (before.0, subst (λ x. at x g.home.listed ≡ Some before.0) (sym u.0) before.1, sym before.3 ∙ ap (λ x. x.version) v))
+          | inr u ↦ (l, u.1, refl)
+        ]
+
+        distinct_then : (m j : ℕ) (l p : Listing) → at m table ≡ Some l → at j table ≡ Some p → l.version ≡ p.version → m ≡ j
+        distinct_then m j l p e f v = let a = version_then m l e in let b = version_then j p f in k.loose.distinct m j a.0 b.0 a.1 b.1 (a.2 ∙ v ∙ sym b.2)
 
         alone_then : (m j : ℕ) (l p : Listing) → at m table ≡ Some l → l.exclusive ≡ true → at j table ≡ Some p → m ≡ j
         alone_then m j l p e x f = elim (listed_then m l e) [
@@ -269,6 +283,7 @@ module _ (me : ℕ) (g : Region) (n version : ℕ) (bytes : List ℕ) (rest : Li
               own = at-put_other me n (Some (lowered version)) g.home.listed (λ e. other (sym e)) ∙ k.loose.own;
               own_ask = k.loose.own_ask;
               alone = alone_then;
+              distinct = distinct_then;
               mine = mine_then;
               bytes = λ none.
                   release_bytes g.home.last g.array (pair_of g.home.listed g.home.queue g.remotes g.flight n) before.0 (record { version = version; bytes = bytes }) (picks (of_node n released_in) rest)

@@ -120,6 +120,7 @@ node_step me n g r ms after k alike e new = record {
     own = k.loose.own;
     own_ask = k.loose.own_ask;
     alone = k.loose.alone;
+    distinct = k.loose.distinct;
     mine = k.loose.mine;
     bytes = k.loose.bytes;
     recalled = k.loose.recalled;
@@ -214,6 +215,7 @@ module _ (me : ℕ) (g : Region) (n : ℕ) (bytes : List ℕ) (other : n ≢ me)
         own = k.loose.own;
         own_ask = k.loose.own_ask;
         alone = k.loose.alone;
+        distinct = k.loose.distinct;
         mine = k.loose.mine;
         bytes = λ none. let u = none n writer.0 writer.1 in let x = writer.2 in cc;
         recalled = k.loose.recalled;

@@ -30,6 +30,10 @@ same_kind : (b : Bool) (m : Mark) (l : Listing) → (marked_if b m l).exclusive 
 same_kind true m l = refl
 same_kind false m l = refl
 
+same_version : (b : Bool) (m : Mark) (l : Listing) → (marked_if b m l).version ≡ l.version
+same_version true m l = refl
+same_version false m l = refl
+
 same_blocks : (b : Bool) (m : Mark) (n : ℕ) (l : Listing) (a : Asked) → blocks n (marked_if b m l) a ≡ blocks n l a
 same_blocks true m n l a = refl
 same_blocks false m n l a = refl
@@ -76,6 +80,9 @@ module _ (me : ℕ) (array : List ℕ) (h : Home) (a : Asked) (q : List Asked) (
         go (Some old) f = let u : mark n (at n h.listed) a ≡ mark n (Some old) a = ap (λ o. mark n o a) f in
             let w : Some l ≡ Some (marked_if (is_called n old a) (mark_for a) old) = sym e ∙ at-marked n h.listed a ∙ u in (old, f, cc)
 
+    version_before : (n : ℕ) (old l : Listing) → l ≡ marked_if (is_called n old a) (mark_for a) old → old.version ≡ l.version
+    version_before n old l e = sym (ap (λ x. x.version) e ∙ same_version (is_called n old a) (mark_for a) old)
+
     blocks_head : (n : ℕ) (old : Listing) → at n h.listed ≡ Some old → (b : Bool) → is_called n old a ≡ b → (marked_if b (mark_for a) old).mark ≢ Plain → HeadBlocks n (marked_if b (mark_for a) old) (a ∷ q)
     blocks_head n old e true f r = let c = called_parts n old a f in (c.0, c.1, refl)
     blocks_head n old e false f r = k.recalled n old e r
@@ -92,6 +99,7 @@ module _ (me : ℕ) (array : List ℕ) (h : Home) (a : Asked) (q : List Asked) (
           own_ask = k.own_ask;
           alone = λ n m l j e x f. let u = listed_before n l e in let v = listed_before m j f in
               k.alone n m u.0 v.0 u.1 (sym (same_kind (is_called n u.0 a) (mark_for a) u.0) ∙ sym (ap (λ y. y.exclusive) u.2) ∙ x) v.1;
+          distinct = λ n m l j e f v. let u = listed_before n l e in let w = listed_before m j f in k.distinct n m u.0 w.0 u.1 w.1 (version_before n u.0 l u.2 ∙ v ∙ sym (version_before m w.0 j w.2));
           mine = λ n l e. let u = listed_before n l e in rw (ap (λ y. y.exclusive) u.2 ∙ same_kind (is_called n u.0 a) (mark_for a) u.0) (k.mine n u.0 u.1);
           bytes = λ b. k.bytes (λ n l e. sym (same_kind (is_called n l a) (mark_for a) l) ∙ b n (marked_if (is_called n l a) (mark_for a) l) (at-marked n h.listed a ∙ ap (λ o. mark n o a) e));
           recalled = λ n l e r. let u = listed_before n l e in
@@ -108,7 +116,7 @@ module _ (me : ℕ) (array : List ℕ) (h : Home) (a : Asked) (q : List Asked) (
 
 -- the queue that the table itself has doesn't matter
 requeue : (me : ℕ) (array : List ℕ) (h : Home) (q p : List Asked) (remotes : ℕ → Remote) (flight : List Flying) → IsLoose me array h q remotes flight → IsLoose me array (record h { queue = p }) q remotes flight
-requeue me array h q p remotes flight k = record { pairs = k.pairs; own = k.own; own_ask = k.own_ask; alone = k.alone; mine = k.mine; bytes = k.bytes; recalled = k.recalled; size = k.size }
+requeue me array h q p remotes flight k = record { pairs = k.pairs; own = k.own; own_ask = k.own_ask; alone = k.alone; distinct = k.distinct; mine = k.mine; bytes = k.bytes; recalled = k.recalled; size = k.size }
 
 abbrev pub IsServed : ℕ → List ℕ → (ℕ → Remote) → List Flying → Served → Type 0
 IsServed me array remotes flight s = IsLoose me array s.home s.home.queue remotes (flight ++ sent s.posts) × HeadWaits s.home s.home.queue

@@ -1,5 +1,5 @@
 -- Serve keeps what holds of a region, and leaves a head that waits.
-use Rattle.std.proofs.Common.{ℕ, ◌+◌, List, [], ◌∷◌, ◌++◌, true, false, ◌≡◌, ◌≢◌, ◌⊎◌, refl, arith, inl, inr, sym, ap, subst, ◌∙◌}
+use Rattle.std.proofs.Common.{ℕ, ◌+◌, ◌≤◌, List, [], ◌∷◌, ◌++◌, true, false, ◌≡◌, ◌≢◌, ◌⊎◌, refl, arith, inl, inr, sym, ap, subst, ◌∙◌}
 use Rattle.std.specs.declared.option.Option.{Option}
 use Rattle.std.specs.declared.option.Option.TheVariants.{None, Some}
 use Rattle.crl_model.specs.declared.directory.Section.{Section}
@@ -17,6 +17,7 @@ use Rattle.crl_coherence.specs.Coherent.{IsLoose, OwnAsk}
 use Rattle.crl_coherence.proofs.Lists.{at-put_same, at-put_other, same_or, picked_none, picked_some, more_none, more_some}
 use Rattle.crl_coherence.proofs.Mails.{mail_of, mails, mail_here, mail_other, pair_at, kept_to, kept_from, kept_at, lengthened-at}
 use Rattle.crl_coherence.proofs.Calls.{clear_at}
+use Rattle.crl_coherence.proofs.Facts.{listed_version}
 use Rattle.crl_coherence.proofs.Pairs.{raised_kept, new_listing, served, OwnFits, served_kept, mark, called, called_pair, called_kept}
 
 -- the ask at the head is served: the asker's pair
@@ -130,6 +131,28 @@ module _ (me : ℕ) (array : List ℕ) (h : Home) (a : Asked) (q : List Asked) (
       | inr ne ↦ inr (ne, let w = at-put_other n a.node (Some (new_listing h.last a)) h.listed ne in cc)
     ]
 
+    -- the version that is granted is above all that are listed
+    at_most : (n : ℕ) (l : Listing) → at n h.listed ≡ Some l → l.version ≤ h.last
+    at_most n l e = elim (same_or n me) [
+      | inl f ↦ (let o = k.own in let g : at me h.listed ≡ Some l = subst (λ m. at m h.listed ≡ Some l) f e in cc)
+      | inr ne ↦ (listed_version h.last array (pair_of h.listed (a ∷ q) remotes flight n) l e (k.pairs n ne)).1
+    ]
+
+    distinct_after : (n m : ℕ) (l j : Listing) → at n (grant_next h a).listed ≡ Some l → at m (grant_next h a).listed ≡ Some j → l.version ≡ j.version → n ≡ m
+    distinct_after n m l j e f v = elim (listed_after n l e) [
+      | inl u ↦ elim (listed_after m j f) [
+        | inl w ↦ u.0 ∙ sym w.0
+        | inr w ↦ absurd (above j m w.1 (sym v ∙ ap (λ x. x.version) u.1))
+      ]
+      | inr u ↦ elim (listed_after m j f) [
+        | inl w ↦ absurd (above l n u.1 (v ∙ ap (λ x. x.version) w.1))
+        | inr w ↦ k.distinct n m l j u.1 w.1 v
+      ]
+    ]
+      where
+        above : (l : Listing) (n : ℕ) → at n h.listed ≡ Some l → l.version ≡ h.last + 1 → ⊥
+        above l n e v = let b = at_most n l e in omega arith
+
     pub grant_loose : a.node ≢ me → IsLoose me array (grant_next h a) q remotes (flight ++ sent (grant_for h a ∷ []))
     unfolding after
     grant_loose not_me =
@@ -141,6 +164,7 @@ module _ (me : ℕ) (array : List ℕ) (h : Home) (a : Asked) (q : List Asked) (
           own = at-put_other me a.node (Some (new_listing h.last a)) h.listed (λ e. not_me (sym e)) ∙ k.own;
           own_ask = subst (λ l. OwnAsk h.mine l) (first_other me a q not_me) k.own_ask;
           alone = λ n m l j e x f. let u = listed_after n l e in let v = listed_after m j f in let w = alone_writer m j in let y = shared n l in grind arith;
+          distinct = distinct_after;
           mine = λ n l e. let u = listed_after n l e in let y = shared n l in let z = k.mine n l in grind arith;
           bytes = λ e. whole;
           recalled = λ n l e r. let u = listed_after n l e in let y = unmarked n l in absurd (grind arith);
@@ -156,6 +180,7 @@ module _ (me : ℕ) (array : List ℕ) (h : Home) (a : Asked) (q : List Asked) (
           own = k.own;
           own_ask = own_next h.mine (open_own h a).mine a (picks (queued_of me) q) (subst (λ l. OwnAsk h.mine l) (first_here me a q at_me) k.own_ask);
           alone = k.alone;
+          distinct = k.distinct;
           mine = λ n l e. let u = shared n l e in let v = alone_writer n l e in let o = k.own in grind arith;
           bytes = k.bytes;
           recalled = λ n l e r. absurd (r (unmarked n l e));

@@ -34,6 +34,8 @@ pub record IsLoose (me : ℕ) (array : List ℕ) (h : Home) (queue : List Asked)
   pub own : at me h.listed ≡ None
   pub own_ask : OwnAsk h.mine (picks (queued_of me) queue)
   pub alone : (n m : ℕ) (l k : Listing) → at n h.listed ≡ Some l → l.exclusive ≡ true → at m h.listed ≡ Some k → n ≡ m
+  -- no two nodes have copies of the same version
+  pub distinct : (n m : ℕ) (l k : Listing) → at n h.listed ≡ Some l → at m h.listed ≡ Some k → l.version ≡ k.version → n ≡ m
   pub mine : (n : ℕ) (l : Listing) → at n h.listed ≡ Some l → MineFits h.mine l.exclusive
   pub bytes : ((n : ℕ) (l : Listing) → at n h.listed ≡ Some l → l.exclusive ≡ false) → h.bytes ≡ array
   pub recalled : (n : ℕ) (l : Listing) → at n h.listed ≡ Some l → l.mark ≢ Plain → HeadBlocks n l queue
