@@ -22,9 +22,13 @@ returns_one last array p h y z ws e = let o = h.places in grind arith
 pub pending_one : (last : ℕ) (array : List ℕ) (p : Pair) → IsKept last array p → NoTwo p.pending
 pending_one last array p h y z ws e = let k = h.ask in grind arith
 
+-- the marks of what is listed
+pub marks_of : (last : ℕ) (array : List ℕ) (p : Pair) (l : Listing) → p.listed ≡ Some l → IsKept last array p → MarkFits last array l p.recalls p.yields p.returns p.releases p.remote
+marks_of last array p l e h = subst (λ o. RecallFits last array o p.recalls p.yields p.returns p.releases p.remote) e h.recall
+
 -- a listed version is between 1 and the last that was granted
 pub listed_version : (last : ℕ) (array : List ℕ) (p : Pair) (l : Listing) → p.listed ≡ Some l → IsKept last array p → (1 ≤ l.version) × (l.version ≤ last)
-listed_version last array p l e h = let m : MarkFits last array l p.recalls p.yields p.returns p.releases p.remote = subst (λ o. RecallFits last array o p.recalls p.yields p.returns p.releases p.remote) e h.recall in (m.least, m.most)
+listed_version last array p l e h = let m = marks_of last array p l e h in (m.least, m.most)
 
 -- a node with an open section has a listed copy
 pub reader_listed : (last : ℕ) (array : List ℕ) (p : Pair) → p.remote.here ≢ Closed → IsKept last array p → (l : Listing) × (p.listed ≡ Some l)

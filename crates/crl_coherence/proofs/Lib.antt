@@ -10,6 +10,7 @@ mod Opens
 mod OwnEvents
 mod Pairs
 mod PairsCarried
+mod Regions
 mod Remote
 mod RemoteCalls
 mod RemoteEvents
@@ -18,4 +19,5 @@ mod RemoteSections
 mod RemoteYields
 mod Rounds
 mod Serve
+mod Stands
 mod Waits

@@ -200,7 +200,7 @@ GivenFits (Some c) given = given ≡ true → c.exclusive ≡ false
 abbrev pub HaveFits : Asked → Option Listing → Option Copy → List Back → Type 0
 HaveFits a l (Some c) back = (a.write ≡ true) × (c.version ≡ a.have) × (c.exclusive ≡ false)
 HaveFits a None None back = Unit {0}
-HaveFits a (Some l) None back = a.write ≡ true → 1 ≤ a.have → (l.version ≡ a.have) × (l.mark ≡ Recalled) × (back ≢ [])
+HaveFits a (Some l) None back = 1 ≤ a.have → (l.version ≡ a.have) × (l.mark ≡ Recalled) × (back ≢ [])
 
 -- a call that is due is of a later version than the copy
 abbrev pub DueFits : Option Copy → Option Due → Type 0
