@@ -7,6 +7,7 @@ mod Keeps
 mod Lists
 mod Mails
 mod Opens
+mod Owned
 mod OwnEvents
 mod Pairs
 mod PairsCarried

@@ -1,5 +1,5 @@
 -- What is said of a region sentence by sentence follows from what holds of it.
-use Rattle.std.proofs.Common.{ℕ, List, [], ◌∷◌, ◌++◌, true, false, ◌≡◌, ◌≢◌, refl, arith, inl, sym, ap, subst, ◌∙◌}
+use Rattle.std.proofs.Common.{ℕ, List, [], ◌∷◌, ◌++◌, true, false, ◌≡◌, ◌≢◌, refl, arith, inl, sym, ap, subst, ◌∙◌, inr}
 use Rattle.std.specs.declared.option.Option.{Option}
 use Rattle.std.specs.declared.option.Option.TheVariants.{None, Some}
 use Rattle.crl_model.specs.declared.directory.Section.{Section}
@@ -13,12 +13,12 @@ use Rattle.crl_protocol.specs.Home.{blocks, is_servable, mark_for}
 use Rattle.crl_protocol.specs.Remote.{Copy}
 use Rattle.crl_protocol.specs.Handlers.{is_queued}
 use Rattle.crl_coherence.specs.Region.{Region}
-use Rattle.crl_coherence.specs.Kept.{Given, IsKept, of_node, asked_in, queued_of}
+use Rattle.crl_coherence.specs.Kept.{Given, IsKept, of_node, asked_in, queued_of, Freed, HasVersion}
 use Rattle.crl_coherence.specs.Coherent.{IsCoherent, HeadWaits, HeadBlocks, MineFits, OwnAsk}
-use Rattle.crl_coherence.specs.Directory.{between, Among, ComesBack, IsForHead}
+use Rattle.crl_coherence.specs.Directory.{between, Among, ComesBack, IsForHead, ReleasedStands}
 use Rattle.crl_coherence.proofs.Fits.{queued_none}
 use Rattle.crl_coherence.proofs.Lists.{picked_some}
-use Rattle.crl_coherence.proofs.Stands.{older_copy, own_returns}
+use Rattle.crl_coherence.proofs.Stands.{older_copy, own_returns, released_stands, released_bytes}
 
 -- the home's own ask, where it waits, is the only one, and the home has no section open
 own_stands : (me : ℕ) (s : Section) (q : List Asked) → is_queued me q ≡ true → OwnAsk s (picks (queued_of me) q) → (s ≡ Closed) × ((ask : Asked) × (picks (queued_of me) q ≡ ask ∷ []))
@@ -28,6 +28,11 @@ own_stands me s q e o = go (picks (queued_of me) q) refl o
     go [] f x = let w = queued_none me q f in cc
     go (a ∷ []) f x = (x, (a, f))
     go (a ∷ b ∷ xs) f x = elim x [ ]
+
+among_has : (v : ℕ) (f : Freed) (fs : List Freed) → Among f fs → f.version ≡ v → HasVersion v fs
+among_has v f [] i e = elim i [ ]
+among_has v f (x ∷ fs) (inl y) e = inl (sym e ∙ ap (λ z. z.version) y)
+among_has v f (x ∷ fs) (inr i) e = inr (among_has v f fs i e)
 
 module _ (me : ℕ) (g : Region) (k : IsCoherent me g)
   where
@@ -39,6 +44,23 @@ module _ (me : ℕ) (g : Region) (k : IsCoherent me g)
 
     pub kept_listed : (n : ℕ) (l : Listing) → at n g.home.listed ≡ Some l → IsKept g.home.last g.array (between g n)
     kept_listed n l e = kept n (other n l e)
+
+    -- a version is one node's
+    pub different : (n m : ℕ) (l j : Listing) → at n g.home.listed ≡ Some l → at m g.home.listed ≡ Some j → l.version ≡ j.version → n ≡ m
+    different n m l j e f v = k.loose.distinct l.version n m (other n l e) (other m j f) (inl (l, e, refl)) (inl (j, f, sym v))
+
+    sender : (n m : ℕ) (l : Listing) → m ≢ me → at n g.home.listed ≡ Some l → HasVersion l.version (between g m).releases → m ≡ n
+    sender n m l ne e i = k.loose.distinct l.version m n ne (other n l e) (inr i) (inl (l, e, refl))
+
+    pub released : (n m : ℕ) (l : Listing) → m ≢ me → at n g.home.listed ≡ Some l → HasVersion l.version (between g m).releases → (m ≡ n) × (l.exclusive ≡ true) × (l.mark ≡ Yielding) × ReleasedStands l.version g.array (between g n)
+    released n m l ne e i =
+        let s = sender n m l ne e i in
+        let u = released_stands g.home.last g.array (between g n) l e (subst (λ x. HasVersion l.version (between g x).releases) s i) (kept_listed n l e) in (s, u.0, u.1, u.2)
+
+    pub released_array : (n m : ℕ) (l : Listing) (freed : Freed) → m ≢ me → at n g.home.listed ≡ Some l → Among freed (between g m).releases → freed.version ≡ l.version → freed.bytes ≡ g.array
+    released_array n m l freed ne e i v =
+        let s = sender n m l ne e (among_has l.version freed (between g m).releases i v) in
+        released_bytes g.home.last g.array (between g n) l freed e (subst (λ x. Among freed (between g x).releases) s i) v (kept_listed n l e)
 
     pub own_ask : is_queued me g.home.queue ≡ true → (g.home.mine ≡ Closed) × ((ask : Asked) × (picks (queued_of me) g.home.queue ≡ ask ∷ []))
     own_ask e = own_stands me g.home.mine g.home.queue e k.loose.own_ask

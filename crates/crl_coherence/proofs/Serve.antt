@@ -1,5 +1,5 @@
 -- Serve keeps what holds of a region, and leaves a head that waits.
-use Rattle.std.proofs.Common.{ℕ, ◌+◌, ◌≤◌, List, [], ◌∷◌, ◌++◌, true, false, ◌≡◌, ◌≢◌, ◌⊎◌, refl, arith, inl, inr, sym, ap, subst, ◌∙◌}
+use Rattle.std.proofs.Common.{ℕ, ◌+◌, List, [], ◌∷◌, ◌++◌, true, false, ◌≡◌, ◌≢◌, ◌⊎◌, refl, arith, inl, inr, sym, ap, subst, ◌∙◌}
 use Rattle.std.specs.declared.option.Option.{Option}
 use Rattle.std.specs.declared.option.Option.TheVariants.{None, Some}
 use Rattle.crl_model.specs.declared.directory.Section.{Section}
@@ -12,13 +12,14 @@ use Rattle.crl_protocol.specs.Mail.{Mail, Grant}
 use Rattle.crl_protocol.specs.Home.{Home, blocks, is_servable, granted_to, open_own, grant_next, grant_for}
 use Rattle.crl_protocol.specs.Remote.{Remote}
 use Rattle.crl_coherence.specs.Region.{Flying, sent, flies}
-use Rattle.crl_coherence.specs.Kept.{Pair, IsKept, pair_of, asked_in, granted_in, recalled_in, yields_in, returned_in, released_in, queued_of}
+use Rattle.crl_coherence.specs.Kept.{Pair, IsKept, pair_of, asked_in, granted_in, recalled_in, yields_in, returned_in, released_in, queued_of, Owns}
 use Rattle.crl_coherence.specs.Coherent.{IsLoose, OwnAsk}
 use Rattle.crl_coherence.proofs.Lists.{at-put_same, at-put_other, same_or, picked_none, picked_some, more_none, more_some}
 use Rattle.crl_coherence.proofs.Mails.{mail_of, mails, mail_here, mail_other, pair_at, kept_to, kept_from, kept_at, lengthened-at}
 use Rattle.crl_coherence.proofs.Calls.{clear_at}
 use Rattle.crl_coherence.proofs.Facts.{listed_version}
-use Rattle.crl_coherence.proofs.Pairs.{raised_kept, new_listing, served, OwnFits, served_kept, mark, called, called_pair, called_kept}
+use Rattle.crl_coherence.proofs.Pairs.{raised_kept, new_listing, served, OwnFits, served_kept, mark, called, called_pair, called_kept, limit_last}
+use Rattle.crl_coherence.proofs.Owned.{has_granted}
 
 -- the ask at the head is served: the asker's pair
 served_at : (last n : ℕ) (array : List ℕ) (a : Asked) (o : Option Listing) (q : List Asked) (ms : List Mail) (r : Remote) → a.node ≡ n → OwnFits n o a → IsKept last array (pair_at n o (a ∷ q) ms r)
@@ -131,27 +132,23 @@ module _ (me : ℕ) (array : List ℕ) (h : Home) (a : Asked) (q : List Asked) (
       | inr ne ↦ inr (ne, let w = at-put_other n a.node (Some (new_listing h.last a)) h.listed ne in cc)
     ]
 
-    -- the version that is granted is above all that are listed
-    at_most : (n : ℕ) (l : Listing) → at n h.listed ≡ Some l → l.version ≤ h.last
-    at_most n l e = elim (same_or n me) [
-      | inl f ↦ (let o = k.own in let g : at me h.listed ≡ Some l = subst (λ m. at m h.listed ≡ Some l) f e in cc)
-      | inr ne ↦ (listed_version h.last array (pair_of h.listed (a ∷ q) remotes flight n) l e (k.pairs n ne)).1
-    ]
+    -- the version that is granted is above all that are some node's
+    below : (v n : ℕ) → n ≢ me → Owns v (pair_of h.listed (a ∷ q) remotes flight n) → v ≡ h.last + 1 → ⊥
+    below v n other (inl (l, e, f)) x = let u = (listed_version h.last array (pair_of h.listed (a ∷ q) remotes flight n) l e (k.pairs n other)).1 in omega arith
+    below v n other (inr i) x =
+        let u = (k.pairs n other).release_limit v i in
+        let w = limit_last h.last array (pair_of h.listed (a ∷ q) remotes flight n) (k.pairs n other) in omega arith
 
-    distinct_after : (n m : ℕ) (l j : Listing) → at n (grant_next h a).listed ≡ Some l → at m (grant_next h a).listed ≡ Some j → l.version ≡ j.version → n ≡ m
-    distinct_after n m l j e f v = elim (listed_after n l e) [
-      | inl u ↦ elim (listed_after m j f) [
-        | inl w ↦ u.0 ∙ sym w.0
-        | inr w ↦ absurd (above j m w.1 (sym v ∙ ap (λ x. x.version) u.1))
-      ]
-      | inr u ↦ elim (listed_after m j f) [
-        | inl w ↦ absurd (above l n u.1 (v ∙ ap (λ x. x.version) w.1))
-        | inr w ↦ k.distinct n m l j u.1 w.1 v
-      ]
+    owned_before : (v n : ℕ) → Owns v (pair_of (grant_next h a).listed q remotes after n) → ((n ≡ a.node) × (v ≡ h.last + 1)) ⊎ Owns v (pair_of h.listed (a ∷ q) remotes flight n)
+    unfolding after
+    owned_before v n (inl (l, e, f)) = elim (listed_after n l e) [ inl u ↦ inl (u.0, sym f ∙ ap (λ x. x.version) u.1) | inr u ↦ inr (inl (l, u.1, f)) ]
+    owned_before v n (inr i) = inr (inr (has_granted v n flight a.node (h.last + 1) (granted_to (at a.node h.listed) a h.bytes) i))
+
+    distinct_after : (v n m : ℕ) → n ≢ me → m ≢ me → Owns v (pair_of (grant_next h a).listed q remotes after n) → Owns v (pair_of (grant_next h a).listed q remotes after m) → n ≡ m
+    distinct_after v n m other more x y = elim (owned_before v n x) [
+      | inl u ↦ elim (owned_before v m y) [ inl w ↦ u.0 ∙ sym w.0 | inr w ↦ absurd (below v m more w u.1) ]
+      | inr u ↦ elim (owned_before v m y) [ inl w ↦ absurd (below v n other u w.1) | inr w ↦ k.distinct v n m other more u w ]
     ]
-      where
-        above : (l : Listing) (n : ℕ) → at n h.listed ≡ Some l → l.version ≡ h.last + 1 → ⊥
-        above l n e v = let b = at_most n l e in omega arith
 
     pub grant_loose : a.node ≢ me → IsLoose me array (grant_next h a) q remotes (flight ++ sent (grant_for h a ∷ []))
     unfolding after

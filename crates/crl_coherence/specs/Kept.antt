@@ -217,6 +217,10 @@ abbrev pub KindFits : Option Listing → Option Copy → List Given → Bool →
 KindFits (Some l) (Some c) [] given releases = (c.exclusive ≡ l.exclusive) ⊎ (given ≡ true) × (c.exclusive ≡ false) × (l.exclusive ≡ true) × HasVersion l.version releases
 KindFits _ _ _ given releases = Unit {0}
 
+-- the version is the node's: it is listed of it, or its release is under way
+abbrev pub Owns : ℕ → Pair → Type 0
+Owns v p = ((l : Listing) × (p.listed ≡ Some l) × (l.version ≡ v)) ⊎ HasVersion v p.releases
+
 pub record IsKept (last : ℕ) (array : List ℕ) (p : Pair) : Type 0 where
   pub places : Places array p.listed p.remote.copy p.grants p.returns
   pub kind : KindFits p.listed p.remote.copy p.grants p.remote.given p.releases

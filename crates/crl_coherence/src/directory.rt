@@ -40,7 +40,8 @@ pub fn versions_stand_once()
     ensures different { (me : ℕ) (g : Region) (n m : ℕ) (l k : Listing) → IsCoherent me g → at n g.home.listed ≡ Some l → at m g.home.listed ≡ Some k → l.version ≡ k.version → n ≡ m }
     ensures sections { (me : ℕ) (g : Region) (n : ℕ) → IsCoherent me g → n ≢ me → (g.remotes n).here ≢ Closed → (copy : Copy) × ((g.remotes n).copy ≡ Some copy) × ((g.remotes n).here ≡ Writing → copy.exclusive ≡ true) }
     ensures releases { (me : ℕ) (g : Region) (n : ℕ) → IsCoherent me g → n ≢ me → Distinct (between g n).releases }
-    ensures released { (me : ℕ) (g : Region) (n : ℕ) (l : Listing) → IsCoherent me g → at n g.home.listed ≡ Some l → HasVersion l.version (between g n).releases → (l.exclusive ≡ true) × (l.mark ≡ Yielding) × ReleasedStands l.version g.array (between g n) }
+    ensures one_sender { (me : ℕ) (g : Region) (n m version : ℕ) → IsCoherent me g → n ≢ me → m ≢ me → HasVersion version (between g n).releases → HasVersion version (between g m).releases → n ≡ m }
+    ensures released { (me : ℕ) (g : Region) (n m : ℕ) (l : Listing) → IsCoherent me g → m ≢ me → at n g.home.listed ≡ Some l → HasVersion l.version (between g m).releases → (m ≡ n) × (l.exclusive ≡ true) × (l.mark ≡ Yielding) × ReleasedStands l.version g.array (between g n) }
 {}
 
 /// An exclusive copy is listed alone. While the home writes nothing is listed, and while it reads nothing
@@ -91,6 +92,6 @@ pub fn bytes_are_the_array()
     ensures grants { (me : ℕ) (g : Region) (n : ℕ) (grant : Given) → IsCoherent me g → n ≢ me → Among grant (between g n).grants → GrantShows g.array grant.what }
     ensures copies { (me : ℕ) (g : Region) (n : ℕ) (copy : Copy) → IsCoherent me g → n ≢ me → (g.remotes n).copy ≡ Some copy → copy.bytes ≡ g.array }
     ensures returns { (me : ℕ) (g : Region) (n : ℕ) (back : Back) (bytes : List ℕ) → IsCoherent me g → n ≢ me → Among back (between g n).returns → back.bytes ≡ Some bytes → bytes ≡ g.array }
-    ensures releases { (me : ℕ) (g : Region) (n : ℕ) (l : Listing) (freed : Freed) → IsCoherent me g → at n g.home.listed ≡ Some l → Among freed (between g n).releases → freed.version ≡ l.version → freed.bytes ≡ g.array }
+    ensures releases { (me : ℕ) (g : Region) (n m : ℕ) (l : Listing) (freed : Freed) → IsCoherent me g → m ≢ me → at n g.home.listed ≡ Some l → Among freed (between g m).releases → freed.version ≡ l.version → freed.bytes ≡ g.array }
     ensures sizes { (me : ℕ) (g : Region) (n : ℕ) (freed : Freed) → IsCoherent me g → n ≢ me → Among freed (between g n).releases → length freed.bytes ≡ g.home.size }
 {}
