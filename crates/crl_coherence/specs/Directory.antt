@@ -38,7 +38,7 @@ UnderGrant version Upgrade copy = (older : Copy) × (copy ≡ Some older) × (ol
 abbrev pub Holds : ℕ → Remote → Type 0
 Holds version r = (copy : Copy) × (r.copy ≡ Some copy) × (copy.version ≡ version)
 
--- its return is under way, and nothing else is
+-- this version's return is under way, the node's only one, and with these bytes
 abbrev pub ComesBack : ℕ → Pair → Type 0
 ComesBack version p = (back : Back) × (p.returns ≡ back ∷ []) × (back.version ≡ version)
 

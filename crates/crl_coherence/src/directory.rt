@@ -56,7 +56,10 @@ pub fn exclusive_is_alone()
 /// which asks; or the copy leaves at the end of a section, or comes back. A yielding one is exclusive, and its
 /// yield is under way, or is due at its node, which asks; or the copy becomes a shared one at the end of a write
 /// section, or its release is under way, or it comes back with its bytes. No call under way or due is of a later
-/// version than the listed one, where none is listed than the last. Nothing is due at a node that doesn't ask.
+/// version than the listed one, where none is listed than the last. Nothing is due at a node that doesn't ask. A
+/// copy is to leave only where it was recalled and a section is open, and to become a shared one only where it
+/// yields and a write section is open. A listed copy that was exclusive is listed as shared, or its release is
+/// under way.
 pub fn marks_have_their_message()
     ensures plain { (me : ℕ) (g : Region) (n : ℕ) (l : Listing) → IsCoherent me g → at n g.home.listed ≡ Some l → l.mark ≡ Plain → ¬ IsCalled l.version (between g n) }
     ensures recalled { (me : ℕ) (g : Region) (n : ℕ) (l : Listing) → IsCoherent me g → at n g.home.listed ≡ Some l → l.mark ≡ Recalled → RecallStands l.version (between g n) }
