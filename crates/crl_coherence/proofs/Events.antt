@@ -7,11 +7,11 @@ use Rattle.std.proofs.lemmas.List.{length-replicate}
 use Rattle.crl_protocol.specs.Places.{at, picks, Took}
 use Rattle.crl_protocol.specs.Remote.{new_remote}
 use Rattle.crl_coherence.specs.Region.{Flying, Region, flies, Happens, ask_comes, return_comes, release_comes, home_start, home_end_read, home_end_write, grant_comes, recall_comes, yield_comes, start, end_read, end_write, flush, appears, carry, Run, done, next}
-use Rattle.crl_coherence.specs.Kept.{IsKept, pair_of, queued_of}
+use Rattle.crl_coherence.specs.Kept.{IsKept, pair_of, queued_of, Owns, of_node, released_in}
 use Rattle.crl_coherence.specs.Coherent.{IsCoherent, created}
 use Rattle.crl_coherence.proofs.Lists.{same_or}
 use Rattle.crl_coherence.proofs.Mails.{mails, pair_at, kept_to, kept_from, kept_at, took_mail, took_mail_other}
-use Rattle.crl_coherence.proofs.PairsCarried.{carried_kept}
+use Rattle.crl_coherence.proofs.PairsCarried.{carried_kept, picks_reordered, reordered_has}
 use Rattle.crl_coherence.proofs.HomeEvents.{ask_event, return_event, release_event}
 use Rattle.crl_coherence.proofs.OwnEvents.{home_start_event, home_end_read_event, home_end_write_event}
 use Rattle.crl_coherence.proofs.RemoteEvents.{recall_event, yield_event, grant_event, start_event, end_read_event, end_write_event, flush_event, appears_event}
@@ -24,6 +24,7 @@ carry_event me g f rest after took put k = record {
     own = k.loose.own;
     own_ask = k.loose.own_ask;
     alone = k.loose.alone;
+    distinct = λ v n m other more a b. k.loose.distinct v n m other more (before v n a) (before v m b);
     mine = k.loose.mine;
     bytes = k.loose.bytes;
     recalled = k.loose.recalled;
@@ -32,6 +33,10 @@ carry_event me g f rest after took put k = record {
   head = k.head;
 }
   where
+    before : (v n : ℕ) → Owns v (pair_of g.home.listed g.home.queue g.remotes after n) → Owns v (pair_of g.home.listed g.home.queue g.remotes g.flight n)
+    before v n (inl u) = inl u
+    before v n (inr i) = inr (reordered_has v (picks_reordered (of_node n released_in) f after g.flight rest put took) i)
+
     carried : (n : ℕ) → IsKept g.home.last g.array (pair_at n (at n g.home.listed) (picks (queued_of n) g.home.queue) (mails n g.flight) (g.remotes n))
         → IsKept g.home.last g.array (pair_at n (at n g.home.listed) (picks (queued_of n) g.home.queue) (mails n after) (g.remotes n))
     carried n h = elim (same_or f.node n) [
@@ -105,6 +110,7 @@ created_kept me nodes size sizes = record {
     own = blank_at me nodes;
     own_ask = tt;
     alone = λ n m l j e x f. absurd (nothing_listed n nodes l e);
+    distinct = λ v n m other more a b. elim a [ inl u ↦ absurd (nothing_listed n nodes u.0 u.1) | inr i ↦ elim i [ ] ];
     mine = λ n l e. absurd (nothing_listed n nodes l e);
     bytes = λ e. refl;
     recalled = λ n l e r. absurd (nothing_listed n nodes l e);

@@ -1,5 +1,5 @@
 -- What follows for one node from what holds of it and the home.
-use Rattle.std.proofs.Common.{ℕ, List, [], ◌∷◌, Bool, true, false, ◌≡◌, ◌≢◌, ◌⊎◌, refl, arith}
+use Rattle.std.proofs.Common.{ℕ, ◌≤◌, List, [], ◌∷◌, Bool, true, false, ◌≡◌, ◌≢◌, ◌⊎◌, subst, refl, arith}
 use Rattle.std.specs.declared.option.Option.{Option}
 use Rattle.std.specs.declared.option.Option.TheVariants.{None, Some}
 use Rattle.crl_model.specs.declared.directory.Section.{Section}
@@ -9,7 +9,7 @@ use Rattle.crl_model.specs.declared.message.Granted.{Granted}
 use Rattle.crl_model.specs.declared.message.Granted.TheVariants.{Shared, Exclusive, Upgrade}
 use Rattle.crl_protocol.specs.Remote.{Copy, granted_copy, takes_grant}
 use Rattle.crl_protocol.specs.Sections.{is_writing}
-use Rattle.crl_coherence.specs.Kept.{Given, Back, Pair, IsKept}
+use Rattle.crl_coherence.specs.Kept.{Given, Back, Pair, IsKept, MarkFits, RecallFits}
 use Rattle.crl_coherence.proofs.Lists.{NoTwo}
 
 -- of each kind of message at most one is under way
@@ -21,6 +21,14 @@ returns_one last array p h y z ws e = let o = h.places in grind arith
 
 pub pending_one : (last : ℕ) (array : List ℕ) (p : Pair) → IsKept last array p → NoTwo p.pending
 pending_one last array p h y z ws e = let k = h.ask in grind arith
+
+-- the marks of what is listed
+pub marks_of : (last : ℕ) (array : List ℕ) (p : Pair) (l : Listing) → p.listed ≡ Some l → IsKept last array p → MarkFits last array l p.recalls p.yields p.returns p.releases p.remote
+marks_of last array p l e h = subst (λ o. RecallFits last array o p.recalls p.yields p.returns p.releases p.remote) e h.recall
+
+-- a listed version is between 1 and the last that was granted
+pub listed_version : (last : ℕ) (array : List ℕ) (p : Pair) (l : Listing) → p.listed ≡ Some l → IsKept last array p → (1 ≤ l.version) × (l.version ≤ last)
+listed_version last array p l e h = let m = marks_of last array p l e h in (m.least, m.most)
 
 -- a node with an open section has a listed copy
 pub reader_listed : (last : ℕ) (array : List ℕ) (p : Pair) → p.remote.here ≢ Closed → IsKept last array p → (l : Listing) × (p.listed ≡ Some l)

@@ -60,7 +60,7 @@ fits_release me g n version bytes rest k other took = let u = release_sized me g
 ask_found : (n : ℕ) (write : Bool) (have : ℕ) → of_node n (asked_in n) (flies n (Ask write have)) ≡ Some (record { node = n; write = write; have = have })
 ask_found n write have = grind arith
 
-queued_none : (n : ℕ) (q : List Asked) → picks (queued_of n) q ≡ [] → is_queued n q ≡ false
+pub queued_none : (n : ℕ) (q : List Asked) → picks (queued_of n) q ≡ [] → is_queued n q ≡ false
 queued_none n [] e = refl
 queued_none n (a ∷ q) e = go (a.node == n) refl e (λ f. queued_none n q f)
   where

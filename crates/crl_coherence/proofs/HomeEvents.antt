@@ -12,7 +12,7 @@ use Rattle.crl_protocol.specs.Mail.{Mail, Ask, Return, Release}
 use Rattle.crl_protocol.specs.Home.{Home, bytes_after, is_lowered, lowered, serve, home_asked, home_returned, home_released}
 use Rattle.crl_protocol.specs.Remote.{Remote}
 use Rattle.crl_coherence.specs.Region.{Flying, Region, at_home, flies}
-use Rattle.crl_coherence.specs.Kept.{IsKept, pair_of, of_node, asked_in, granted_in, recalled_in, yields_in, returned_in, released_in, queued_of}
+use Rattle.crl_coherence.specs.Kept.{IsKept, pair_of, of_node, asked_in, granted_in, recalled_in, yields_in, returned_in, released_in, queued_of, Owns}
 use Rattle.crl_coherence.specs.Coherent.{IsLoose, IsCoherent, HeadBlocks, MineFits, OwnAsk}
 use Rattle.crl_coherence.proofs.Lists.{at-put_same, at-put_other, same_or, took_some, took_none, took_all, took_right}
 use Rattle.crl_coherence.proofs.Mails.{mails, pair_at, kept_to, kept_from, kept_at, took_mail, took_mail_other}
@@ -21,6 +21,7 @@ use Rattle.crl_coherence.proofs.Fits.{return_at, release_found}
 use Rattle.crl_coherence.proofs.Pairs.{returned_kept, lowered_kept, stale_kept, release_bytes}
 use Rattle.crl_coherence.proofs.Serve.{last_here, last_other}
 use Rattle.crl_coherence.proofs.Rounds.{serve_kept}
+use Rattle.crl_coherence.proofs.Owned.{has_before}
 
 pub served : (me : ℕ) (array : List ℕ) (g : Region) (h : Home) (q : List Asked) (rest : List Flying) → IsLoose me array h q g.remotes rest → IsCoherent me (record (at_home (serve me h q) rest g) { array = array })
 served me array g h q rest k = let u = serve_kept me array h q g.remotes rest k in record { loose = u.0; head = u.1 }
@@ -52,6 +53,15 @@ ask_at last n write have array o q ms ks r t k =
     let one = took_right (record { node = n; write = write; have = have }) q (picks (asked_in n) ms) (picks (asked_in n) ks) (took_some (asked_in n) t (record { node = n; write = write; have = have }) refl) (pending_one last array (pair_at n o q ms r) k) in
     subst (λ p. IsKept last array p) (ask_out n write have o q ms ks r t one.0 one.1 one.2) k
 
+-- a message is taken out, and each version is still one node's
+taken_distinct : (me : ℕ) (g : Region) (f : Flying) (rest : List Flying) → Took f g.flight rest → IsCoherent me g → (v n m : ℕ) → n ≢ me → m ≢ me
+    → Owns v (pair_of g.home.listed g.home.queue g.remotes rest n) → Owns v (pair_of g.home.listed g.home.queue g.remotes rest m) → n ≡ m
+taken_distinct me g f rest took k v n m other more a b = k.loose.distinct v n m other more (before n a) (before m b)
+  where
+    before : (n : ℕ) → Owns v (pair_of g.home.listed g.home.queue g.remotes rest n) → Owns v (pair_of g.home.listed g.home.queue g.remotes g.flight n)
+    before n (inl u) = inl u
+    before n (inr i) = inr (has_before (of_node n released_in) took v i)
+
 ask_loose : (me : ℕ) (g : Region) (a : Asked) (rest : List Flying) → a.node ≢ me → Took (flies a.node (Ask a.write a.have)) g.flight rest → IsCoherent me g
     → IsLoose me g.array g.home (g.home.queue ++ a ∷ []) g.remotes rest
 ask_loose me g a rest other took k =
@@ -70,6 +80,7 @@ ask_loose me g a rest other took k =
       own = k.loose.own;
       own_ask = subst (λ l. OwnAsk g.home.mine l) (sym (last_other me a g.home.queue other)) k.loose.own_ask;
       alone = k.loose.alone;
+      distinct = taken_distinct me g (flies a.node (Ask a.write a.have)) rest took k;
       mine = k.loose.mine;
       bytes = k.loose.bytes;
       recalled = λ n l e r. head_blocks_more n l g.home.queue a (k.loose.recalled n l e r);
@@ -127,12 +138,17 @@ return_loose me g n version bytes rest other took k =
       own = at-put_other me n None g.home.listed (λ e. other (sym e)) ∙ k.loose.own;
       own_ask = k.loose.own_ask;
       alone = λ m j l p e x f. k.loose.alone m j l p (left_listed m n g.home.listed l e).1 x (left_listed j n g.home.listed p f).1;
+      distinct = λ v m j m_other j_other a b. k.loose.distinct v m j m_other j_other (before v m a) (before v j b);
       mine = λ m l e. k.loose.mine m l (left_listed m n g.home.listed l e).1;
       bytes = λ none. let u = return_at me g n version bytes rest k other took in after u.0 u.1 u.3 none;
       recalled = λ m l e r. k.loose.recalled m l (left_listed m n g.home.listed l e).1 r;
       size = k.loose.size;
     }
   where
+    before : (v m : ℕ) → Owns v (pair_of (put n None g.home.listed) g.home.queue g.remotes rest m) → Owns v (pair_of g.home.listed g.home.queue g.remotes g.flight m)
+    before v m (inl (l, e, f)) = inl (l, (left_listed m n g.home.listed l e).1, f)
+    before v m (inr i) = inr (has_before (of_node m released_in) took v i)
+
     -- a return without bytes is of a shared copy, so nothing exclusive was listed
     none_before : (l : Listing) → at n g.home.listed ≡ Some l → l.exclusive ≡ false → ((m : ℕ) (j : Listing) → at m (put n None g.home.listed) ≡ Some j → j.exclusive ≡ false)
         → (m : ℕ) (j : Listing) → at m g.home.listed ≡ Some j → j.exclusive ≡ false
@@ -213,6 +229,7 @@ module _ (me : ℕ) (g : Region) (n version : ℕ) (bytes : List ℕ) (rest : Li
           own = k.loose.own;
           own_ask = k.loose.own_ask;
           alone = k.loose.alone;
+          distinct = taken_distinct me g (flies n (Release version bytes)) rest took k;
           mine = k.loose.mine;
           bytes = k.loose.bytes;
           recalled = k.loose.recalled;
@@ -234,6 +251,18 @@ module _ (me : ℕ) (g : Region) (n version : ℕ) (bytes : List ℕ) (rest : Li
           | inl u ↦ (let v : lowered version ≡ l = (let w = u.1 in cc) in inl (u.0, sym (ap (λ x. x.exclusive) v), sym (ap (λ x. x.mark) v)))
           | inr u ↦ inr u
         ]
+
+        -- the node's copy keeps its version
+        version_then : (m : ℕ) (l : Listing) → at m table ≡ Some l → (old : Listing) × (at m g.home.listed ≡ Some old) × (old.version ≡ l.version)
+        unfolding table
+        version_then m l e = elim (put_listed m n g.home.listed (Some (lowered version)) l e) [
+          | inl u ↦ (let v : lowered version ≡ l = (let w = u.1 in cc) in (before.0, subst (λ x. at x g.home.listed ≡ Some before.0) (sym u.0) before.1, sym before.3 ∙ ap (λ x. x.version) v))
+          | inr u ↦ (l, u.1, refl)
+        ]
+
+        owned_before : (v m : ℕ) → Owns v (pair_of table g.home.queue g.remotes rest m) → Owns v (pair_of g.home.listed g.home.queue g.remotes g.flight m)
+        owned_before v m (inl (l, e, f)) = let u = version_then m l e in inl (u.0, u.1, u.2 ∙ f)
+        owned_before v m (inr i) = inr (has_before (of_node m released_in) took v i)
 
         alone_then : (m j : ℕ) (l p : Listing) → at m table ≡ Some l → l.exclusive ≡ true → at j table ≡ Some p → m ≡ j
         alone_then m j l p e x f = elim (listed_then m l e) [
@@ -269,6 +298,7 @@ module _ (me : ℕ) (g : Region) (n version : ℕ) (bytes : List ℕ) (rest : Li
               own = at-put_other me n (Some (lowered version)) g.home.listed (λ e. other (sym e)) ∙ k.loose.own;
               own_ask = k.loose.own_ask;
               alone = alone_then;
+              distinct = λ v m j m_other j_other a b. k.loose.distinct v m j m_other j_other (owned_before v m a) (owned_before v j b);
               mine = mine_then;
               bytes = λ none.
                   release_bytes g.home.last g.array (pair_of g.home.listed g.home.queue g.remotes g.flight n) before.0 (record { version = version; bytes = bytes }) (picks (of_node n released_in) rest)

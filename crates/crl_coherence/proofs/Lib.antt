@@ -7,9 +7,11 @@ mod Keeps
 mod Lists
 mod Mails
 mod Opens
+mod Owned
 mod OwnEvents
 mod Pairs
 mod PairsCarried
+mod Regions
 mod Remote
 mod RemoteCalls
 mod RemoteEvents
@@ -18,4 +20,5 @@ mod RemoteSections
 mod RemoteYields
 mod Rounds
 mod Serve
+mod Stands
 mod Waits

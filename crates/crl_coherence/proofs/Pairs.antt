@@ -59,7 +59,7 @@ none_above : (array : List ℕ) (l : Listing) (c : Option Copy) (g : Bool) (x : 
 none_above array l c g x [] n = tt
 none_above array l c g x (f ∷ fs) n = (λ e. absurd (n (inl (sym e))), none_above array l c g x fs (λ i. n (inr i)))
 
-limit_last : (last : ℕ) (array : List ℕ) (p : Pair) → IsKept last array p → limit last p.listed ≤ last
+pub limit_last : (last : ℕ) (array : List ℕ) (p : Pair) → IsKept last array p → limit last p.listed ≤ last
 limit_last last array p h = grind arith
 
 pub served_kept : (last : ℕ) (array : List ℕ) (n : ℕ) (a : Asked) (rest : List Asked) (p : Pair) → p.pending ≡ a ∷ rest → a.node ≡ n

@@ -68,7 +68,7 @@ called_back_kept last v array p rest took h =
       freed = freed_moves array l p.remote.copy (called_back v rest p).remote.copy p.remote.given (called_back v rest p).remote.given p.returns (called_back v rest p).returns p.releases (moves l e) m.freed;
     }
 
-only_returns : (v : ℕ) (c : Option Copy) (r : Remote) → OnlyReturns (recalled_over v c r).posts
+pub only_returns : (v : ℕ) (c : Option Copy) (r : Remote) → OnlyReturns (recalled_over v c r).posts
 only_returns v None r = tt
 only_returns v (Some c) r = grind arith
 

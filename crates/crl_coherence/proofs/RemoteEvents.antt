@@ -12,7 +12,7 @@ use Rattle.crl_protocol.specs.Mail.{Mail, Grant, Recall, Yield}
 use Rattle.crl_protocol.specs.Home.{Home}
 use Rattle.crl_protocol.specs.Remote.{Remote, Moved, new_remote, remote_starts, remote_granted, remote_recalled, remote_yields, remote_ends_read, remote_ends_write, remote_flushes}
 use Rattle.crl_coherence.specs.Region.{Flying, Region, sent_by, at_remote, flies, IsBlank, MayStart}
-use Rattle.crl_coherence.specs.Kept.{IsKept, pair_of, asked_in, granted_in, recalled_in, yields_in, returned_in, released_in, queued_of}
+use Rattle.crl_coherence.specs.Kept.{IsKept, pair_of, asked_in, granted_in, recalled_in, yields_in, returned_in, released_in, queued_of, Owns, HasVersion, of_node}
 use Rattle.crl_coherence.specs.Coherent.{IsCoherent}
 use Rattle.crl_coherence.proofs.Lists.{same_or, took_some, took_none, took_all}
 use Rattle.crl_coherence.proofs.Mails.{mails, pair_at, kept_to, kept_from, kept_at, lengthened-at, mails-append, mails-sent_by, mails-sent_other, took_mail, took_mail_other, set_here, set_there}
@@ -21,6 +21,7 @@ use Rattle.crl_coherence.proofs.Remote.{moved}
 use Rattle.crl_coherence.proofs.RemoteCalls.{recall_kept}
 use Rattle.crl_coherence.proofs.RemoteYields.{yield_kept, grant_kept}
 use Rattle.crl_coherence.proofs.RemoteSections.{start_kept, flush_kept, end_read_kept, end_write_kept, appears_kept, other_array}
+use Rattle.crl_coherence.proofs.Owned.{has_before, has_posted, ReleasesListed, recall_releases, yield_releases, start_releases, end_read_releases, end_write_releases, flush_releases}
 
 -- a pair after a step of its node, by its mail
 moved-at : (n : ℕ) (o : Option Listing) (q : List Asked) (ms : List Mail) (r : Remote) (s : Moved) → moved n s (pair_at n o q ms r) ≡ pair_at n o q (ms ++ s.posts) s.remote
@@ -110,8 +111,9 @@ pair_here me n g k other = kept_to g.home.last g.array g.home.listed g.home.queu
 
 -- a node's own step: the others' pairs stay
 node_step : (me n : ℕ) (g : Region) (r : Remote) (ms : List Mail) (after : List Flying) → IsCoherent me g → ((m : ℕ) → m ≢ n → mails m g.flight ≡ mails m after) → ms ≡ mails n after
+    → ((v m : ℕ) → Owns v (pair_of g.home.listed g.home.queue g.remotes after m) → Owns v (pair_of g.home.listed g.home.queue g.remotes g.flight m))
     → IsKept g.home.last g.array (pair_at n (at n g.home.listed) (picks (queued_of n) g.home.queue) ms r) → IsCoherent me (record g { remotes = at_node g.remotes n r; flight = after })
-node_step me n g r ms after k alike e new = record {
+node_step me n g r ms after k alike e before new = record {
   loose = record {
     pairs = λ m other. elim (same_or m n) [
       | inl f ↦ subst (λ x. IsKept g.home.last g.array (pair_of g.home.listed g.home.queue (at_node g.remotes n r) after x)) (sym f) (own_pair g.home.last n g.array g.home g.home.queue g.remotes r ms after e new)
@@ -120,6 +122,7 @@ node_step me n g r ms after k alike e new = record {
     own = k.loose.own;
     own_ask = k.loose.own_ask;
     alone = k.loose.alone;
+    distinct = λ v m j m_other j_other a b. k.loose.distinct v m j m_other j_other (before v m a) (before v j b);
     mine = k.loose.mine;
     bytes = k.loose.bytes;
     recalled = k.loose.recalled;
@@ -128,53 +131,66 @@ node_step me n g r ms after k alike e new = record {
   head = k.head;
 }
 
+-- what is a node's after a step of node n
+owned_before : (n : ℕ) (g : Region) (posts : List Mail) (rest : List Flying) → ((v m : ℕ) → HasVersion v (picks (of_node m released_in) rest) → HasVersion v (picks (of_node m released_in) g.flight)) → ReleasesListed (at n g.home.listed) posts
+    → (v m : ℕ) → Owns v (pair_of g.home.listed g.home.queue g.remotes (rest ++ sent_by n posts) m) → Owns v (pair_of g.home.listed g.home.queue g.remotes g.flight m)
+owned_before n g posts rest fewer own v m (inl u) = inl u
+owned_before n g posts rest fewer own v m (inr i) = elim (has_posted v m n rest posts i) [
+  | inl j ↦ inr (fewer v m j)
+  | inr j ↦ inl (subst (λ x. (l : Listing) × (at x g.home.listed ≡ Some l) × (l.version ≡ v)) (sym j.0) (own v j.1))
+]
+
 remote_step : (me n : ℕ) (g : Region) (s : Moved) (rest : List Flying) → IsCoherent me g → ((m : ℕ) → m ≢ n → mails m g.flight ≡ mails m rest)
+    → ((v m : ℕ) → HasVersion v (picks (of_node m released_in) rest) → HasVersion v (picks (of_node m released_in) g.flight)) → ReleasesListed (at n g.home.listed) s.posts
     → IsKept g.home.last g.array (pair_at n (at n g.home.listed) (picks (queued_of n) g.home.queue) (mails n rest ++ s.posts) s.remote) → IsCoherent me (at_remote n s rest g)
-remote_step me n g s rest k alike new =
-    node_step me n g s.remote (mails n rest ++ s.posts) (rest ++ sent_by n s.posts) k (λ m ne. alike m ne ∙ sym (step_there m n rest s.posts ne)) (sym (step_here n rest s.posts)) new
+remote_step me n g s rest k alike fewer own new =
+    node_step me n g s.remote (mails n rest ++ s.posts) (rest ++ sent_by n s.posts) k (λ m ne. alike m ne ∙ sym (step_there m n rest s.posts ne)) (sym (step_here n rest s.posts)) (owned_before n g s.posts rest fewer own) new
 
 -- a step without a message that comes
-call_step : (me n : ℕ) (g : Region) (s : Moved) → IsCoherent me g
+call_step : (me n : ℕ) (g : Region) (s : Moved) → IsCoherent me g → ReleasesListed (at n g.home.listed) s.posts
     → IsKept g.home.last g.array (moved n s (pair_at n (at n g.home.listed) (picks (queued_of n) g.home.queue) (mails n g.flight) (g.remotes n))) → IsCoherent me (at_remote n s g.flight g)
-call_step me n g s k new =
-    remote_step me n g s g.flight k (λ m ne. refl)
+call_step me n g s k own new =
+    remote_step me n g s g.flight k (λ m ne. refl) (λ v m i. i) own
     (subst (λ p. IsKept g.home.last g.array p) (moved-at n (at n g.home.listed) (picks (queued_of n) g.home.queue) (mails n g.flight) (g.remotes n) s) new)
 
 pub recall_event : (me : ℕ) (g : Region) (n version : ℕ) (rest : List Flying) → n ≢ me → Took (flies n (Recall version)) g.flight rest → IsCoherent me g → IsCoherent me (at_remote n (remote_recalled version (g.remotes n)) rest g)
 recall_event me g n version rest other took k =
-    remote_step me n g (remote_recalled version (g.remotes n)) rest k (λ m ne. took_mail_other m n (Recall version) g.flight rest took (λ e. ne (sym e)))
+    remote_step me n g (remote_recalled version (g.remotes n)) rest k (λ m ne. took_mail_other m n (Recall version) g.flight rest took (λ e. ne (sym e))) (λ v m i. has_before (of_node m released_in) took v i)
+    (recall_releases version (at n g.home.listed) (g.remotes n))
     (recall_at g.home.last n version g.array (at n g.home.listed) (picks (queued_of n) g.home.queue) (mails n g.flight) (mails n rest) (g.remotes n) (took_mail n (Recall version) g.flight rest took) (pair_here me n g k other))
 
 pub yield_event : (me : ℕ) (g : Region) (n version : ℕ) (rest : List Flying) → n ≢ me → Took (flies n (Yield version)) g.flight rest → IsCoherent me g → IsCoherent me (at_remote n (remote_yields version (g.remotes n)) rest g)
 yield_event me g n version rest other took k =
-    remote_step me n g (remote_yields version (g.remotes n)) rest k (λ m ne. took_mail_other m n (Yield version) g.flight rest took (λ e. ne (sym e)))
+    remote_step me n g (remote_yields version (g.remotes n)) rest k (λ m ne. took_mail_other m n (Yield version) g.flight rest took (λ e. ne (sym e))) (λ v m i. has_before (of_node m released_in) took v i)
+    (yield_releases g.home.last version g.array (pair_of g.home.listed g.home.queue g.remotes g.flight n) (k.loose.pairs n other))
     (yield_at g.home.last n version g.array (at n g.home.listed) (picks (queued_of n) g.home.queue) (mails n g.flight) (mails n rest) (g.remotes n) (took_mail n (Yield version) g.flight rest took) (pair_here me n g k other))
 
 pub grant_event : (me : ℕ) (g : Region) (n version : ℕ) (granted : Granted) (rest : List Flying) → n ≢ me → Took (flies n (Grant version granted)) g.flight rest → IsCoherent me g
     → IsCoherent me (at_remote n (granted_step version granted (g.remotes n)) rest g)
 grant_event me g n version granted rest other took k =
-    remote_step me n g (granted_step version granted (g.remotes n)) rest k (λ m ne. took_mail_other m n (Grant version granted) g.flight rest took (λ e. ne (sym e)))
+    remote_step me n g (granted_step version granted (g.remotes n)) rest k (λ m ne. took_mail_other m n (Grant version granted) g.flight rest took (λ e. ne (sym e))) (λ v m i. has_before (of_node m released_in) took v i)
+    (λ v i. elim i [ ])
     (grant_at g.home.last n version granted g.array (at n g.home.listed) (picks (queued_of n) g.home.queue) (mails n g.flight) (mails n rest) (g.remotes n) (took_mail n (Grant version granted) g.flight rest took) (pair_here me n g k other))
 
 pub start_event : (me : ℕ) (g : Region) (n : ℕ) (write : Bool) → n ≢ me → MayStart write (g.remotes n).here → (g.remotes n).asking ≡ None → (g.remotes n).size ≡ g.home.size → IsCoherent me g
     → IsCoherent me (at_remote n (remote_starts write (g.remotes n)) g.flight g)
 start_event me g n write other may idle size k =
-    call_step me n g (remote_starts write (g.remotes n)) k
+    call_step me n g (remote_starts write (g.remotes n)) k (start_releases write (at n g.home.listed) (g.remotes n))
     (start_kept g.home.last n g.array (pair_at n (at n g.home.listed) (picks (queued_of n) g.home.queue) (mails n g.flight) (g.remotes n)) write may idle (size ∙ sym k.loose.size) (pair_here me n g k other))
 
 pub end_read_event : (me : ℕ) (g : Region) (n count : ℕ) → n ≢ me → (g.remotes n).here ≡ Reading (count + 1) → IsCoherent me g → IsCoherent me (at_remote n (remote_ends_read (g.remotes n)) g.flight g)
 end_read_event me g n count other reading k =
-    call_step me n g (remote_ends_read (g.remotes n)) k
+    call_step me n g (remote_ends_read (g.remotes n)) k (end_read_releases (at n g.home.listed) (g.remotes n))
     (end_read_kept g.home.last n count g.array (pair_at n (at n g.home.listed) (picks (queued_of n) g.home.queue) (mails n g.flight) (g.remotes n)) reading (pair_here me n g k other))
 
 pub flush_event : (me : ℕ) (g : Region) (n : ℕ) → n ≢ me → (g.remotes n).here ≡ Closed → (g.remotes n).asking ≡ None → IsCoherent me g → IsCoherent me (at_remote n (remote_flushes (g.remotes n)) g.flight g)
 flush_event me g n other closed idle k =
-    call_step me n g (remote_flushes (g.remotes n)) k
+    call_step me n g (remote_flushes (g.remotes n)) k (flush_releases (at n g.home.listed) (g.remotes n))
     (flush_kept g.home.last n g.array (pair_at n (at n g.home.listed) (picks (queued_of n) g.home.queue) (mails n g.flight) (g.remotes n)) closed idle (pair_here me n g k other))
 
 pub appears_event : (me : ℕ) (g : Region) (n size : ℕ) → n ≢ me → IsBlank (g.remotes n) → IsCoherent me g → IsCoherent me (record g { remotes = at_node g.remotes n (new_remote size) })
 appears_event me g n size other blank k =
-    node_step me n g (new_remote size) (mails n g.flight) g.flight k (λ m ne. refl) refl
+    node_step me n g (new_remote size) (mails n g.flight) g.flight k (λ m ne. refl) refl (λ v m a. a)
     (appears_kept g.home.last size g.array (pair_at n (at n g.home.listed) (picks (queued_of n) g.home.queue) (mails n g.flight) (g.remotes n)) blank (pair_here me n g k other))
 
 -- a write section ends: every other node has no copy listed
@@ -199,6 +215,10 @@ module _ (me : ℕ) (g : Region) (n : ℕ) (bytes : List ℕ) (other : n ≢ me)
     after : List Flying
     after = g.flight ++ sent_by n (remote_ends_write bytes (g.remotes n)).posts
 
+    before : (v m : ℕ) → Owns v (pair_of g.home.listed g.home.queue g.remotes after m) → Owns v (pair_of g.home.listed g.home.queue g.remotes g.flight m)
+    unfolding after
+    before = owned_before n g (remote_ends_write bytes (g.remotes n)).posts g.flight (λ v m i. i) (end_write_releases g.home.last g.array bytes (pair_of g.home.listed g.home.queue g.remotes g.flight n) writing (k.loose.pairs n other))
+
     pub end_write_event : IsCoherent me (record (at_remote n (remote_ends_write bytes (g.remotes n)) g.flight g) { array = bytes })
     unfolding s after
     end_write_event = record {
@@ -214,6 +234,7 @@ module _ (me : ℕ) (g : Region) (n : ℕ) (bytes : List ℕ) (other : n ≢ me)
         own = k.loose.own;
         own_ask = k.loose.own_ask;
         alone = k.loose.alone;
+        distinct = λ v m j m_other j_other a b. k.loose.distinct v m j m_other j_other (before v m a) (before v j b);
         mine = k.loose.mine;
         bytes = λ none. let u = none n writer.0 writer.1 in let x = writer.2 in cc;
         recalled = k.loose.recalled;

@@ -68,7 +68,7 @@ noted_kept last v array p rest took none h =
     }
 
 -- a yield finds the exclusive copy of its version, with no write section open
-abbrev Lowers : ℕ → Remote → Type 0
+abbrev pub Lowers : ℕ → Remote → Type 0
 Lowers v r = (c : Copy) × (r.copy ≡ Some c) × (c.exclusive ≡ true) × (c.version ≡ v) × (r.here ≢ Writing) × (yields_over v r.copy r ≡ lowers c r)
 
 in_section : (v : ℕ) (c : Copy) (r : Remote) (s : Section) → r.here ≡ s → ((yields_in s c r).posts ≡ []) ⊎ ((r.here ≢ Writing) × (yields_in s c r ≡ lowers c r))
@@ -76,7 +76,7 @@ in_section v c r Closed e = inr (λ w. grind arith, refl)
 in_section v c r (Reading k) e = inr (λ w. grind arith, refl)
 in_section v c r Writing e = inl refl
 
-either : (v : ℕ) (r : Remote) → ((yields_over v r.copy r).posts ≡ []) ⊎ Lowers v r
+pub either : (v : ℕ) (r : Remote) → ((yields_over v r.copy r).posts ≡ []) ⊎ Lowers v r
 either v r = go r.copy refl
   where
     here_is : (c : Copy) (b : Bool) → ((v == c.version) && c.exclusive) ≡ b → r.copy ≡ Some c → ((yields_over v (Some c) r).posts ≡ []) ⊎ ((c.exclusive ≡ true) × (c.version ≡ v) × (r.here ≢ Writing) × (yields_over v (Some c) r ≡ lowers c r))

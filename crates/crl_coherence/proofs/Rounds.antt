@@ -1,5 +1,5 @@
 -- Serve keeps what holds of a region, over the whole queue.
-use Rattle.std.proofs.Common.{ℕ, List, [], ◌∷◌, ◌++◌, Bool, true, false, not, ◌&&◌, ◌≡◌, ◌≢◌, ◌==◌, if◌then◌else◌, refl, arith, sym, ap, subst, ◌∙◌, append-nil, append_assoc}
+use Rattle.std.proofs.Common.{ℕ, List, [], ◌∷◌, ◌++◌, Bool, true, false, not, ◌&&◌, ◌≡◌, ◌≢◌, ◌==◌, if◌then◌else◌, refl, arith, sym, ap, subst, ◌∙◌, append-nil, append_assoc, inl, inr}
 use Rattle.std.specs.declared.option.Option.{Option}
 use Rattle.std.specs.declared.option.Option.TheVariants.{None, Some}
 use Rattle.crl_model.specs.declared.directory.Section.{Section}
@@ -14,13 +14,14 @@ use Rattle.crl_protocol.specs.Home.{Home, Served, blocks, is_servable, lets, is_
 use Rattle.crl_protocol.specs.Remote.{Remote}
 use Rattle.crl_protocol.specs.Sections.{is_writing}
 use Rattle.crl_coherence.specs.Region.{Flying, sent}
-use Rattle.crl_coherence.specs.Kept.{IsKept, pair_of, queued_of}
+use Rattle.crl_coherence.specs.Kept.{IsKept, pair_of, queued_of, Owns}
 use Rattle.crl_coherence.specs.Coherent.{IsLoose, HeadWaits, HeadBlocks, OwnAsk, MayOpen}
 use Rattle.crl_coherence.proofs.Mails.{mails, kept_to, kept_from, kept_at, mails-append}
 use Rattle.crl_coherence.proofs.Calls.{at-marked, clear-marked, mails-calls}
 use Rattle.crl_coherence.proofs.Pairs.{mark}
 use Rattle.crl_coherence.proofs.Serve.{called_at, first_here, first_other, grant_loose, open_loose}
 use Rattle.crl_coherence.proofs.Opens.{open_at, own_opens, own_bytes}
+use Rattle.crl_coherence.proofs.Owned.{has_calls}
 
 -- a listing that was called or not
 abbrev pub marked_if : Bool → Mark → Listing → Listing
@@ -29,6 +30,10 @@ marked_if b m l = if b then record l { mark = m } else l
 same_kind : (b : Bool) (m : Mark) (l : Listing) → (marked_if b m l).exclusive ≡ l.exclusive
 same_kind true m l = refl
 same_kind false m l = refl
+
+same_version : (b : Bool) (m : Mark) (l : Listing) → (marked_if b m l).version ≡ l.version
+same_version true m l = refl
+same_version false m l = refl
 
 same_blocks : (b : Bool) (m : Mark) (n : ℕ) (l : Listing) (a : Asked) → blocks n (marked_if b m l) a ≡ blocks n l a
 same_blocks true m n l a = refl
@@ -76,6 +81,9 @@ module _ (me : ℕ) (array : List ℕ) (h : Home) (a : Asked) (q : List Asked) (
         go (Some old) f = let u : mark n (at n h.listed) a ≡ mark n (Some old) a = ap (λ o. mark n o a) f in
             let w : Some l ≡ Some (marked_if (is_called n old a) (mark_for a) old) = sym e ∙ at-marked n h.listed a ∙ u in (old, f, cc)
 
+    version_before : (n : ℕ) (old l : Listing) → l ≡ marked_if (is_called n old a) (mark_for a) old → old.version ≡ l.version
+    version_before n old l e = sym (ap (λ x. x.version) e ∙ same_version (is_called n old a) (mark_for a) old)
+
     blocks_head : (n : ℕ) (old : Listing) → at n h.listed ≡ Some old → (b : Bool) → is_called n old a ≡ b → (marked_if b (mark_for a) old).mark ≢ Plain → HeadBlocks n (marked_if b (mark_for a) old) (a ∷ q)
     blocks_head n old e true f r = let c = called_parts n old a f in (c.0, c.1, refl)
     blocks_head n old e false f r = k.recalled n old e r
@@ -83,6 +91,10 @@ module _ (me : ℕ) (array : List ℕ) (h : Home) (a : Asked) (q : List Asked) (
     waits_marked : (n : ℕ) (old : Listing) (b : Bool) → is_called n old a ≡ b → blocks n old a ≡ true → n ≢ a.node → (marked_if b (mark_for a) old).mark ≢ Plain
     waits_marked n old true f e other = mark_plain a
     waits_marked n old false f e other = λ p. let c = plain_called n old a e other p in cc
+
+    owned_before : (v n : ℕ) → Owns v (pair_of (marked 0 h.listed a) (a ∷ q) remotes (flight ++ sent (calls 0 h.listed a)) n) → Owns v (pair_of h.listed (a ∷ q) remotes flight n)
+    owned_before v n (inl (l, e, f)) = let u = listed_before n l e in inl (u.0, u.1, version_before n u.0 l u.2 ∙ f)
+    owned_before v n (inr i) = inr (has_calls v n flight h.listed a i)
 
     pub stopped_loose : IsLoose me array (stopped h a q) (a ∷ q) remotes (flight ++ sent (calls 0 h.listed a))
     stopped_loose =
@@ -92,6 +104,7 @@ module _ (me : ℕ) (array : List ℕ) (h : Home) (a : Asked) (q : List Asked) (
           own_ask = k.own_ask;
           alone = λ n m l j e x f. let u = listed_before n l e in let v = listed_before m j f in
               k.alone n m u.0 v.0 u.1 (sym (same_kind (is_called n u.0 a) (mark_for a) u.0) ∙ sym (ap (λ y. y.exclusive) u.2) ∙ x) v.1;
+          distinct = λ v n m other more x y. k.distinct v n m other more (owned_before v n x) (owned_before v m y);
           mine = λ n l e. let u = listed_before n l e in rw (ap (λ y. y.exclusive) u.2 ∙ same_kind (is_called n u.0 a) (mark_for a) u.0) (k.mine n u.0 u.1);
           bytes = λ b. k.bytes (λ n l e. sym (same_kind (is_called n l a) (mark_for a) l) ∙ b n (marked_if (is_called n l a) (mark_for a) l) (at-marked n h.listed a ∙ ap (λ o. mark n o a) e));
           recalled = λ n l e r. let u = listed_before n l e in
@@ -108,7 +121,7 @@ module _ (me : ℕ) (array : List ℕ) (h : Home) (a : Asked) (q : List Asked) (
 
 -- the queue that the table itself has doesn't matter
 requeue : (me : ℕ) (array : List ℕ) (h : Home) (q p : List Asked) (remotes : ℕ → Remote) (flight : List Flying) → IsLoose me array h q remotes flight → IsLoose me array (record h { queue = p }) q remotes flight
-requeue me array h q p remotes flight k = record { pairs = k.pairs; own = k.own; own_ask = k.own_ask; alone = k.alone; mine = k.mine; bytes = k.bytes; recalled = k.recalled; size = k.size }
+requeue me array h q p remotes flight k = record { pairs = k.pairs; own = k.own; own_ask = k.own_ask; alone = k.alone; distinct = k.distinct; mine = k.mine; bytes = k.bytes; recalled = k.recalled; size = k.size }
 
 abbrev pub IsServed : ℕ → List ℕ → (ℕ → Remote) → List Flying → Served → Type 0
 IsServed me array remotes flight s = IsLoose me array s.home s.home.queue remotes (flight ++ sent s.posts) × HeadWaits s.home s.home.queue

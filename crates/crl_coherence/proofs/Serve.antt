@@ -12,12 +12,14 @@ use Rattle.crl_protocol.specs.Mail.{Mail, Grant}
 use Rattle.crl_protocol.specs.Home.{Home, blocks, is_servable, granted_to, open_own, grant_next, grant_for}
 use Rattle.crl_protocol.specs.Remote.{Remote}
 use Rattle.crl_coherence.specs.Region.{Flying, sent, flies}
-use Rattle.crl_coherence.specs.Kept.{Pair, IsKept, pair_of, asked_in, granted_in, recalled_in, yields_in, returned_in, released_in, queued_of}
+use Rattle.crl_coherence.specs.Kept.{Pair, IsKept, pair_of, asked_in, granted_in, recalled_in, yields_in, returned_in, released_in, queued_of, Owns}
 use Rattle.crl_coherence.specs.Coherent.{IsLoose, OwnAsk}
 use Rattle.crl_coherence.proofs.Lists.{at-put_same, at-put_other, same_or, picked_none, picked_some, more_none, more_some}
 use Rattle.crl_coherence.proofs.Mails.{mail_of, mails, mail_here, mail_other, pair_at, kept_to, kept_from, kept_at, lengthened-at}
 use Rattle.crl_coherence.proofs.Calls.{clear_at}
-use Rattle.crl_coherence.proofs.Pairs.{raised_kept, new_listing, served, OwnFits, served_kept, mark, called, called_pair, called_kept}
+use Rattle.crl_coherence.proofs.Facts.{listed_version}
+use Rattle.crl_coherence.proofs.Pairs.{raised_kept, new_listing, served, OwnFits, served_kept, mark, called, called_pair, called_kept, limit_last}
+use Rattle.crl_coherence.proofs.Owned.{has_granted}
 
 -- the ask at the head is served: the asker's pair
 served_at : (last n : ℕ) (array : List ℕ) (a : Asked) (o : Option Listing) (q : List Asked) (ms : List Mail) (r : Remote) → a.node ≡ n → OwnFits n o a → IsKept last array (pair_at n o (a ∷ q) ms r)
@@ -130,6 +132,24 @@ module _ (me : ℕ) (array : List ℕ) (h : Home) (a : Asked) (q : List Asked) (
       | inr ne ↦ inr (ne, let w = at-put_other n a.node (Some (new_listing h.last a)) h.listed ne in cc)
     ]
 
+    -- the version that is granted is above all that are some node's
+    below : (v n : ℕ) → n ≢ me → Owns v (pair_of h.listed (a ∷ q) remotes flight n) → v ≡ h.last + 1 → ⊥
+    below v n other (inl (l, e, f)) x = let u = (listed_version h.last array (pair_of h.listed (a ∷ q) remotes flight n) l e (k.pairs n other)).1 in omega arith
+    below v n other (inr i) x =
+        let u = (k.pairs n other).release_limit v i in
+        let w = limit_last h.last array (pair_of h.listed (a ∷ q) remotes flight n) (k.pairs n other) in omega arith
+
+    owned_before : (v n : ℕ) → Owns v (pair_of (grant_next h a).listed q remotes after n) → ((n ≡ a.node) × (v ≡ h.last + 1)) ⊎ Owns v (pair_of h.listed (a ∷ q) remotes flight n)
+    unfolding after
+    owned_before v n (inl (l, e, f)) = elim (listed_after n l e) [ inl u ↦ inl (u.0, sym f ∙ ap (λ x. x.version) u.1) | inr u ↦ inr (inl (l, u.1, f)) ]
+    owned_before v n (inr i) = inr (inr (has_granted v n flight a.node (h.last + 1) (granted_to (at a.node h.listed) a h.bytes) i))
+
+    distinct_after : (v n m : ℕ) → n ≢ me → m ≢ me → Owns v (pair_of (grant_next h a).listed q remotes after n) → Owns v (pair_of (grant_next h a).listed q remotes after m) → n ≡ m
+    distinct_after v n m other more x y = elim (owned_before v n x) [
+      | inl u ↦ elim (owned_before v m y) [ inl w ↦ u.0 ∙ sym w.0 | inr w ↦ absurd (below v m more w u.1) ]
+      | inr u ↦ elim (owned_before v m y) [ inl w ↦ absurd (below v n other u w.1) | inr w ↦ k.distinct v n m other more u w ]
+    ]
+
     pub grant_loose : a.node ≢ me → IsLoose me array (grant_next h a) q remotes (flight ++ sent (grant_for h a ∷ []))
     unfolding after
     grant_loose not_me =
@@ -141,6 +161,7 @@ module _ (me : ℕ) (array : List ℕ) (h : Home) (a : Asked) (q : List Asked) (
           own = at-put_other me a.node (Some (new_listing h.last a)) h.listed (λ e. not_me (sym e)) ∙ k.own;
           own_ask = subst (λ l. OwnAsk h.mine l) (first_other me a q not_me) k.own_ask;
           alone = λ n m l j e x f. let u = listed_after n l e in let v = listed_after m j f in let w = alone_writer m j in let y = shared n l in grind arith;
+          distinct = distinct_after;
           mine = λ n l e. let u = listed_after n l e in let y = shared n l in let z = k.mine n l in grind arith;
           bytes = λ e. whole;
           recalled = λ n l e r. let u = listed_after n l e in let y = unmarked n l in absurd (grind arith);
@@ -156,6 +177,7 @@ module _ (me : ℕ) (array : List ℕ) (h : Home) (a : Asked) (q : List Asked) (
           own = k.own;
           own_ask = own_next h.mine (open_own h a).mine a (picks (queued_of me) q) (subst (λ l. OwnAsk h.mine l) (first_here me a q at_me) k.own_ask);
           alone = k.alone;
+          distinct = k.distinct;
           mine = λ n l e. let u = shared n l e in let v = alone_writer n l e in let o = k.own in grind arith;
           bytes = k.bytes;
           recalled = λ n l e r. absurd (r (unmarked n l e));

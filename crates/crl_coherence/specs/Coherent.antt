@@ -11,7 +11,7 @@ use Rattle.crl_protocol.specs.Home.{Home, blocks, is_servable, mark_for, new_hom
 use Rattle.crl_protocol.specs.Remote.{Remote, new_remote}
 use Rattle.crl_protocol.specs.Sections.{is_writing}
 use Rattle.crl_coherence.specs.Region.{Flying, Region}
-use Rattle.crl_coherence.specs.Kept.{IsKept, pair_of, queued_of}
+use Rattle.crl_coherence.specs.Kept.{IsKept, Owns, pair_of, queued_of}
 
 -- the ask at the head is another node's, and the copy stands in its way
 abbrev pub HeadBlocks : ℕ → Listing → List Asked → Type 0
@@ -34,6 +34,8 @@ pub record IsLoose (me : ℕ) (array : List ℕ) (h : Home) (queue : List Asked)
   pub own : at me h.listed ≡ None
   pub own_ask : OwnAsk h.mine (picks (queued_of me) queue)
   pub alone : (n m : ℕ) (l k : Listing) → at n h.listed ≡ Some l → l.exclusive ≡ true → at m h.listed ≡ Some k → n ≡ m
+  -- a version is one node's
+  pub distinct : (v n m : ℕ) → n ≢ me → m ≢ me → Owns v (pair_of h.listed queue remotes flight n) → Owns v (pair_of h.listed queue remotes flight m) → n ≡ m
   pub mine : (n : ℕ) (l : Listing) → at n h.listed ≡ Some l → MineFits h.mine l.exclusive
   pub bytes : ((n : ℕ) (l : Listing) → at n h.listed ≡ Some l → l.exclusive ≡ false) → h.bytes ≡ array
   pub recalled : (n : ℕ) (l : Listing) → at n h.listed ≡ Some l → l.mark ≢ Plain → HeadBlocks n l queue

@@ -200,7 +200,7 @@ GivenFits (Some c) given = given ≡ true → c.exclusive ≡ false
 abbrev pub HaveFits : Asked → Option Listing → Option Copy → List Back → Type 0
 HaveFits a l (Some c) back = (a.write ≡ true) × (c.version ≡ a.have) × (c.exclusive ≡ false)
 HaveFits a None None back = Unit {0}
-HaveFits a (Some l) None back = a.write ≡ true → 1 ≤ a.have → (l.version ≡ a.have) × (l.mark ≡ Recalled) × (back ≢ [])
+HaveFits a (Some l) None back = 1 ≤ a.have → (l.version ≡ a.have) × (l.mark ≡ Recalled) × (back ≢ [])
 
 -- a call that is due is of a later version than the copy
 abbrev pub DueFits : Option Copy → Option Due → Type 0
@@ -216,6 +216,10 @@ HavesFit (a ∷ pending) l c back = HaveFits a l c back
 abbrev pub KindFits : Option Listing → Option Copy → List Given → Bool → List Freed → Type 0
 KindFits (Some l) (Some c) [] given releases = (c.exclusive ≡ l.exclusive) ⊎ (given ≡ true) × (c.exclusive ≡ false) × (l.exclusive ≡ true) × HasVersion l.version releases
 KindFits _ _ _ given releases = Unit {0}
+
+-- the version is the node's: it is listed of it, or its release is under way
+abbrev pub Owns : ℕ → Pair → Type 0
+Owns v p = ((l : Listing) × (p.listed ≡ Some l) × (l.version ≡ v)) ⊎ HasVersion v p.releases
 
 pub record IsKept (last : ℕ) (array : List ℕ) (p : Pair) : Type 0 where
   pub places : Places array p.listed p.remote.copy p.grants p.returns

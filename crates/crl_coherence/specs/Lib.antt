@@ -1,3 +1,4 @@
 pub mod Coherent
+pub mod Directory
 pub mod Kept
 pub mod Region

@@ -2,6 +2,8 @@
 //! right. There is no code here but empty functions, whose contracts are the theorems.
 #![tactic(auto)]
 
+pub mod directory;
+
 ghost use Rattle.std.specs.Prelude.{◌≡◌, ◌≢◌, ◌⊎◌, ℕ, ◌+◌, List, [], ◌∷◌, Bool, true, false};
 ghost use Rattle.std.specs.declared.option.Option.{Option};
 ghost use Rattle.std.specs.declared.option.Option.TheVariants.{None, Some};
