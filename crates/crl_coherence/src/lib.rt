@@ -30,12 +30,12 @@ pub fn stays_coherent()
 
 /// A section that opens may open: no write section is open anywhere, and for writing no section at all. It
 /// opens at another node by its own call or with a grant, and at the home by its call or while the queue is
-/// served.
+/// served, which a return or a release lets go on. The ask of another node opens none.
 pub fn sections_open_rightly()
     ensures by_call { (me : ℕ) (g : Region) (n : ℕ) (write : Bool) → IsCoherent me g → n ≢ me → MayStart write (g.remotes n).here → (g.remotes n).asking ≡ None → (remote_starts write (g.remotes n)).opened ≡ true → MayOpen write (section_at me g) }
     ensures by_grant { (me : ℕ) (g : Region) (n version : ℕ) (granted : Granted) (rest : List Flying) → IsCoherent me g → n ≢ me → Took (flies n (Grant version granted)) g.flight rest → (write : Bool) × ((g.remotes n).asking ≡ Some write) × MayOpen write (section_at me g) }
     ensures at_home { (me : ℕ) (g : Region) (write : Bool) → IsCoherent me g → MayStart write g.home.mine → IsIdle me g.home.queue → (home_starts me write g.home).opened ≡ true → MayOpen write (section_at me g) }
-    ensures by_ask { (me : ℕ) (g : Region) (ask : Asked) (rest : List Flying) → IsCoherent me g → ask.node ≢ me → Took (flies ask.node (Ask ask.write ask.have)) g.flight rest → (home_asked me ask g.home).opened ≡ true → (g.home.mine ≡ Closed) × MayOpen (is_writing (home_asked me ask g.home).home.mine) (section_at me g) }
+    ensures by_ask { (me : ℕ) (g : Region) (ask : Asked) → IsCoherent me g → ask.node ≢ me → (home_asked me ask g.home).opened ≡ false }
     ensures by_return { (me : ℕ) (g : Region) (n version : ℕ) (bytes : Option (List ℕ)) (rest : List Flying) → IsCoherent me g → n ≢ me → Took (flies n (Return version bytes)) g.flight rest → (home_returned me n bytes g.home).opened ≡ true → (g.home.mine ≡ Closed) × MayOpen (is_writing (home_returned me n bytes g.home).home.mine) (section_at me g) }
     ensures by_release { (me : ℕ) (g : Region) (n version : ℕ) (bytes : List ℕ) (rest : List Flying) → IsCoherent me g → n ≢ me → Took (flies n (Release version bytes)) g.flight rest → (home_released me n version bytes g.home).opened ≡ true → (g.home.mine ≡ Closed) × MayOpen (is_writing (home_released me n version bytes g.home).home.mine) (section_at me g) }
 {}
@@ -45,7 +45,6 @@ pub fn sections_show_the_array()
     ensures by_call { (me : ℕ) (g : Region) (n : ℕ) (write : Bool) → IsCoherent me g → n ≢ me → MayStart write (g.remotes n).here → (g.remotes n).asking ≡ None → (remote_starts write (g.remotes n)).opened ≡ true → (copy : Copy) × ((g.remotes n).copy ≡ Some copy) × (copy.bytes ≡ g.array) }
     ensures by_grant { (me : ℕ) (g : Region) (n version : ℕ) (granted : Granted) (rest : List Flying) → IsCoherent me g → n ≢ me → Took (flies n (Grant version granted)) g.flight rest → (copy : Copy) × ((remote_granted version granted (g.remotes n)).copy ≡ Some copy) × (copy.bytes ≡ g.array) }
     ensures at_home { (me : ℕ) (g : Region) (write : Bool) → IsCoherent me g → MayStart write g.home.mine → IsIdle me g.home.queue → (home_starts me write g.home).opened ≡ true → (home_starts me write g.home).home.bytes ≡ g.array }
-    ensures by_ask { (me : ℕ) (g : Region) (ask : Asked) (rest : List Flying) → IsCoherent me g → ask.node ≢ me → Took (flies ask.node (Ask ask.write ask.have)) g.flight rest → (home_asked me ask g.home).opened ≡ true → (home_asked me ask g.home).home.bytes ≡ g.array }
     ensures by_return { (me : ℕ) (g : Region) (n version : ℕ) (bytes : Option (List ℕ)) (rest : List Flying) → IsCoherent me g → n ≢ me → Took (flies n (Return version bytes)) g.flight rest → (home_returned me n bytes g.home).opened ≡ true → (home_returned me n bytes g.home).home.bytes ≡ g.array }
     ensures by_release { (me : ℕ) (g : Region) (n version : ℕ) (bytes : List ℕ) (rest : List Flying) → IsCoherent me g → n ≢ me → Took (flies n (Release version bytes)) g.flight rest → (home_released me n version bytes g.home).opened ≡ true → (home_released me n version bytes g.home).home.bytes ≡ g.array }
 {}
