@@ -6,7 +6,7 @@ use Rattle.crl_model.specs.declared.directory.Listing.{Listing}
 use Rattle.std.proofs.lemmas.List.{length-replicate}
 use Rattle.crl_protocol.specs.Places.{at, picks, Took}
 use Rattle.crl_protocol.specs.Remote.{new_remote}
-use Rattle.crl_coherence.specs.Region.{Flying, Region, flies, Happens, ask_comes, return_comes, release_comes, home_start, home_end_read, home_end_write, grant_comes, recall_comes, yield_comes, start, end_read, end_write, flush, appears, carry, Run, done, next}
+use Rattle.crl_coherence.specs.Region.{Flying, Region, flies, Happens, ask_comes, return_comes, release_comes, home_start, home_end_read, home_end_write, grant_comes, recall_comes, yield_comes, start, end_read, end_write, flush, forget, appears, carry, elsewhere, Run, done, next}
 use Rattle.crl_coherence.specs.Kept.{IsKept, pair_of, queued_of, Owns, of_node, released_in}
 use Rattle.crl_coherence.specs.Coherent.{IsCoherent, created}
 use Rattle.crl_coherence.proofs.Lists.{same_or}
@@ -14,6 +14,7 @@ use Rattle.crl_coherence.proofs.Mails.{mails, pair_at, kept_to, kept_from, kept_
 use Rattle.crl_coherence.proofs.PairsCarried.{carried_kept, picks_reordered, reordered_has}
 use Rattle.crl_coherence.proofs.HomeEvents.{ask_event, return_event, release_event}
 use Rattle.crl_coherence.proofs.OwnEvents.{home_start_event, home_end_read_event, home_end_write_event}
+use Rattle.crl_coherence.proofs.Forgets.{forget_event}
 use Rattle.crl_coherence.proofs.RemoteEvents.{recall_event, yield_event, grant_event, start_event, end_read_event, end_write_event, flush_event, appears_event}
 
 -- a message goes to another place
@@ -60,8 +61,10 @@ happens_kept me g h (start n write other may idle size) k = start_event me g n w
 happens_kept me g h (end_read n count other reading) k = end_read_event me g n count other reading k
 happens_kept me g h (end_write n bytes other writing sized) k = end_write_event me g n bytes other writing sized k
 happens_kept me g h (flush n other closed idle) k = flush_event me g n other closed idle k
+happens_kept me g h (forget n size other closed idle) k = forget_event me g n size other closed idle k
 happens_kept me g h (appears n size other blank) k = appears_event me g n size other blank k
 happens_kept me g h (carry f rest after took put) k = carry_event me g f rest after took put k
+happens_kept me g h elsewhere k = k
 
 pub runs_kept : (me : ℕ) (g h : Region) → Run me g h → IsCoherent me g → IsCoherent me h
 runs_kept me g h done k = k

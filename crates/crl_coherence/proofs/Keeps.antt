@@ -9,7 +9,7 @@ use Rattle.crl_protocol.specs.Places.{at, put, Took}
 use Rattle.crl_protocol.specs.Mail.{Return, Release}
 use Rattle.crl_protocol.specs.Home.{Home, bytes_after, is_lowered, lowered, serve, home_returned, home_released, home_ends_write}
 use Rattle.crl_protocol.specs.Remote.{Copy, Remote, written, leaves_over, lowers_over, quiet, remote_ends_write}
-use Rattle.crl_coherence.specs.Region.{Flying, Region, flies, IsIdle, at_home, at_remote, Happens, ask_comes, return_comes, release_comes, home_start, home_end_read, home_end_write, grant_comes, recall_comes, yield_comes, start, end_read, end_write, flush, appears, carry}
+use Rattle.crl_coherence.specs.Region.{Flying, Region, flies, IsIdle, at_home, at_remote, Happens, ask_comes, return_comes, release_comes, home_start, home_end_read, home_end_write, grant_comes, recall_comes, yield_comes, start, end_read, end_write, flush, forget, appears, carry, elsewhere}
 use Rattle.crl_coherence.specs.Coherent.{IsCoherent, MineFits, section_at}
 use Rattle.crl_coherence.proofs.Lists.{same_or}
 use Rattle.crl_coherence.proofs.Mails.{set_here}
@@ -105,5 +105,7 @@ array_left me g h n k (start m write other may idle size) is_open = inl refl
 array_left me g h n k (end_read m count other reading) is_open = inl refl
 array_left me g h n k (end_write m bytes other writing sized) is_open = other_end me g n m bytes k other writing is_open
 array_left me g h n k (flush m other closed idle) is_open = inl refl
+array_left me g h n k (forget m size other closed idle) is_open = inl refl
 array_left me g h n k (appears m size other blank) is_open = inl refl
 array_left me g h n k (carry f rest after took put) is_open = inl refl
+array_left me g h n k elsewhere is_open = inl refl

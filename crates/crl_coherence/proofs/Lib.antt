@@ -2,13 +2,14 @@ mod Calls
 mod Events
 mod Facts
 mod Fits
+mod Forgets
 mod HomeEvents
 mod Keeps
 mod Lists
 mod Mails
 mod Opens
-mod Owned
 mod OwnEvents
+mod Owned
 mod Pairs
 mod PairsCarried
 mod Regions

@@ -81,7 +81,7 @@ pub data Happens (me : ℕ) : Region → Region → Type 0 where
       → Happens me g (at_remote n (remote_recalled version (g.remotes n)) rest g)
   yield_comes : {g : Region} (n version : ℕ) (rest : List Flying) → n ≢ me → Took (flies n (Yield version)) g.flight rest
       → Happens me g (at_remote n (remote_yields version (g.remotes n)) rest g)
-  -- another node's sections start and end, its copy is flushed, and it maps the region anew
+  -- another node's sections start and end, its copy is flushed, the name is forgotten, and mapped anew
   start : {g : Region} (n : ℕ) (write : Bool) → n ≢ me → MayStart write (g.remotes n).here → (g.remotes n).asking ≡ None → (g.remotes n).size ≡ g.home.size
       → Happens me g (at_remote n (remote_starts write (g.remotes n)) g.flight g)
   end_read : {g : Region} (n count : ℕ) → n ≢ me → (g.remotes n).here ≡ Reading (count + 1)
@@ -90,11 +90,15 @@ pub data Happens (me : ℕ) : Region → Region → Type 0 where
       → Happens me g (record (at_remote n (remote_ends_write bytes (g.remotes n)) g.flight g) { array = bytes })
   flush : {g : Region} (n : ℕ) → n ≢ me → (g.remotes n).here ≡ Closed → (g.remotes n).asking ≡ None
       → Happens me g (at_remote n (remote_flushes (g.remotes n)) g.flight g)
+  forget : {g : Region} (n size : ℕ) → n ≢ me → (g.remotes n).here ≡ Closed → (g.remotes n).asking ≡ None
+      → Happens me g (record (at_remote n (remote_flushes (g.remotes n)) g.flight g) { remotes = at_node g.remotes n (new_remote size) })
   appears : {g : Region} (n size : ℕ) → n ≢ me → IsBlank (g.remotes n)
       → Happens me g (record g { remotes = at_node g.remotes n (new_remote size) })
   -- a message goes from box to box
   carry : {g : Region} (f : Flying) (rest after : List Flying) → Took f g.flight rest → Took f after rest
       → Happens me g (record g { flight = after })
+  -- an event of another region
+  elsewhere : {g : Region} → Happens me g g
 
 -- a run of a region's events
 pub data Run (me : ℕ) : Region → Region → Type 0 where
