@@ -1,11 +1,11 @@
 mod Calls
-mod Events
+pub mod Events
 mod Facts
-mod Fits
+pub mod Fits
 mod Forgets
 mod HomeEvents
 mod Keeps
-mod Lists
+pub mod Lists
 mod Mails
 mod Opens
 mod OwnEvents
