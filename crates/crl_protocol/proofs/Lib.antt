@@ -5,7 +5,7 @@ pub mod Calling
 mod Computed
 mod Deciding
 mod Enabling
-mod Entering
+pub mod Entering
 pub mod Fitting
 mod Following
 pub mod Growing

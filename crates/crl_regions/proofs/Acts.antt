@@ -6,13 +6,13 @@ use Rattle.crl_model.specs.declared.message.Message.{Message}
 use Rattle.crl_model.specs.Names.{name_eq, at_node, at_name}
 use Rattle.crl_protocol.specs.Places.{picks, Took}
 use Rattle.crl_protocol.specs.Mail.{Mail, Ask, Grant, Recall, Yield, Return, Release, Letter, about}
-use Rattle.crl_protocol.specs.Home.{Home, Served, bytes_after}
+use Rattle.crl_protocol.specs.Home.{Home, Served, new_home, bytes_after}
 use Rattle.crl_protocol.specs.Remote.{Remote, Moved, new_remote, remote_flushes}
 use Rattle.crl_protocol.specs.Node.{Node, Outcome, at_serial, is_mine, home_of, with_home, with_remote, message, letters, mails}
 use Rattle.crl_protocol.proofs.Fitting.{name_self, other_name, SizeIs}
 use Rattle.crl_protocol.proofs.Tabling.{home_put}
 use Rattle.crl_coherence.specs.Region.{Flying, Region, Happens, sent, sent_by, at_home, at_remote, forget}
-use Rattle.crl_coherence.proofs.Lists.{picked_none, picked_some}
+use Rattle.crl_coherence.proofs.Lists.{picked_none, picked_some, more_none}
 use Rattle.crl_regions.specs.View.{if_about, mail_in, other_end, flown, flying, side}
 
 -- a message that comes is taken out of those under way, and without one they stay
@@ -21,7 +21,8 @@ Comes None before rest = rest ≡ before
 Comes (Some f) before rest = Took f before rest
 
 -- An outcome of node i, with the message that came and the bytes that a write section leaves, does one of these
--- to a region: nothing; an event at its home; or an event at a node other than the home.
+-- to a region: nothing; an event at its home; an event at a node other than the home; where the region isn't there,
+-- nothing either; or it makes the region.
 pub data Acts (q : Name) (i : ℕ) (came : Option Flying) (written : Option (List ℕ)) (n m : Node) (posts : List Message) : Type 0 where
   nothing : came ≡ None → written ≡ None → home_of m q ≡ home_of n q → m.remotes q ≡ n.remotes q → picks (flying q) posts ≡ [] → Acts q i came written n m posts
   home_acts : (h : Home) (s : Served) → home_of n q ≡ Some h → home_of m q ≡ Some s.home → s.home.size ≡ h.size → m.remotes q ≡ n.remotes q → picks (flying q) posts ≡ sent s.posts
@@ -31,6 +32,10 @@ pub data Acts (q : Name) (i : ℕ) (came : Option Flying) (written : Option (Lis
       → ((g : Region) (rest : List Flying) → g.remotes i ≡ side g.home.size (n.remotes q) → SizeIs (n.remotes q) g.home.size → Comes came g.flight rest
       → Happens q.home g (record g { remotes = at_node g.remotes i (after g.home.size); flight = rest ++ sent_by i mails; array = bytes_after written g.array }))
       → Acts q i came written n m posts
+
+  absent : written ≡ None → (q.home == i) ≡ true → home_of n q ≡ None → home_of m q ≡ None → m.remotes q ≡ n.remotes q → picks (flying q) posts ≡ [] → Acts q i came written n m posts
+  made : (size : ℕ) → came ≡ None → written ≡ None → (q.home == i) ≡ true → home_of n q ≡ None → home_of m q ≡ Some (new_home n.nodes size) → m.remotes q ≡ n.remotes q
+      → picks (flying q) posts ≡ [] → Acts q i came written n m posts
 
 pub acts_if : (q : Name) (i : ℕ) (came : Option Flying) (written : Option (List ℕ)) (n : Node) (b : Bool) (x y : Outcome) → (b ≡ true → Acts q i came written n x.node x.posts)
     → (b ≡ false → Acts q i came written n y.node y.posts) → let o = if b then x else y in Acts q i came written n o.node o.posts
@@ -88,6 +93,15 @@ home_is n name h e = go (is_mine n name) refl e
     go : (b : Bool) → is_mine n name ≡ b → (if b then at_serial name.serial n.homes else None) ≡ Some h → (n.me == name.home) ≡ true
     go true w f = eq-eqb n.me name.home (sym (eqb-true name.home n.me w))
     go false w f = cc
+
+-- a message more that isn't about copies
+pub acts_sending : (q : Name) (i : ℕ) (came : Option Flying) (written : Option (List ℕ)) (n m : Node) (posts : List Message) (x : Message) → flying q x ≡ None
+    → Acts q i came written n m posts → Acts q i came written n m (posts ++ x ∷ [])
+acts_sending q i came written n m posts x e (nothing a b c d f) = nothing a b c d (more_none (flying q) posts x e ∙ f)
+acts_sending q i came written n m posts x e (home_acts h s a b c d f happens) = home_acts h s a b c d (more_none (flying q) posts x e ∙ f) happens
+acts_sending q i came written n m posts x e (side_acts after mails a b f happens) = side_acts after mails a b (more_none (flying q) posts x e ∙ f) happens
+acts_sending q i came written n m posts x e (absent a b c d f g) = absent a b c d f (more_none (flying q) posts x e ∙ g)
+acts_sending q i came written n m posts x e (made size a b c d f g k) = made size a b c d f g (more_none (flying q) posts x e ∙ k)
 
 -- A step at the home, for the name and for all others.
 pub home_here : (name : Name) (i : ℕ) (came : Option Flying) (written : Option (List ℕ)) (n m : Node) (h : Home) (s : Served) → home_of n name ≡ Some h

@@ -1,3 +1,6 @@
 mod Acts
+mod Calls
+mod Ends
+mod Messages
 mod Moves
 mod Sections

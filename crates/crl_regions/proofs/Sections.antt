@@ -48,7 +48,7 @@ idle_of me [] h = tt
 idle_of me (ask ∷ queue) h = (eqb-false ask.node me h.0, idle_of me queue h.1)
 
 -- a node that is free has nothing queued and asks for nothing
-free_idle : (me : ℕ) (q : Name) (h : Home) → QueueFits me q (Some h) Free → NoOwn me h.queue
+pub free_idle : (me : ℕ) (q : Name) (h : Home) → QueueFits me q (Some h) Free → NoOwn me h.queue
 free_idle me q h (one, inl none) = none
 free_idle me q h (one, inr waits) = cc
 
