@@ -1,6 +1,8 @@
 mod Acts
 mod Calls
 mod Ends
+mod Kept
+mod Lift
 mod Messages
 mod Moves
 mod Sections
