@@ -1,13 +1,16 @@
 -- What an outcome of one node does to a region, and what that is of the region seen by itself.
-use Rattle.std.proofs.Common.{◌≡◌, ◌≢◌, ℕ, zero, suc, ◌+◌, ◌<◌, ◌==◌, Bool, true, false, None, Some, Option, List, [], ◌∷◌, ◌++◌, length, map, if◌then◌else◌, refl, ap, sym, ◌∙◌, subst, arith}
+use Rattle.std.proofs.Common.{◌≡◌, ◌≢◌, ℕ, zero, suc, ◌+◌, ◌^◌, ◌<◌, ◌==◌, Bool, true, false, None, Some, Option, List, [], ◌∷◌, ◌++◌, length, map, replicate, if◌then◌else◌, refl, ap, sym, ◌∙◌, subst, arith}
 use Rattle.std.proofs.lemmas.Bool.{cond_both, cond-true, cond-false, eqb-true, eq-eqb, eqb-false, ne_eqb}
 use Rattle.crl_model.specs.declared.name.Name.{Name}
+use Rattle.crl_model.specs.declared.directory.Section.{Section}
+use Rattle.crl_model.specs.declared.directory.Section.TheVariants as section
 use Rattle.crl_model.specs.declared.message.Message.{Message}
 use Rattle.crl_model.specs.Names.{name_eq, at_node, at_name}
 use Rattle.crl_protocol.specs.Places.{picks, Took}
 use Rattle.crl_protocol.specs.Mail.{Mail, Ask, Grant, Recall, Yield, Return, Release, Letter, about}
 use Rattle.crl_protocol.specs.Home.{Home, Served, new_home, bytes_after}
 use Rattle.crl_protocol.specs.Remote.{Remote, Moved, new_remote, remote_flushes}
+use Rattle.crl_protocol.specs.Sections.{section_at}
 use Rattle.crl_protocol.specs.Node.{Node, Outcome, at_serial, is_mine, home_of, with_home, with_remote, message, letters, mails}
 use Rattle.crl_protocol.proofs.Fitting.{name_self, other_name, SizeIs}
 use Rattle.crl_protocol.proofs.Tabling.{home_put}
@@ -20,22 +23,37 @@ abbrev pub Comes : Option Flying → List Flying → List Flying → Type 0
 Comes None before rest = rest ≡ before
 Comes (Some f) before rest = Took f before rest
 
+-- the section that the tables of a node say is open
+abbrev pub expected : Option Home → Option Remote → Section
+expected (Some h) r = h.mine
+expected None (Some r) = r.here
+expected None None = section.Closed
+
+abbrev pub CountFits : Section → Type 0
+CountFits section.Closed = Unit {0}
+CountFits (section.Reading count) = count < 2 ^ 32
+CountFits section.Writing = Unit {0}
+
 -- An outcome of node i, with the message that came and the bytes that a write section leaves, does one of these
 -- to a region: nothing; an event at its home; an event at a node other than the home; where the region isn't there,
 -- nothing either; or it makes the region.
 pub data Acts (q : Name) (i : ℕ) (came : Option Flying) (written : Option (List ℕ)) (n m : Node) (posts : List Message) : Type 0 where
-  nothing : came ≡ None → written ≡ None → home_of m q ≡ home_of n q → m.remotes q ≡ n.remotes q → picks (flying q) posts ≡ [] → Acts q i came written n m posts
+  nothing : came ≡ None → written ≡ None → home_of m q ≡ home_of n q → m.remotes q ≡ n.remotes q → picks (flying q) posts ≡ []
+      → section_at q m.sections ≡ section_at q n.sections → Acts q i came written n m posts
   home_acts : (h : Home) (s : Served) → home_of n q ≡ Some h → home_of m q ≡ Some s.home → s.home.size ≡ h.size → m.remotes q ≡ n.remotes q → picks (flying q) posts ≡ sent s.posts
+      → s.home.mine ≡ section_at q m.sections → CountFits (section_at q m.sections)
       → ((g : Region) (rest : List Flying) → g.home ≡ h → Comes came g.flight rest → Happens q.home g (record (at_home s rest g) { array = bytes_after written g.array }))
       → Acts q i came written n m posts
   side_acts : (after : ℕ → Remote) (mails : List Mail) → home_of m q ≡ home_of n q → ((size : ℕ) → side size (m.remotes q) ≡ after size) → picks (flying q) posts ≡ sent_by i mails
+      → expected None (m.remotes q) ≡ section_at q m.sections → CountFits (section_at q m.sections)
       → ((g : Region) (rest : List Flying) → g.remotes i ≡ side g.home.size (n.remotes q) → SizeIs (n.remotes q) g.home.size → Comes came g.flight rest
       → Happens q.home g (record g { remotes = at_node g.remotes i (after g.home.size); flight = rest ++ sent_by i mails; array = bytes_after written g.array }))
       → Acts q i came written n m posts
 
-  absent : written ≡ None → (q.home == i) ≡ true → home_of n q ≡ None → home_of m q ≡ None → m.remotes q ≡ n.remotes q → picks (flying q) posts ≡ [] → Acts q i came written n m posts
-  made : (size : ℕ) → came ≡ None → written ≡ None → (q.home == i) ≡ true → home_of n q ≡ None → home_of m q ≡ Some (new_home n.nodes size) → m.remotes q ≡ n.remotes q
-      → picks (flying q) posts ≡ [] → Acts q i came written n m posts
+  absent : written ≡ None → (q.home == i) ≡ true → home_of n q ≡ None → home_of m q ≡ None → m.remotes q ≡ n.remotes q → picks (flying q) posts ≡ []
+      → section_at q m.sections ≡ section_at q n.sections → Acts q i came written n m posts
+  made : (size : ℕ) → came ≡ None → written ≡ Some (replicate size 0) → (q.home == i) ≡ true → home_of n q ≡ None → home_of m q ≡ Some (new_home n.nodes size) → m.remotes q ≡ n.remotes q
+      → picks (flying q) posts ≡ [] → section_at q m.sections ≡ section_at q n.sections → Acts q i came written n m posts
 
 pub acts_if : (q : Name) (i : ℕ) (came : Option Flying) (written : Option (List ℕ)) (n : Node) (b : Bool) (x y : Outcome) → (b ≡ true → Acts q i came written n x.node x.posts)
     → (b ≡ false → Acts q i came written n y.node y.posts) → let o = if b then x else y in Acts q i came written n o.node o.posts
@@ -97,42 +115,43 @@ home_is n name h e = go (is_mine n name) refl e
 -- a message more that isn't about copies
 pub acts_sending : (q : Name) (i : ℕ) (came : Option Flying) (written : Option (List ℕ)) (n m : Node) (posts : List Message) (x : Message) → flying q x ≡ None
     → Acts q i came written n m posts → Acts q i came written n m (posts ++ x ∷ [])
-acts_sending q i came written n m posts x e (nothing a b c d f) = nothing a b c d (more_none (flying q) posts x e ∙ f)
-acts_sending q i came written n m posts x e (home_acts h s a b c d f happens) = home_acts h s a b c d (more_none (flying q) posts x e ∙ f) happens
-acts_sending q i came written n m posts x e (side_acts after mails a b f happens) = side_acts after mails a b (more_none (flying q) posts x e ∙ f) happens
-acts_sending q i came written n m posts x e (absent a b c d f g) = absent a b c d f (more_none (flying q) posts x e ∙ g)
-acts_sending q i came written n m posts x e (made size a b c d f g k) = made size a b c d f g (more_none (flying q) posts x e ∙ k)
+acts_sending q i came written n m posts x e (nothing a b c d f o) = nothing a b c d (more_none (flying q) posts x e ∙ f) o
+acts_sending q i came written n m posts x e (home_acts h s a b c d f o p happens) = home_acts h s a b c d (more_none (flying q) posts x e ∙ f) o p happens
+acts_sending q i came written n m posts x e (side_acts after mails a b f o p happens) = side_acts after mails a b (more_none (flying q) posts x e ∙ f) o p happens
+acts_sending q i came written n m posts x e (absent a b c d f g o) = absent a b c d f (more_none (flying q) posts x e ∙ g) o
+acts_sending q i came written n m posts x e (made size a b c d f g k o) = made size a b c d f g (more_none (flying q) posts x e ∙ k) o
 
 -- A step at the home, for the name and for all others.
 pub home_here : (name : Name) (i : ℕ) (came : Option Flying) (written : Option (List ℕ)) (n m : Node) (h : Home) (s : Served) → home_of n name ≡ Some h
     → home_of m name ≡ home_of (with_home name s.home n) name → m.remotes name ≡ n.remotes name → s.home.size ≡ h.size
+    → s.home.mine ≡ section_at name m.sections → CountFits (section_at name m.sections)
     → ((g : Region) (rest : List Flying) → g.home ≡ h → Comes came g.flight rest → Happens name.home g (record (at_home s rest g) { array = bytes_after written g.array }))
     → Acts name i came written n m (letters n name s.posts)
-home_here name i came written n m h s e there same size happens =
-    home_acts h s e (there ∙ (home_put n name h s.home e name ∙ cond-true (name_eq name name) _ _ (name_self name))) size same (letters_here n name s.posts (home_is n name h e)) happens
+home_here name i came written n m h s e there same size mine count happens =
+    home_acts h s e (there ∙ (home_put n name h s.home e name ∙ cond-true (name_eq name name) _ _ (name_self name))) size same (letters_here n name s.posts (home_is n name h e)) mine count happens
 
 pub home_there : (name q : Name) (i : ℕ) (n m : Node) (h : Home) (s : Served) → home_of n name ≡ Some h → home_of m q ≡ home_of (with_home name s.home n) q
-    → m.remotes q ≡ n.remotes q → name_eq name q ≡ false → Acts q i None None n m (letters n name s.posts)
-home_there name q i n m h s e there same other =
-    nothing refl refl (there ∙ (home_put n name h s.home e q ∙ cond-false (name_eq name q) _ _ other)) same (letters_there n name q s.posts other)
+    → m.remotes q ≡ n.remotes q → section_at q m.sections ≡ section_at q n.sections → name_eq name q ≡ false → Acts q i None None n m (letters n name s.posts)
+home_there name q i n m h s e there same sections other =
+    nothing refl refl (there ∙ (home_put n name h s.home e q ∙ cond-false (name_eq name q) _ _ other)) same (letters_there n name q s.posts other) sections
 
 -- a step at another node's side
 pub moved_here : (name : Name) (i : ℕ) (came : Option Flying) (written : Option (List ℕ)) (n m : Node) (r : Remote) (s : Moved) → n.remotes name ≡ Some r → m.remotes name ≡ Some s.remote
-    → home_of m name ≡ home_of n name → n.me ≡ i → (i == name.home) ≡ false
+    → home_of m name ≡ home_of n name → n.me ≡ i → (i == name.home) ≡ false → s.remote.here ≡ section_at name m.sections → CountFits (section_at name m.sections)
     → ((g : Region) (rest : List Flying) → g.remotes i ≡ r → r.size ≡ g.home.size → Comes came g.flight rest → Happens name.home g (record (at_remote i s rest g) { array = bytes_after written g.array }))
     → Acts name i came written n m (mails n name s.posts)
-moved_here name i came written n m r s e after home me other happens =
-    side_acts (λ size. s.remote) s.posts home (λ size. ap (λ o. side size o) after) (mails_here n name i s.posts me other)
+moved_here name i came written n m r s e after home me other here count happens =
+    side_acts (λ size. s.remote) s.posts home (λ size. ap (λ o. side size o) after) (mails_here n name i s.posts me other) (ap (λ o. expected None o) after ∙ here) count
     (λ g rest at_i sized comes. happens g rest (at_i ∙ ap (λ o. side g.home.size o) e) (subst (λ o. SizeIs o g.home.size) e sized) comes)
 
-pub moved_there : (name q : Name) (i : ℕ) (n m : Node) (posts : List Mail) → m.remotes q ≡ n.remotes q → home_of m q ≡ home_of n q → name_eq name q ≡ false → Acts q i None None n m (mails n name posts)
-moved_there name q i n m posts same home other = nothing refl refl home same (mails_there n name q posts other)
+pub moved_there : (name q : Name) (i : ℕ) (n m : Node) (posts : List Mail) → m.remotes q ≡ n.remotes q → home_of m q ≡ home_of n q → section_at q m.sections ≡ section_at q n.sections → name_eq name q ≡ false → Acts q i None None n m (mails n name posts)
+moved_there name q i n m posts same home sections other = nothing refl refl home same (mails_there n name q posts other) sections
 
 -- a name is forgotten
-pub forgotten_here : (name : Name) (i : ℕ) (n m : Node) (r : Remote) → n.remotes name ≡ Some r → m.remotes name ≡ None → home_of m name ≡ home_of n name → n.me ≡ i → (i == name.home) ≡ false
+pub forgotten_here : (name : Name) (i : ℕ) (n m : Node) (r : Remote) → n.remotes name ≡ Some r → m.remotes name ≡ None → home_of m name ≡ home_of n name → n.me ≡ i → (i == name.home) ≡ false → section.Closed ≡ section_at name m.sections
     → ((g : Region) → g.remotes i ≡ r → Happens name.home g (record (at_remote i (remote_flushes r) g.flight g) { remotes = at_node g.remotes i (new_remote g.home.size) }))
     → Acts name i None None n m (mails n name (remote_flushes r).posts)
-forgotten_here name i n m r e after home me other happens =
-    side_acts (λ size. new_remote size) (remote_flushes r).posts home (λ size. ap (λ o. side size o) after) (mails_here n name i (remote_flushes r).posts me other)
+forgotten_here name i n m r e after home me other closed happens =
+    side_acts (λ size. new_remote size) (remote_flushes r).posts home (λ size. ap (λ o. side size o) after) (mails_here n name i (remote_flushes r).posts me other) (ap (λ o. expected None o) after ∙ closed) (subst (λ x. CountFits x) closed tt)
     (λ g rest at_i sized comes. subst (λ x. Happens name.home g (record g { remotes = at_node g.remotes i (new_remote g.home.size); flight = x ++ sent_by i (remote_flushes r).posts; array = g.array }))
     (sym comes) (happens g (at_i ∙ ap (λ o. side g.home.size o) e)))

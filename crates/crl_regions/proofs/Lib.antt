@@ -5,4 +5,5 @@ mod Kept
 mod Lift
 mod Messages
 mod Moves
+mod Opened
 mod Sections

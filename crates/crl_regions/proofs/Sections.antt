@@ -12,7 +12,7 @@ use Rattle.crl_protocol.specs.Home.{Home, Served, home_starts, home_ends_read, h
 use Rattle.crl_protocol.specs.Remote.{Remote, Moved, remote_starts, remote_ends_read, remote_ends_write, remote_flushes, is_closed}
 use Rattle.crl_protocol.specs.Leases.{Mapping}
 use Rattle.crl_protocol.specs.Node.{Node, Outcome, Free, COUNT_LIMIT, is_mine, home_of, with_home, with_remote, section_opens}
-use Rattle.crl_protocol.specs.Sectioning.{starts_or_waits, home_start, remote_start, starts_remote, starts_home, starts, moved, left_home, closes, ends_remote, ends_home, ends_read, ends_write, flushes_remote, flushes}
+use Rattle.crl_protocol.specs.Sectioning.{copy_bytes, starts_or_waits, home_start, remote_start, starts_remote, starts_home, starts, moved, left_home, closes, ends_remote, ends_home, ends_read, ends_write, flushes_remote, flushes}
 use Rattle.crl_protocol.specs.Sections.{Record, section_of, section_at, count_of, record_bytes, section_ends, section_begins, bytes_at}
 use Rattle.crl_protocol.specs.Verdict.{of_start, of_end, of_open}
 use Rattle.crl_protocol.proofs.Fitting.{by_test, by_name, name_self, NoOwn, QueueFits, AskingFits, RecordFits, IsCached, Fits, SizeIs}
@@ -21,18 +21,8 @@ use Rattle.crl_protocol.proofs.Outcomes.{home_bytes, remote_bytes, queue_of, ask
 use Rattle.crl_protocol.proofs.Serving.{HomeGoes, read_goes, write_goes, HomeStarts, starts_fit}
 use Rattle.crl_coherence.specs.Region as region
 use Rattle.crl_coherence.specs.Region.{Flying, Region, Happens, at_home, at_remote, IsIdle, MayStart}
-use Rattle.crl_regions.proofs.Acts.{Comes, Acts, nothing, acts_if, home_is, home_here, home_there, moved_here, moved_there, forgotten_here}
-
--- the section that the tables of a node say is open
-abbrev pub expected : Option Home → Option Remote → Section
-expected (Some h) r = h.mine
-expected None (Some r) = r.here
-expected None None = section.Closed
-
-abbrev pub CountFits : Section → Type 0
-CountFits section.Closed = Unit {0}
-CountFits (section.Reading count) = count < 2 ^ 32
-CountFits section.Writing = Unit {0}
+use Rattle.crl_regions.proofs.Opened.{begun, home_begun, side_begun, noted_begun, noted_other}
+use Rattle.crl_regions.proofs.Acts.{expected, CountFits, Comes, Acts, nothing, acts_if, home_is, home_here, home_there, moved_here, moved_there, forgotten_here}
 
 -- What holds of node i: besides sizes and asks, the sections that it notes are those of its tables, and what it
 -- has of regions that aren't mapped is cached.
@@ -111,47 +101,63 @@ closed_of section.Closed e = refl
 closed_of (section.Reading count) e = cc
 closed_of section.Writing e = cc
 
+count_begun : (write : Bool) (s : Section) → MayStart write s → CountFits (begun write s)
+count_begun true s may = tt
+count_begun false section.Closed may = let few : 1 < 2 ^ 32 = omega arith in few
+count_begun false (section.Reading count) may = may
+count_begun false section.Writing may = tt
+
 -- The start of a section at the home.
-start_home : (i : ℕ) (d : Name → List ℕ) (n : Node) (write : Bool) (name : Name) (h : Home) → home_of (free n) name ≡ Some h → MayStart write h.mine → Fits i (free n) d
+start_home : (i : ℕ) (d : Name → List ℕ) (n : Node) (write : Bool) (name : Name) (h : Home) → home_of (free n) name ≡ Some h → MayStart write (section_at name n.sections) → Local i d (free n)
     → (q : Name) → let o = home_start write name (home_starts n.me write h) (free n) in Acts q i None None (free n) o.node o.posts
 unfolding section_opens
-start_home i d n write name h e may f =
+start_home i d n write name h e may l =
+    let f = l.fits in
     let none = free_idle n.me name h (queue_of i d (free n) name h e f) in
     let s = home_starts n.me write h in
     let goes = starts_fit n.me write h (home_bytes i d (free n) name h e f) none in
     let me : n.me ≡ name.home = eqb-true n.me name.home (home_is (free n) name h e) in
+    let mine = mine_is i d (free n) name h e l in
+    let open_now = home_begun n.me write h none in
     let happens : (g : Region) (rest : List Flying) → g.home ≡ h → Comes None g.flight rest → Happens name.home g (record (at_home s rest g) { array = g.array }) =
         λ g rest at_h comes. home_event n.me name.home h (λ k x. home_starts k write x) g rest g.array me at_h
         (subst (λ x. Happens name.home g (at_home (home_starts name.home write g.home) x g)) (sym comes)
-        (region.home_start write (subst (λ x. MayStart write x.mine) (sym at_h) may) (subst (λ k. IsIdle k g.home.queue) me (subst (λ (x : Home). IsIdle n.me x.queue) (sym at_h) (idle_of n.me h.queue none))))) in
+        (region.home_start write (subst (λ x. MayStart write x.mine) (sym at_h) (subst (λ x. MayStart write x) (sym mine) may))
+        (subst (λ k. IsIdle k g.home.queue) me (subst (λ (x : Home). IsIdle n.me x.queue) (sym at_h) (idle_of n.me h.queue none))))) in
+    let noted = noted_begun write name s.home.bytes n.sections in
     by_name name (λ b q. let o = home_start write name s (free n) in Acts q i None None (free n) o.node o.posts)
     (acts_if name i None None (free n) s.opened _ _
-    (λ w. home_here name i None None (free n) _ h s e refl refl goes.size happens)
-    (λ w. home_here name i None None (free n) _ h s e refl refl goes.size happens))
+    (λ w. home_here name i None None (free n) _ h s e refl refl goes.size (open_now.0 w ∙ ap (λ x. begun write x) mine ∙ sym noted) (subst (λ x. CountFits x) (sym noted) (count_begun write _ may)) happens)
+    (λ w. home_here name i None None (free n) _ h s e refl refl goes.size (open_now.1 w ∙ mine) (l.counts name) happens))
     (λ q other. acts_if q i None None (free n) s.opened _ _
-    (λ w. home_there name q i (free n) _ h s e refl refl other)
-    (λ w. home_there name q i (free n) _ h s e refl refl other))
+    (λ w. home_there name q i (free n) _ h s e refl refl (noted_other write name q s.home.bytes n.sections other) other)
+    (λ w. home_there name q i (free n) _ h s e refl refl refl other))
 
 -- and at another node
-start_side : (i : ℕ) (d : Name → List ℕ) (n : Node) (write : Bool) (name : Name) (r : Remote) → n.remotes name ≡ Some r → MayStart write r.here → Fits i (free n) d
+start_side : (i : ℕ) (d : Name → List ℕ) (n : Node) (write : Bool) (name : Name) (r : Remote) → n.remotes name ≡ Some r → MayStart write (section_at name n.sections) → Local i d (free n)
     → (q : Name) → let o = remote_start write name (remote_starts write r) (free n) in Acts q i None None (free n) o.node o.posts
 unfolding section_opens
-start_side i d n write name r e may f =
+start_side i d n write name r e may l =
+    let f = l.fits in
     let idle = free_asks name r (asking_of i d (free n) name r e f) in
     let s = remote_starts write r in
     let other_home = away i d (free n) name r e f in
+    let here = here_is i d (free n) name r e l in
+    let open_now = side_begun write r in
     let put : (with_remote name (Some s.remote) (free n)).remotes name ≡ Some s.remote = cond-true (name_eq name name) _ _ (name_self name) in
     let happens : (g : Region) (rest : List Flying) → g.remotes i ≡ r → r.size ≡ g.home.size → Comes None g.flight rest → Happens name.home g (record (at_remote i s rest g) { array = g.array }) =
         λ g rest at_i sized comes. side_event name.home i r (λ x. remote_starts write x) g rest g.array at_i
         (subst (λ x. Happens name.home g (at_remote i (remote_starts write (g.remotes i)) x g)) (sym comes)
-        (region.start i write (eqb-false i name.home other_home) (subst (λ (x : Remote). MayStart write x.here) (sym at_i) may) (ap (λ (x : Remote). x.asking) at_i ∙ idle) (ap (λ (x : Remote). x.size) at_i ∙ sized))) in
+        (region.start i write (eqb-false i name.home other_home) (subst (λ (x : Remote). MayStart write x.here) (sym at_i) (subst (λ x. MayStart write x) (sym here) may))
+        (ap (λ (x : Remote). x.asking) at_i ∙ idle) (ap (λ (x : Remote). x.size) at_i ∙ sized))) in
+    let noted = noted_begun write name (copy_bytes s.remote.copy) n.sections in
     by_name name (λ b q. let o = remote_start write name s (free n) in Acts q i None None (free n) o.node o.posts)
     (acts_if name i None None (free n) s.opened _ _
-    (λ w. moved_here name i None None (free n) _ r s e put refl f.me other_home happens)
-    (λ w. moved_here name i None None (free n) _ r s e put refl f.me other_home happens))
+    (λ w. moved_here name i None None (free n) _ r s e put refl f.me other_home (open_now.0 w ∙ ap (λ x. begun write x) here ∙ sym noted) (subst (λ x. CountFits x) (sym noted) (count_begun write _ may)) happens)
+    (λ w. moved_here name i None None (free n) _ r s e put refl f.me other_home (open_now.1 w ∙ here) (l.counts name) happens))
     (λ q other. acts_if q i None None (free n) s.opened _ _
-    (λ w. moved_there name q i (free n) _ s.posts (cond-false (name_eq name q) _ _ other) refl other)
-    (λ w. moved_there name q i (free n) _ s.posts (cond-false (name_eq name q) _ _ other) refl other))
+    (λ w. moved_there name q i (free n) _ s.posts (cond-false (name_eq name q) _ _ other) refl (noted_other write name q (copy_bytes s.remote.copy) n.sections other) other)
+    (λ w. moved_there name q i (free n) _ s.posts (cond-false (name_eq name q) _ _ other) refl refl other))
 
 pub acts_start : (i : ℕ) (d : Name → List ℕ) (n : Node) (write : Bool) (name : Name) → of_start write (section_at name n.sections) ≡ None → Local i d (free n)
     → (q : Name) → let o = starts write name (free n) in Acts q i None None (free n) o.node o.posts
@@ -161,9 +167,9 @@ acts_start i d n write name v l = at_home_or (home_of (free n) name) refl
     may = may_start write (section_at name n.sections) (l.counts name) v
 
     at_side_or : (o : Option Remote) → n.remotes name ≡ o → (q : Name) → let o = starts_remote write name o (free n) in Acts q i None None (free n) o.node o.posts
-    at_side_or None e q = nothing refl refl refl refl refl
-    at_side_or (Some r) e q = start_side i d n write name r e (subst (λ x. MayStart write x) (sym (here_is i d (free n) name r e l)) may) l.fits q
+    at_side_or None e q = nothing refl refl refl refl refl refl
+    at_side_or (Some r) e q = start_side i d n write name r e may l q
 
     at_home_or : (o : Option Home) → home_of (free n) name ≡ o → (q : Name) → let o = starts_home write name o (free n) in Acts q i None None (free n) o.node o.posts
     at_home_or None e q = at_side_or (n.remotes name) refl q
-    at_home_or (Some h) e q = start_home i d n write name h e (subst (λ x. MayStart write x) (sym (mine_is i d (free n) name h e l)) may) l.fits q
+    at_home_or (Some h) e q = start_home i d n write name h e may l q

@@ -1,5 +1,5 @@
 -- What a region looks like in a world of all nodes.
-use Rattle.std.specs.Prelude.{ℕ, ◌==◌, Bool, true, false, if◌then◌else◌, List, [], ◌∷◌}
+use Rattle.std.specs.Prelude.{ℕ, ◌==◌, Bool, true, false, if◌then◌else◌, List, [], ◌∷◌, replicate}
 use Rattle.std.specs.declared.option.Option.{Option}
 use Rattle.std.specs.declared.option.Option.TheVariants.{None, Some}
 use Rattle.crl_model.specs.declared.name.Name.{Name}
@@ -16,7 +16,7 @@ use Rattle.crl_protocol.specs.Places.{picks}
 use Rattle.crl_protocol.specs.Mail.{Mail, Ask, Grant, Recall, Yield, Return, Release}
 use Rattle.crl_protocol.specs.Home.{Home, new_home, bytes_after}
 use Rattle.crl_protocol.specs.Remote.{Remote, new_remote}
-use Rattle.crl_protocol.specs.Node.{Node, home_of}
+use Rattle.crl_protocol.specs.Node.{Node, next_name, home_of}
 use Rattle.crl_protocol.specs.Verdict.{verdict}
 use Rattle.crl_protocol.specs.World.{World, flight}
 use Rattle.crl_coherence.specs.Region.{Flying, Region}
@@ -71,13 +71,19 @@ table_or_blank (Some h) = h
 abbrev pub view : Name → List ℕ → World → Region
 view q array w = sight q (table_or_blank (table_of q w)) w.nodes (flight w) array
 
--- the bytes that an event leaves of the region in the array: those of a write section of it that ends
+-- The bytes that an event leaves of the region in the array: zeros where it is created, and those of a write
+-- section of it that ends.
 abbrev pub left_if : Bool → Option Refusal → List ℕ → Option (List ℕ)
 left_if true None bytes = Some bytes
 left_if _ _ bytes = None
 
+abbrev pub left_in : Name → Node → Option Refusal → Call → Option (List ℕ)
+left_in q n o (call.Create size) = left_if (name_eq (next_name n) q) o (replicate size 0)
+left_in q n o (call.EndWrite name bytes) = left_if (name_eq name q) o bytes
+left_in q n o _ = None
+
 abbrev pub left_by : Name → Event → World → Option (List ℕ)
-left_by q (event.Call i (call.EndWrite name bytes)) w = left_if (name_eq name q) (verdict (w.nodes i) (call.EndWrite name bytes)) bytes
+left_by q (event.Call i c) w = left_in q (w.nodes i) (verdict (w.nodes i) c) c
 left_by q _ w = None
 
 abbrev pub array_after : Name → Event → World → List ℕ → List ℕ
