@@ -1,6 +1,7 @@
 mod Acts
 mod Calls
 mod Ends
+mod Houses
 mod Kept
 mod Lift
 mod Messages
