@@ -181,8 +181,12 @@ put_in name size me maps remotes part P away fresh cached others once held =
         (λ r p w n. (size, put_last new part)) (λ q other r p w n. let c = held q r p w n in (c.0, put_stays q c.0 new part c.1))
 
 -- what is left after the name was put into the cache, but for the name that the cache gives up
+abbrev pub LeftBut : Option Name → ℕ → (Name → Option Mapping) → (Name → Option Remote) → List Kept → Type 0
+LeftBut None me maps remotes cache = Houses me maps remotes cache
+LeftBut (Some old) me maps remotes cache = HousesBut old me maps remotes cache
+
 abbrev pub Left : ℕ → (Name → Option Mapping) → (Name → Option Remote) → Keeps → Type 0
-Left me maps remotes k = elim k.evicted [ None ↦ Houses me maps remotes k.cache | Some old ↦ HousesBut old me maps remotes k.cache ]
+Left me maps remotes k = LeftBut k.evicted me maps remotes k.cache
 
 push_left : (name : Name) (size : ℕ) (me : ℕ) (maps : Name → Option Mapping) (remotes : Name → Option Remote) (cache : List Kept) → (name.home == me) ≡ false → ((z : ℕ) → IsCached name z cache → ⊥)
     → Houses me maps remotes cache → Left me (at_name maps name None) remotes (push_out (record { name = name; size = size }) cache)
