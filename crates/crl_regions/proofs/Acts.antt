@@ -16,6 +16,7 @@ use Rattle.crl_protocol.proofs.Fitting.{name_self, other_name, SizeIs}
 use Rattle.crl_protocol.proofs.Tabling.{home_put}
 use Rattle.crl_coherence.specs.Region.{Flying, Region, Happens, sent, sent_by, at_home, at_remote, forget}
 use Rattle.crl_coherence.proofs.Lists.{picked_none, picked_some, more_none}
+use Rattle.crl_regions.proofs.Near.{Near}
 use Rattle.crl_regions.specs.View.{if_about, mail_in, other_end, flown, flying, side}
 
 -- a message that comes is taken out of those under way, and without one they stay
@@ -34,6 +35,11 @@ CountFits section.Closed = Unit {0}
 CountFits (section.Reading count) = count < 2 ^ 32
 CountFits section.Writing = Unit {0}
 
+-- the node of a message that comes is one of so many
+abbrev pub FromNear : ℕ → Option Flying → Type 0
+FromNear count None = Unit {0}
+FromNear count (Some f) = f.node < count
+
 -- An outcome of node i, with the message that came and the bytes that a write section leaves, does one of these
 -- to a region: nothing; an event at its home; an event at a node other than the home; where the region isn't there,
 -- nothing either; or it makes the region.
@@ -41,7 +47,7 @@ pub data Acts (q : Name) (i : ℕ) (came : Option Flying) (written : Option (Lis
   nothing : came ≡ None → written ≡ None → home_of m q ≡ home_of n q → m.remotes q ≡ n.remotes q → picks (flying q) posts ≡ []
       → section_at q m.sections ≡ section_at q n.sections → Acts q i came written n m posts
   home_acts : (h : Home) (s : Served) → home_of n q ≡ Some h → home_of m q ≡ Some s.home → s.home.size ≡ h.size → m.remotes q ≡ n.remotes q → picks (flying q) posts ≡ sent s.posts
-      → s.home.mine ≡ section_at q m.sections → CountFits (section_at q m.sections)
+      → s.home.mine ≡ section_at q m.sections → CountFits (section_at q m.sections) → ((count : ℕ) → i < count → FromNear count came → Near q.home count h → Near q.home count s.home)
       → ((g : Region) (rest : List Flying) → g.home ≡ h → Comes came g.flight rest → Happens q.home g (record (at_home s rest g) { array = bytes_after written g.array }))
       → Acts q i came written n m posts
   side_acts : (after : ℕ → Remote) (mails : List Mail) → home_of m q ≡ home_of n q → ((size : ℕ) → side size (m.remotes q) ≡ after size) → picks (flying q) posts ≡ sent_by i mails
@@ -116,7 +122,7 @@ home_is n name h e = go (is_mine n name) refl e
 pub acts_sending : (q : Name) (i : ℕ) (came : Option Flying) (written : Option (List ℕ)) (n m : Node) (posts : List Message) (x : Message) → flying q x ≡ None
     → Acts q i came written n m posts → Acts q i came written n m (posts ++ x ∷ [])
 acts_sending q i came written n m posts x e (nothing a b c d f o) = nothing a b c d (more_none (flying q) posts x e ∙ f) o
-acts_sending q i came written n m posts x e (home_acts h s a b c d f o p happens) = home_acts h s a b c d (more_none (flying q) posts x e ∙ f) o p happens
+acts_sending q i came written n m posts x e (home_acts h s a b c d f o p near happens) = home_acts h s a b c d (more_none (flying q) posts x e ∙ f) o p near happens
 acts_sending q i came written n m posts x e (side_acts after mails a b f o p happens) = side_acts after mails a b (more_none (flying q) posts x e ∙ f) o p happens
 acts_sending q i came written n m posts x e (absent a b c d f g o) = absent a b c d f (more_none (flying q) posts x e ∙ g) o
 acts_sending q i came written n m posts x e (made size a b c d f g k o) = made size a b c d f g (more_none (flying q) posts x e ∙ k) o
@@ -124,11 +130,11 @@ acts_sending q i came written n m posts x e (made size a b c d f g k o) = made s
 -- A step at the home, for the name and for all others.
 pub home_here : (name : Name) (i : ℕ) (came : Option Flying) (written : Option (List ℕ)) (n m : Node) (h : Home) (s : Served) → home_of n name ≡ Some h
     → home_of m name ≡ home_of (with_home name s.home n) name → m.remotes name ≡ n.remotes name → s.home.size ≡ h.size
-    → s.home.mine ≡ section_at name m.sections → CountFits (section_at name m.sections)
+    → s.home.mine ≡ section_at name m.sections → CountFits (section_at name m.sections) → ((count : ℕ) → i < count → FromNear count came → Near name.home count h → Near name.home count s.home)
     → ((g : Region) (rest : List Flying) → g.home ≡ h → Comes came g.flight rest → Happens name.home g (record (at_home s rest g) { array = bytes_after written g.array }))
     → Acts name i came written n m (letters n name s.posts)
-home_here name i came written n m h s e there same size mine count happens =
-    home_acts h s e (there ∙ (home_put n name h s.home e name ∙ cond-true (name_eq name name) _ _ (name_self name))) size same (letters_here n name s.posts (home_is n name h e)) mine count happens
+home_here name i came written n m h s e there same size mine count near happens =
+    home_acts h s e (there ∙ (home_put n name h s.home e name ∙ cond-true (name_eq name name) _ _ (name_self name))) size same (letters_here n name s.posts (home_is n name h e)) mine count near happens
 
 pub home_there : (name q : Name) (i : ℕ) (n m : Node) (h : Home) (s : Served) → home_of n name ≡ Some h → home_of m q ≡ home_of (with_home name s.home n) q
     → m.remotes q ≡ n.remotes q → section_at q m.sections ≡ section_at q n.sections → name_eq name q ≡ false → Acts q i None None n m (letters n name s.posts)

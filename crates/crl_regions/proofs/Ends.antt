@@ -21,6 +21,7 @@ use Rattle.crl_coherence.specs.Region as region
 use Rattle.crl_coherence.specs.Region.{Flying, Region, Happens, at_home, at_remote, IsIdle}
 use Rattle.crl_regions.specs.View.{left_if}
 use Rattle.crl_regions.proofs.Opened.{ended, read_ended, write_ended, read_left, write_left, flushes_same, noted_ended, ended_other}
+use Rattle.crl_regions.proofs.Near.{Near, near_read, near_write}
 use Rattle.crl_regions.proofs.Acts.{expected, CountFits, Comes, Acts, nothing, acts_if, home_is, home_here, home_there, moved_here, moved_there, forgotten_here}
 use Rattle.crl_regions.proofs.Sections.{Local, idle_of, free_idle, free_asks, away, no_table, mine_is, here_is, home_event, side_event, reading_of, writing_of, closed_of}
 
@@ -28,17 +29,20 @@ use Rattle.crl_regions.proofs.Sections.{Local, idle_of, free_idle, free_asks, aw
 abbrev HomeEnds : Name → Home → Served → Option (List ℕ) → Type 0
 HomeEnds name h s written = (g : Region) (rest : List Flying) → g.home ≡ h → Comes None g.flight rest → Happens name.home g (record (at_home s rest g) { array = bytes_after written g.array })
 
+abbrev NearStays : Name → Home → Served → Type 0
+NearStays name h s = (count : ℕ) → Near name.home count h → Near name.home count s.home
+
 abbrev SideEnds : Name → ℕ → Remote → Moved → Option (List ℕ) → Type 0
 SideEnds name i r s written = (g : Region) (rest : List Flying) → g.remotes i ≡ r → r.size ≡ g.home.size → Comes None g.flight rest
     → Happens name.home g (record (at_remote i s rest g) { array = bytes_after written g.array })
 
 home_ends : (i : ℕ) (n : Node) (name : Name) (h : Home) (s : Served) (written : Bool → Option (List ℕ)) → written false ≡ None → home_of n name ≡ Some h
-    → s.home.size ≡ h.size → s.home.mine ≡ ended (section_at name n.sections) → CountFits (ended (section_at name n.sections)) → HomeEnds name h s (written true)
+    → s.home.size ≡ h.size → s.home.mine ≡ ended (section_at name n.sections) → CountFits (ended (section_at name n.sections)) → NearStays name h s → HomeEnds name h s (written true)
     → (q : Name) → let o = left_home name s (closes name n) in Acts q i None (written (name_eq name q)) n o.node o.posts
 unfolding left_home
-home_ends i n name h s written none e size mine count happens =
+home_ends i n name h s written none e size mine count near happens =
     by_name name (λ b q. let o = left_home name s (closes name n) in Acts q i None (written b) n o.node o.posts)
-    (home_here name i None (written true) n _ h s e refl refl size (mine ∙ sym (noted_ended name n.sections)) (subst (λ x. CountFits x) (sym (noted_ended name n.sections)) count) happens)
+    (home_here name i None (written true) n _ h s e refl refl size (mine ∙ sym (noted_ended name n.sections)) (subst (λ x. CountFits x) (sym (noted_ended name n.sections)) count) (λ k few c x. near k x) happens)
     (λ q other. subst (λ x. let o = left_home name s (closes name n) in Acts q i None x n o.node o.posts) (sym none) (home_there name q i n _ h s e refl refl (ended_other name q n.sections other) other))
 
 pub side_moves : (i : ℕ) (n : Node) (x : Sections) (name : Name) (r : Remote) (s : Moved) (written : Bool → Option (List ℕ)) → written false ≡ None → n.remotes name ≡ Some r
@@ -56,7 +60,7 @@ side_moves i n x name r s written none e me other_home here count others happens
 ends_either : (i : ℕ) (d : Name → List ℕ) (n : Node) (name : Name) (ends_here : Home → Served) (ends : Remote → Moved) (written : Bool → Option (List ℕ)) → written false ≡ None
     → (section_at name n.sections ≡ section.Closed → ⊥) → Local i d (free n)
     → CountFits (ended (section_at name n.sections))
-    → ((h : Home) → home_of (free n) name ≡ Some h → ((ends_here h).home.size ≡ h.size) × ((ends_here h).home.mine ≡ ended (section_at name n.sections)) × HomeEnds name h (ends_here h) (written true))
+    → ((h : Home) → home_of (free n) name ≡ Some h → ((ends_here h).home.size ≡ h.size) × ((ends_here h).home.mine ≡ ended (section_at name n.sections)) × NearStays name h (ends_here h) × HomeEnds name h (ends_here h) (written true))
     → ((r : Remote) → n.remotes name ≡ Some r → ((ends r).remote.here ≡ ended (section_at name n.sections)) × SideEnds name i r (ends r) (written true))
     → (q : Name) → let o = ends_home name ends_here ends (home_of (free n) name) (closes name (free n)) in Acts q i None (written (name_eq name q)) (free n) o.node o.posts
 ends_either i d n name ends_here ends written none is_open l count home_fits side_fits = at_home_or (home_of (free n) name) refl
@@ -70,7 +74,7 @@ ends_either i d n name ends_here ends written none is_open l count home_fits sid
     at_home_or : (o : Option Home) → home_of (free n) name ≡ o
         → (q : Name) → let o = ends_home name ends_here ends o (closes name (free n)) in Acts q i None (written (name_eq name q)) (free n) o.node o.posts
     at_home_or None e = at_side_or (n.remotes name) refl e
-    at_home_or (Some h) e = home_ends i (free n) name h (ends_here h) written none e (home_fits h e).0 (home_fits h e).1 count (home_fits h e).2
+    at_home_or (Some h) e = home_ends i (free n) name h (ends_here h) written none e (home_fits h e).0 (home_fits h e).1 count (home_fits h e).2 (home_fits h e).3
 
 -- the table of a home that is free, and its number
 home_idle : (i : ℕ) (d : Name → List ℕ) (n : Node) (name : Name) (h : Home) → home_of (free n) name ≡ Some h → Fits i (free n) d
@@ -97,11 +101,12 @@ acts_end_read i d n name v l =
     count : CountFits (ended (section_at name n.sections))
     count = subst (λ x. CountFits (ended x)) (sym reading.1) less
 
-    at_h : (h : Home) → home_of (free n) name ≡ Some h → ((home_ends_read n.me h).home.size ≡ h.size) × ((home_ends_read n.me h).home.mine ≡ ended (section_at name n.sections)) × HomeEnds name h (home_ends_read n.me h) None
+    at_h : (h : Home) → home_of (free n) name ≡ Some h → ((home_ends_read n.me h).home.size ≡ h.size) × ((home_ends_read n.me h).home.mine ≡ ended (section_at name n.sections)) × NearStays name h (home_ends_read n.me h) × HomeEnds name h (home_ends_read n.me h) None
     at_h h e =
         let idle = home_idle i d n name h e l.fits in
         let mine : h.mine ≡ section.Reading (reading.0 + 1) = mine_is i d (free n) name h e l ∙ reading.1 in
-        ((read_goes n.me h (home_bytes i d (free n) name h e l.fits)).size, read_ended n.me h idle.1 ∙ ap one_less mine ∙ sym (ap ended reading.1), λ g rest at_g comes.
+        ((read_goes n.me h (home_bytes i d (free n) name h e l.fits)).size, read_ended n.me h idle.1 ∙ ap one_less mine ∙ sym (ap ended reading.1),
+        λ k x. subst (λ y. Near y k (home_ends_read n.me h).home) idle.0 (near_read n.me k h (subst (λ y. Near y k h) (sym idle.0) x)).near, λ g rest at_g comes.
         home_event n.me name.home h (λ k x. home_ends_read k x) g rest g.array idle.0 at_g
         (subst (λ x. Happens name.home g (at_home (home_ends_read name.home g.home) x g)) (sym comes)
         (region.home_end_read reading.0 (ap (λ (x : Home). x.mine) at_g ∙ mine) (idle.2 g at_g))))
@@ -125,12 +130,13 @@ acts_end_write i d n name after v same l =
     size : (k : Mapping) × (n.maps name ≡ Some k) × (length (bytes_at name n.sections) ≡ k.size)
     size = open_size (n.sections.records name) (n.maps name) (ap is_writing writing) (l.fits.each name).sections
 
-    at_h : (h : Home) → home_of (free n) name ≡ Some h → ((home_ends_write n.me after h).home.size ≡ h.size) × ((home_ends_write n.me after h).home.mine ≡ ended (section_at name n.sections)) × HomeEnds name h (home_ends_write n.me after h) (Some after)
+    at_h : (h : Home) → home_of (free n) name ≡ Some h → ((home_ends_write n.me after h).home.size ≡ h.size) × ((home_ends_write n.me after h).home.mine ≡ ended (section_at name n.sections)) × NearStays name h (home_ends_write n.me after h) × HomeEnds name h (home_ends_write n.me after h) (Some after)
     at_h h e =
         let idle = home_idle i d n name h e l.fits in
         let mine : h.mine ≡ section.Writing = mine_is i d (free n) name h e l ∙ writing in
         let sized : length after ≡ h.size = same ∙ size.2 ∙ mapped_home i d (free n) name h size.0 e size.1 l.fits in
-        ((write_goes n.me after h sized).size, write_ended n.me after h idle.1 ∙ sym (ap ended writing), λ g rest at_g comes.
+        ((write_goes n.me after h sized).size, write_ended n.me after h idle.1 ∙ sym (ap ended writing),
+        λ k x. subst (λ y. Near y k (home_ends_write n.me after h).home) idle.0 (near_write n.me k after h (subst (λ y. Near y k h) (sym idle.0) x)).near, λ g rest at_g comes.
         home_event n.me name.home h (λ k x. home_ends_write k after x) g rest after idle.0 at_g
         (subst (λ x. Happens name.home g (record (at_home (home_ends_write name.home after g.home) x g) { array = after })) (sym comes)
         (region.home_end_write after (ap (λ (x : Home). x.mine) at_g ∙ mine) (idle.2 g at_g) (sized ∙ sym (ap (λ (x : Home). x.size) at_g)))))

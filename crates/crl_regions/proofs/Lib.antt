@@ -6,5 +6,6 @@ mod Kept
 mod Lift
 mod Messages
 mod Moves
+mod Near
 mod Opened
 mod Sections

@@ -72,7 +72,7 @@ lift q i before after n m bb ba posts rest came written h array o there sized co
       finish q.home g g k elsewhere refl (λ j. sym (ap (λ x. side h.size x) (remotes_stay q i before after n m o f j))) (sym (ap (λ w. bytes_after w array) unwritten))
       (subst (λ l. Moves l k.flight) (ap (λ l. rest ++ l) p ∙ append_nil rest ∙ stays) moves);
 }
-lift q i before after n m bb ba posts rest came written h array o there sized comes moves (home_acts h0 s e f size same p o1 o2 happens) = record {
+lift q i before after n m bb ba posts rest came written h array o there sized comes moves (home_acts h0 s e f size same p o1 o2 near happens) = record {
   home = s.home;
   there = subst (λ j. home_of (after j) q ≡ Some s.home) (sym at_home) (o.home_after ∙ f);
   size = size ∙ ap (λ (x : Home). x.size) (sym table);

@@ -38,7 +38,8 @@ use Rattle.crl_coherence.specs.Region as region
 use Rattle.crl_coherence.specs.Region.{Flying, Region, Happens, at_home, at_remote}
 use Rattle.crl_regions.specs.View.{if_about, mail_in, other_end, flown, flying, side}
 use Rattle.crl_regions.proofs.Opened.{begun, Serves, asked_serves, returned_serves, released_serves, recalled_same, yields_same, noted_begun, noted_other}
-use Rattle.crl_regions.proofs.Acts.{expected, CountFits, Comes, Acts, nothing, side_acts, absent, acts_if, acts_sending, home_is, home_here, home_there, moved_here, moved_there}
+use Rattle.crl_regions.proofs.Near.{Near, NearServed, near_asked, near_returned, near_released}
+use Rattle.crl_regions.proofs.Acts.{FromNear, expected, CountFits, Comes, Acts, nothing, side_acts, absent, acts_if, acts_sending, home_is, home_here, home_there, moved_here, moved_there}
 use Rattle.crl_regions.proofs.Sections.{Local, away, no_table, mine_is, here_is, home_event, side_event}
 use Rattle.crl_regions.proofs.Calls.{purges_quiet, results_quiet, IsLeft, acts_forgets, unmapped_closed}
 
@@ -83,21 +84,28 @@ opened_count mine (inl w) = subst (λ x. CountFits x) (sym w) tt
 opened_count mine (inr w) = let few : 1 < 2 ^ 32 = omega arith in subst (λ x. CountFits x) (sym w) few
 
 acts_served : (i : ℕ) (d : Name → List ℕ) (from : ℕ) (n : Node) (name : Name) (h : Home) (s : Served) (mail : Mail) → home_of n name ≡ Some h → s.home.size ≡ h.size → (from == name.home) ≡ false
-    → Local i d n → Serves h.mine s → OpensClosed h s
+    → Local i d n → Serves h.mine s → OpensClosed h s → ((count : ℕ) → from < count → Near n.me count h → NearServed n.me count s)
     → ((g : Region) (rest : List Flying) → g.home ≡ h → Took (region.flies from mail) g.flight rest → Happens name.home g (at_home s rest g))
     → (q : Name) → let o = served name s n in Acts q i (coming q from i (name_eq name q) mail) None n o.node o.posts
 unfolding served section_opens
-acts_served i d from n name h s mail e size other l serves closed happens =
+acts_served i d from n name h s mail e size other l serves closed near happens =
     by_name name (λ b q. let o = served name s n in Acts q i (coming q from i b mail) None n o.node o.posts)
     (acts_if name i (coming name from i true mail) None n s.opened _ _
-    (λ w. home_here name i _ None n _ h s e refl refl size (sym (after w)) (subst (λ x. CountFits x) (sym (after w)) (opened_count s.home.mine (serves.0 w))) it)
-    (λ w. home_here name i _ None n _ h s e refl refl size (serves.1 w ∙ mine) (l.counts name) it))
+    (λ w. home_here name i _ None n _ h s e refl refl size (sym (after w)) (subst (λ x. CountFits x) (sym (after w)) (opened_count s.home.mine (serves.0 w))) nears it)
+    (λ w. home_here name i _ None n _ h s e refl refl size (serves.1 w ∙ mine) (l.counts name) nears it))
     (λ q there. acts_if q i (coming q from i false mail) None n s.opened _ _
     (λ w. home_there name q i n _ h s e refl refl (noted_other (is_writing s.home.mine) name q s.home.bytes n.sections there) there)
     (λ w. home_there name q i n _ h s e refl refl refl there))
   where
     it : (g : Region) (rest : List Flying) → g.home ≡ h → Comes (coming name from i true mail) g.flight rest → Happens name.home g (record (at_home s rest g) { array = g.array })
     it g rest at_g took = happens g rest at_g (subst (λ k. Took (region.flies k mail) g.flight rest) (cond-false (from == name.home) i from other) took)
+
+    me : n.me ≡ name.home
+    me = eqb-true n.me name.home (home_is n name h e)
+
+    nears : (count : ℕ) → i < count → FromNear count (coming name from i true mail) → Near name.home count h → Near name.home count s.home
+    nears count few f k =
+        subst (λ x. Near x count s.home) me (near count (subst (λ x. x < count) (cond-false (from == name.home) i from other) f) (subst (λ x. Near x count h) (sym me) k)).near
 
     mine : h.mine ≡ section_at name n.sections
     mine = mine_is i d n name h e l
@@ -118,7 +126,7 @@ acts_asked i d from n name write have goes passes l (Some h) e q =
     let ask : Asked = record { node = from; write = write; have = have } in
     acts_if q i _ None n (is_queued_in from n.homes) _ _ (λ w. absurd (let free = passes.0 in cc))
     (λ w. acts_served i d from n name h (home_asked n.me ask h) (Ask write have) e
-    (asked_goes n.me ask h (ap (λ k. from == k) me ∙ goes.1) (home_bytes i d n name h e l.fits)).size goes.1 l (asked_serves n.me ask h) (passes.1 h e)
+    (asked_goes n.me ask h (ap (λ k. from == k) me ∙ goes.1) (home_bytes i d n name h e l.fits)).size goes.1 l (asked_serves n.me ask h) (passes.1 h e) (λ count few k. near_asked n.me count ask h few k)
     (λ g rest at_g took. home_event n.me name.home h (λ k x. home_asked k ask x) g rest g.array me at_g (region.ask_comes from write have rest (eqb-false from name.home goes.1) took)) q)
 
 acts_returned : (i : ℕ) (d : Name → List ℕ) (from : ℕ) (n : Node) (name : Name) (version : ℕ) (bytes : Option (List ℕ)) → ToHome name from i
@@ -130,7 +138,7 @@ acts_returned i d from n name version bytes goes takes l (Some h) e q =
     let fits = (takes h e).0 in
     acts_if q i _ None n (takes_return from version bytes h) _ _
     (λ w. acts_served i d from n name h (home_returned n.me from bytes h) (Return version bytes) e
-    (returned_goes n.me from version bytes h (home_bytes i d n name h e l.fits) fits).size goes.1 l (returned_serves n.me from bytes h) (takes h e).1
+    (returned_goes n.me from version bytes h (home_bytes i d n name h e l.fits) fits).size goes.1 l (returned_serves n.me from bytes h) (takes h e).1 (λ count few k. near_returned n.me count from bytes h k)
     (λ g rest at_g took. home_event n.me name.home h (λ k x. home_returned k from bytes x) g rest g.array me at_g (region.return_comes from version bytes rest (eqb-false from name.home goes.1) took)) q)
     (λ w. absurd (cc))
 
@@ -143,7 +151,7 @@ acts_released i d from n name version bytes goes takes l (Some h) e q =
     let fits = (takes h e).0 in
     acts_if q i _ None n (takes_release bytes h) _ _
     (λ w. acts_served i d from n name h (home_released n.me from version bytes h) (Release version bytes) e
-    (released_goes n.me from version bytes h (home_bytes i d n name h e l.fits) fits).size goes.1 l (released_serves n.me from version bytes h) (takes h e).1
+    (released_goes n.me from version bytes h (home_bytes i d n name h e l.fits) fits).size goes.1 l (released_serves n.me from version bytes h) (takes h e).1 (λ count few k. near_released n.me count from version bytes h k)
     (λ g rest at_g took. home_event n.me name.home h (λ k x. home_released k from version bytes x) g rest g.array me at_g (region.release_comes from version bytes rest (eqb-false from name.home goes.1) took)) q)
     (λ w. absurd (cc))
 

@@ -22,7 +22,8 @@ use Rattle.crl_protocol.proofs.Serving.{HomeGoes, read_goes, write_goes, HomeSta
 use Rattle.crl_coherence.specs.Region as region
 use Rattle.crl_coherence.specs.Region.{Flying, Region, Happens, at_home, at_remote, IsIdle, MayStart}
 use Rattle.crl_regions.proofs.Opened.{begun, home_begun, side_begun, noted_begun, noted_other}
-use Rattle.crl_regions.proofs.Acts.{expected, CountFits, Comes, Acts, nothing, acts_if, home_is, home_here, home_there, moved_here, moved_there, forgotten_here}
+use Rattle.crl_regions.proofs.Near.{Near, near_starts}
+use Rattle.crl_regions.proofs.Acts.{FromNear, expected, CountFits, Comes, Acts, nothing, acts_if, home_is, home_here, home_there, moved_here, moved_there, forgotten_here}
 
 -- What holds of node i: besides sizes and asks, the sections that it notes are those of its tables, and what it
 -- has of regions that aren't mapped is cached.
@@ -124,11 +125,13 @@ start_home i d n write name h e may l =
         (subst (λ x. Happens name.home g (at_home (home_starts name.home write g.home) x g)) (sym comes)
         (region.home_start write (subst (λ x. MayStart write x.mine) (sym at_h) (subst (λ x. MayStart write x) (sym mine) may))
         (subst (λ k. IsIdle k g.home.queue) me (subst (λ (x : Home). IsIdle n.me x.queue) (sym at_h) (idle_of n.me h.queue none))))) in
+    let near : (count : ℕ) → i < count → FromNear count None → Near name.home count h → Near name.home count s.home =
+        λ count few c k. subst (λ x. Near x count s.home) me (near_starts n.me count write h (subst (λ x. x < count) (sym f.me) few) (subst (λ x. Near x count h) (sym me) k)).near in
     let noted = noted_begun write name s.home.bytes n.sections in
     by_name name (λ b q. let o = home_start write name s (free n) in Acts q i None None (free n) o.node o.posts)
     (acts_if name i None None (free n) s.opened _ _
-    (λ w. home_here name i None None (free n) _ h s e refl refl goes.size (open_now.0 w ∙ ap (λ x. begun write x) mine ∙ sym noted) (subst (λ x. CountFits x) (sym noted) (count_begun write _ may)) happens)
-    (λ w. home_here name i None None (free n) _ h s e refl refl goes.size (open_now.1 w ∙ mine) (l.counts name) happens))
+    (λ w. home_here name i None None (free n) _ h s e refl refl goes.size (open_now.0 w ∙ ap (λ x. begun write x) mine ∙ sym noted) (subst (λ x. CountFits x) (sym noted) (count_begun write _ may)) near happens)
+    (λ w. home_here name i None None (free n) _ h s e refl refl goes.size (open_now.1 w ∙ mine) (l.counts name) near happens))
     (λ q other. acts_if q i None None (free n) s.opened _ _
     (λ w. home_there name q i (free n) _ h s e refl refl (noted_other write name q s.home.bytes n.sections other) other)
     (λ w. home_there name q i (free n) _ h s e refl refl refl other))
