@@ -1,6 +1,7 @@
 mod Acts
 mod Calls
 mod Ends
+mod Fair
 mod Houses
 mod Kept
 mod Lift
