@@ -1,5 +1,6 @@
 mod Acts
 mod Calls
+mod Carried
 mod Ends
 mod Fair
 mod Houses

@@ -17,7 +17,7 @@ use Rattle.crl_regions.proofs.Moves.{Moves, run_moves}
 use Rattle.crl_regions.proofs.Acts.{Comes, Acts, nothing, home_acts, side_acts, absent, made, home_is}
 
 -- An event, after which messages may stand at other places.
-finish : (me : ℕ) (g c k : Region) → Happens me g c → c.home ≡ k.home → ((n : ℕ) → c.remotes n ≡ k.remotes n) → c.array ≡ k.array → Moves c.flight k.flight → Run me g k
+pub finish : (me : ℕ) (g c k : Region) → Happens me g c → c.home ≡ k.home → ((n : ℕ) → c.remotes n ≡ k.remotes n) → c.array ≡ k.array → Moves c.flight k.flight → Run me g k
 finish me g c k happens home remotes array moves =
     let same : record c { flight = k.flight } ≡ k = λ i. record { home = home i; remotes = λ n. remotes n i; flight = k.flight; array = array i } in
     next happens (subst (λ x. Run me c x) same (run_moves me c k.flight moves))

@@ -121,3 +121,22 @@ boxes_more posts i (suc k) (suc j) f g l t h =
     let others = boxes_more posts (i + 1) k j f g (omega arith) t2 (λ x n. h x (λ e. n (e ∙ step))) in
     subst (λ b. Moves (b ++ posts) (boxes_from i (suc k) g)) (ap (λ b. b ++ boxes_from (i + 1) k f) (sym same))
     (subst (λ b. Moves b (boxes_from i (suc k) g)) (sym (append_assoc (boxes (g i)) (boxes_from (i + 1) k f) posts)) (moves_behind (boxes (g i)) others))
+
+-- the same, of all nodes from the first
+pub flight_took : (m : Message) (count i : ℕ) (f g : ℕ → Node) → i < count → Took m (boxes (f i)) (boxes (g i)) → ((l : ℕ) → (l ≡ i → ⊥) → boxes (f l) ≡ boxes (g l)) → Took m (boxes_from 0 count f) (boxes_from 0 count g)
+flight_took m count i f g l t h =
+    let same : i ≡ 0 + i = omega arith in
+    boxes_took m 0 count i f g l (subst (λ k. Took m (boxes (f k)) (boxes (g k))) same t) (λ k n. h k (λ e. n (e ∙ same)))
+
+pub flight_more : (posts : List Message) (count i : ℕ) (f g : ℕ → Node) → i < count → boxes (g i) ≡ boxes (f i) ++ posts → ((l : ℕ) → (l ≡ i → ⊥) → boxes (f l) ≡ boxes (g l)) → Moves (boxes_from 0 count f ++ posts) (boxes_from 0 count g)
+flight_more posts count i f g l t h =
+    let same : i ≡ 0 + i = omega arith in
+    boxes_more posts 0 count i f g l (subst (λ k. boxes (g k) ≡ boxes (f k) ++ posts) same t) (λ k n. h k (λ e. n (e ∙ same)))
+
+pub flight_same : (count : ℕ) (f g : ℕ → Node) → ((l : ℕ) → l < count → boxes (f l) ≡ boxes (g l)) → boxes_from 0 count f ≡ boxes_from 0 count g
+flight_same count f g h = boxes_same 0 count f g (λ j l. h (0 + j) (omega arith))
+
+-- what is put behind a list is taken out of it again
+pub took_put : {A : Type 0} (x : A) (xs : List A) → Took x (xs ++ x ∷ []) xs
+took_put x [] = here
+took_put x (y ∷ xs) = there (took_put x xs)
