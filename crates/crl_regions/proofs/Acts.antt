@@ -43,27 +43,28 @@ FromNear count (Some f) = f.node < count
 -- An outcome of node i, with the message that came and the bytes that a write section leaves, does one of these
 -- to a region: nothing; an event at its home; an event at a node other than the home; where the region isn't there,
 -- nothing either; or it makes the region.
-pub data Acts (q : Name) (i : ℕ) (came : Option Flying) (written : Option (List ℕ)) (n m : Node) (posts : List Message) : Type 0 where
+pub data Acts (K : Name → ℕ → Type 0) (q : Name) (i : ℕ) (came : Option Flying) (written : Option (List ℕ)) (n m : Node) (posts : List Message) : Type 0 where
   nothing : came ≡ None → written ≡ None → home_of m q ≡ home_of n q → m.remotes q ≡ n.remotes q → picks (flying q) posts ≡ []
-      → section_at q m.sections ≡ section_at q n.sections → Acts q i came written n m posts
+      → section_at q m.sections ≡ section_at q n.sections → Acts K q i came written n m posts
   home_acts : (h : Home) (s : Served) → home_of n q ≡ Some h → home_of m q ≡ Some s.home → s.home.size ≡ h.size → m.remotes q ≡ n.remotes q → picks (flying q) posts ≡ sent s.posts
       → s.home.mine ≡ section_at q m.sections → CountFits (section_at q m.sections) → ((count : ℕ) → i < count → FromNear count came → Near q.home count h → Near q.home count s.home)
       → ((g : Region) (rest : List Flying) → g.home ≡ h → Comes came g.flight rest → Happens q.home g (record (at_home s rest g) { array = bytes_after written g.array }))
-      → Acts q i came written n m posts
+      → Acts K q i came written n m posts
   side_acts : (after : ℕ → Remote) (mails : List Mail) → home_of m q ≡ home_of n q → ((size : ℕ) → side size (m.remotes q) ≡ after size) → picks (flying q) posts ≡ sent_by i mails
       → expected None (m.remotes q) ≡ section_at q m.sections → CountFits (section_at q m.sections)
+      → (((r0 : Remote) → n.remotes q ≡ Some r0 → K q r0.size) → (r : Remote) → m.remotes q ≡ Some r → K q r.size)
       → ((g : Region) (rest : List Flying) → g.remotes i ≡ side g.home.size (n.remotes q) → SizeIs (n.remotes q) g.home.size → Comes came g.flight rest
       → Happens q.home g (record g { remotes = at_node g.remotes i (after g.home.size); flight = rest ++ sent_by i mails; array = bytes_after written g.array }))
-      → Acts q i came written n m posts
+      → Acts K q i came written n m posts
 
   absent : written ≡ None → (q.home == i) ≡ true → home_of n q ≡ None → home_of m q ≡ None → m.remotes q ≡ n.remotes q → picks (flying q) posts ≡ []
-      → section_at q m.sections ≡ section_at q n.sections → Acts q i came written n m posts
+      → section_at q m.sections ≡ section_at q n.sections → Acts K q i came written n m posts
   made : (size : ℕ) → came ≡ None → written ≡ Some (replicate size 0) → (q.home == i) ≡ true → home_of n q ≡ None → home_of m q ≡ Some (new_home n.nodes size) → m.remotes q ≡ n.remotes q
-      → picks (flying q) posts ≡ [] → section_at q m.sections ≡ section_at q n.sections → Acts q i came written n m posts
+      → picks (flying q) posts ≡ [] → section_at q m.sections ≡ section_at q n.sections → Acts K q i came written n m posts
 
-pub acts_if : (q : Name) (i : ℕ) (came : Option Flying) (written : Option (List ℕ)) (n : Node) (b : Bool) (x y : Outcome) → (b ≡ true → Acts q i came written n x.node x.posts)
-    → (b ≡ false → Acts q i came written n y.node y.posts) → let o = if b then x else y in Acts q i came written n o.node o.posts
-acts_if q i came written n b x y f g = cond_both b x y (λ (o : Outcome). Acts q i came written n o.node o.posts) f g
+pub acts_if : (K : Name → ℕ → Type 0) (q : Name) (i : ℕ) (came : Option Flying) (written : Option (List ℕ)) (n : Node) (b : Bool) (x y : Outcome) → (b ≡ true → Acts K q i came written n x.node x.posts)
+    → (b ≡ false → Acts K q i came written n y.node y.posts) → let o = if b then x else y in Acts K q i came written n o.node o.posts
+acts_if K q i came written n b x y f g = cond_both b x y (λ (o : Outcome). Acts K q i came written n o.node o.posts) f g
 
 -- The mail of a step, seen from its own name and from another.
 pub about_here : (name : Name) (mail : Mail) → mail_in name (about name mail) ≡ Some mail
@@ -119,45 +120,46 @@ home_is n name h e = go (is_mine n name) refl e
     go false w f = cc
 
 -- a message more that isn't about copies
-pub acts_sending : (q : Name) (i : ℕ) (came : Option Flying) (written : Option (List ℕ)) (n m : Node) (posts : List Message) (x : Message) → flying q x ≡ None
-    → Acts q i came written n m posts → Acts q i came written n m (posts ++ x ∷ [])
-acts_sending q i came written n m posts x e (nothing a b c d f o) = nothing a b c d (more_none (flying q) posts x e ∙ f) o
-acts_sending q i came written n m posts x e (home_acts h s a b c d f o p near happens) = home_acts h s a b c d (more_none (flying q) posts x e ∙ f) o p near happens
-acts_sending q i came written n m posts x e (side_acts after mails a b f o p happens) = side_acts after mails a b (more_none (flying q) posts x e ∙ f) o p happens
-acts_sending q i came written n m posts x e (absent a b c d f g o) = absent a b c d f (more_none (flying q) posts x e ∙ g) o
-acts_sending q i came written n m posts x e (made size a b c d f g k o) = made size a b c d f g (more_none (flying q) posts x e ∙ k) o
+pub acts_sending : (K : Name → ℕ → Type 0) (q : Name) (i : ℕ) (came : Option Flying) (written : Option (List ℕ)) (n m : Node) (posts : List Message) (x : Message) → flying q x ≡ None
+    → Acts K q i came written n m posts → Acts K q i came written n m (posts ++ x ∷ [])
+acts_sending K q i came written n m posts x e (nothing a b c d f o) = nothing a b c d (more_none (flying q) posts x e ∙ f) o
+acts_sending K q i came written n m posts x e (home_acts h s a b c d f o p near happens) = home_acts h s a b c d (more_none (flying q) posts x e ∙ f) o p near happens
+acts_sending K q i came written n m posts x e (side_acts after mails a b f o p known happens) = side_acts after mails a b (more_none (flying q) posts x e ∙ f) o p known happens
+acts_sending K q i came written n m posts x e (absent a b c d f g o) = absent a b c d f (more_none (flying q) posts x e ∙ g) o
+acts_sending K q i came written n m posts x e (made size a b c d f g k o) = made size a b c d f g (more_none (flying q) posts x e ∙ k) o
 
 -- A step at the home, for the name and for all others.
-pub home_here : (name : Name) (i : ℕ) (came : Option Flying) (written : Option (List ℕ)) (n m : Node) (h : Home) (s : Served) → home_of n name ≡ Some h
+pub home_here : (K : Name → ℕ → Type 0) (name : Name) (i : ℕ) (came : Option Flying) (written : Option (List ℕ)) (n m : Node) (h : Home) (s : Served) → home_of n name ≡ Some h
     → home_of m name ≡ home_of (with_home name s.home n) name → m.remotes name ≡ n.remotes name → s.home.size ≡ h.size
     → s.home.mine ≡ section_at name m.sections → CountFits (section_at name m.sections) → ((count : ℕ) → i < count → FromNear count came → Near name.home count h → Near name.home count s.home)
     → ((g : Region) (rest : List Flying) → g.home ≡ h → Comes came g.flight rest → Happens name.home g (record (at_home s rest g) { array = bytes_after written g.array }))
-    → Acts name i came written n m (letters n name s.posts)
-home_here name i came written n m h s e there same size mine count near happens =
+    → Acts K name i came written n m (letters n name s.posts)
+home_here K name i came written n m h s e there same size mine count near happens =
     home_acts h s e (there ∙ (home_put n name h s.home e name ∙ cond-true (name_eq name name) _ _ (name_self name))) size same (letters_here n name s.posts (home_is n name h e)) mine count near happens
 
-pub home_there : (name q : Name) (i : ℕ) (n m : Node) (h : Home) (s : Served) → home_of n name ≡ Some h → home_of m q ≡ home_of (with_home name s.home n) q
-    → m.remotes q ≡ n.remotes q → section_at q m.sections ≡ section_at q n.sections → name_eq name q ≡ false → Acts q i None None n m (letters n name s.posts)
-home_there name q i n m h s e there same sections other =
+pub home_there : (K : Name → ℕ → Type 0) (name q : Name) (i : ℕ) (n m : Node) (h : Home) (s : Served) → home_of n name ≡ Some h → home_of m q ≡ home_of (with_home name s.home n) q
+    → m.remotes q ≡ n.remotes q → section_at q m.sections ≡ section_at q n.sections → name_eq name q ≡ false → Acts K q i None None n m (letters n name s.posts)
+home_there K name q i n m h s e there same sections other =
     nothing refl refl (there ∙ (home_put n name h s.home e q ∙ cond-false (name_eq name q) _ _ other)) same (letters_there n name q s.posts other) sections
 
 -- a step at another node's side
-pub moved_here : (name : Name) (i : ℕ) (came : Option Flying) (written : Option (List ℕ)) (n m : Node) (r : Remote) (s : Moved) → n.remotes name ≡ Some r → m.remotes name ≡ Some s.remote
-    → home_of m name ≡ home_of n name → n.me ≡ i → (i == name.home) ≡ false → s.remote.here ≡ section_at name m.sections → CountFits (section_at name m.sections)
+pub moved_here : (K : Name → ℕ → Type 0) (name : Name) (i : ℕ) (came : Option Flying) (written : Option (List ℕ)) (n m : Node) (r : Remote) (s : Moved) → n.remotes name ≡ Some r → m.remotes name ≡ Some s.remote
+    → home_of m name ≡ home_of n name → n.me ≡ i → (i == name.home) ≡ false → s.remote.here ≡ section_at name m.sections → CountFits (section_at name m.sections) → s.remote.size ≡ r.size
     → ((g : Region) (rest : List Flying) → g.remotes i ≡ r → r.size ≡ g.home.size → Comes came g.flight rest → Happens name.home g (record (at_remote i s rest g) { array = bytes_after written g.array }))
-    → Acts name i came written n m (mails n name s.posts)
-moved_here name i came written n m r s e after home me other here count happens =
+    → Acts K name i came written n m (mails n name s.posts)
+moved_here K name i came written n m r s e after home me other here count size happens =
     side_acts (λ size. s.remote) s.posts home (λ size. ap (λ o. side size o) after) (mails_here n name i s.posts me other) (ap (λ o. expected None o) after ∙ here) count
+    (λ known x w. let same : s.remote ≡ x = (let both : Some s.remote ≡ Some x = sym after ∙ w in cc) in subst (λ z. K name z) (sym size ∙ ap (λ (y : Remote). y.size) same) (known r e))
     (λ g rest at_i sized comes. happens g rest (at_i ∙ ap (λ o. side g.home.size o) e) (subst (λ o. SizeIs o g.home.size) e sized) comes)
 
-pub moved_there : (name q : Name) (i : ℕ) (n m : Node) (posts : List Mail) → m.remotes q ≡ n.remotes q → home_of m q ≡ home_of n q → section_at q m.sections ≡ section_at q n.sections → name_eq name q ≡ false → Acts q i None None n m (mails n name posts)
-moved_there name q i n m posts same home sections other = nothing refl refl home same (mails_there n name q posts other) sections
+pub moved_there : (K : Name → ℕ → Type 0) (name q : Name) (i : ℕ) (n m : Node) (posts : List Mail) → m.remotes q ≡ n.remotes q → home_of m q ≡ home_of n q → section_at q m.sections ≡ section_at q n.sections → name_eq name q ≡ false → Acts K q i None None n m (mails n name posts)
+moved_there K name q i n m posts same home sections other = nothing refl refl home same (mails_there n name q posts other) sections
 
 -- a name is forgotten
-pub forgotten_here : (name : Name) (i : ℕ) (n m : Node) (r : Remote) → n.remotes name ≡ Some r → m.remotes name ≡ None → home_of m name ≡ home_of n name → n.me ≡ i → (i == name.home) ≡ false → section.Closed ≡ section_at name m.sections
+pub forgotten_here : (K : Name → ℕ → Type 0) (name : Name) (i : ℕ) (n m : Node) (r : Remote) → n.remotes name ≡ Some r → m.remotes name ≡ None → home_of m name ≡ home_of n name → n.me ≡ i → (i == name.home) ≡ false → section.Closed ≡ section_at name m.sections
     → ((g : Region) → g.remotes i ≡ r → Happens name.home g (record (at_remote i (remote_flushes r) g.flight g) { remotes = at_node g.remotes i (new_remote g.home.size) }))
-    → Acts name i None None n m (mails n name (remote_flushes r).posts)
-forgotten_here name i n m r e after home me other closed happens =
-    side_acts (λ size. new_remote size) (remote_flushes r).posts home (λ size. ap (λ o. side size o) after) (mails_here n name i (remote_flushes r).posts me other) (ap (λ o. expected None o) after ∙ closed) (subst (λ x. CountFits x) closed tt)
+    → Acts K name i None None n m (mails n name (remote_flushes r).posts)
+forgotten_here K name i n m r e after home me other closed happens =
+    side_acts (λ size. new_remote size) (remote_flushes r).posts home (λ size. ap (λ o. side size o) after) (mails_here n name i (remote_flushes r).posts me other) (ap (λ o. expected None o) after ∙ closed) (subst (λ x. CountFits x) closed tt) (λ known x w. absurd (let none = after in cc))
     (λ g rest at_i sized comes. subst (λ x. Happens name.home g (record g { remotes = at_node g.remotes i (new_remote g.home.size); flight = x ++ sent_by i (remote_flushes r).posts; array = g.array }))
     (sym comes) (happens g (at_i ∙ ap (λ o. side g.home.size o) e)))

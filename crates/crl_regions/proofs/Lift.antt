@@ -59,11 +59,11 @@ remotes_but q i size before after n m r o e j = elim (same_or i j) [
   | inr other ↦ cond-false (i == j) r _ (ne_eqb i j other) ∙ sym (ap (λ x. side size x) (o.remote_other j (λ w. other (sym w))))
 ]
 
-pub lift : (q : Name) (i : ℕ) (before after : ℕ → Node) (n m : Node) (boxes_before boxes_after posts : List Message) (rest : List Flying) (came : Option Flying) (written : Option (List ℕ)) (h : Home) (array : List ℕ)
+pub lift : (K : Name → ℕ → Type 0) (q : Name) (i : ℕ) (before after : ℕ → Node) (n m : Node) (boxes_before boxes_after posts : List Message) (rest : List Flying) (came : Option Flying) (written : Option (List ℕ)) (h : Home) (array : List ℕ)
     → Outcomes q i before after n m → home_of (before q.home) q ≡ Some h → SizeIs (n.remotes q) h.size
     → Comes came (picks (flying q) boxes_before) rest → Moves (rest ++ picks (flying q) posts) (picks (flying q) boxes_after)
-    → Acts q i came written n m posts → Lifted q before after boxes_before boxes_after h array (bytes_after written array)
-lift q i before after n m bb ba posts rest came written h array o there sized comes moves (nothing none unwritten e f p o1) = record {
+    → Acts K q i came written n m posts → Lifted q before after boxes_before boxes_after h array (bytes_after written array)
+lift K q i before after n m bb ba posts rest came written h array o there sized comes moves (nothing none unwritten e f p o1) = record {
   home = h;
   there = home_stays q i before after n m o e ∙ there;
   size = refl;
@@ -72,7 +72,7 @@ lift q i before after n m bb ba posts rest came written h array o there sized co
       finish q.home g g k elsewhere refl (λ j. sym (ap (λ x. side h.size x) (remotes_stay q i before after n m o f j))) (sym (ap (λ w. bytes_after w array) unwritten))
       (subst (λ l. Moves l k.flight) (ap (λ l. rest ++ l) p ∙ append_nil rest ∙ stays) moves);
 }
-lift q i before after n m bb ba posts rest came written h array o there sized comes moves (home_acts h0 s e f size same p o1 o2 near happens) = record {
+lift K q i before after n m bb ba posts rest came written h array o there sized comes moves (home_acts h0 s e f size same p o1 o2 near happens) = record {
   home = s.home;
   there = subst (λ j. home_of (after j) q ≡ Some s.home) (sym at_home) (o.home_after ∙ f);
   size = size ∙ ap (λ (x : Home). x.size) (sym table);
@@ -87,7 +87,7 @@ lift q i before after n m bb ba posts rest came written h array o there sized co
 
     table : h ≡ h0
     table = let both : Some h ≡ Some h0 = sym there ∙ subst (λ j. home_of (before j) q ≡ home_of n q) (sym at_home) o.home_before ∙ e in cc
-lift q i before after n m bb ba posts rest came written h array o there sized comes moves (side_acts r mails e f p o1 o2 happens) = record {
+lift K q i before after n m bb ba posts rest came written h array o there sized comes moves (side_acts r mails e f p o1 o2 known happens) = record {
   home = h;
   there = home_stays q i before after n m o e ∙ there;
   size = refl;
@@ -96,7 +96,7 @@ lift q i before after n m bb ba posts rest came written h array o there sized co
       (λ j. remotes_but q i h.size before after n m (r h.size) o (f h.size) j) refl
       (subst (λ l. Moves (rest ++ l) k.flight) p moves);
 }
-lift q i before after n m bb ba posts rest came written h array o there sized comes moves (absent unwritten at_i e f same p o1) =
+lift K q i before after n m bb ba posts rest came written h array o there sized comes moves (absent unwritten at_i e f same p o1) =
     absurd (let none : home_of (before q.home) q ≡ None = subst (λ j. home_of (before j) q ≡ home_of n q) (sym (eqb-true q.home i at_i)) o.home_before ∙ e in cc)
-lift q i before after n m bb ba posts rest came written h array o there sized comes moves (made size none unwritten at_i e f same p o1) =
+lift K q i before after n m bb ba posts rest came written h array o there sized comes moves (made size none unwritten at_i e f same p o1) =
     absurd (let none : home_of (before q.home) q ≡ None = subst (λ j. home_of (before j) q ≡ home_of n q) (sym (eqb-true q.home i at_i)) o.home_before ∙ e in cc)

@@ -18,6 +18,7 @@ use Rattle.crl_protocol.specs.Verdict.{of_start, of_end, of_open}
 use Rattle.crl_protocol.proofs.Fitting.{by_test, by_name, name_self, NoOwn, QueueFits, AskingFits, RecordFits, IsCached, Fits, SizeIs}
 use Rattle.crl_protocol.proofs.Opening.{free}
 use Rattle.crl_protocol.proofs.Outcomes.{home_bytes, remote_bytes, queue_of, asking_of, not_mine, mapped_home, mapped_remote}
+use Rattle.crl_protocol.proofs.Serving as serving
 use Rattle.crl_protocol.proofs.Serving.{HomeGoes, read_goes, write_goes, HomeStarts, starts_fit}
 use Rattle.crl_coherence.specs.Region as region
 use Rattle.crl_coherence.specs.Region.{Flying, Region, Happens, at_home, at_remote, IsIdle, MayStart}
@@ -109,10 +110,10 @@ count_begun false (section.Reading count) may = may
 count_begun false section.Writing may = tt
 
 -- The start of a section at the home.
-start_home : (i : ℕ) (d : Name → List ℕ) (n : Node) (write : Bool) (name : Name) (h : Home) → home_of (free n) name ≡ Some h → MayStart write (section_at name n.sections) → Local i d (free n)
-    → (q : Name) → let o = home_start write name (home_starts n.me write h) (free n) in Acts q i None None (free n) o.node o.posts
+start_home : (K : Name → ℕ → Type 0) (i : ℕ) (d : Name → List ℕ) (n : Node) (write : Bool) (name : Name) (h : Home) → home_of (free n) name ≡ Some h → MayStart write (section_at name n.sections) → Local i d (free n)
+    → (q : Name) → let o = home_start write name (home_starts n.me write h) (free n) in Acts K q i None None (free n) o.node o.posts
 unfolding section_opens
-start_home i d n write name h e may l =
+start_home K i d n write name h e may l =
     let f = l.fits in
     let none = free_idle n.me name h (queue_of i d (free n) name h e f) in
     let s = home_starts n.me write h in
@@ -128,19 +129,19 @@ start_home i d n write name h e may l =
     let near : (count : ℕ) → i < count → FromNear count None → Near name.home count h → Near name.home count s.home =
         λ count few c k. subst (λ x. Near x count s.home) me (near_starts n.me count write h (subst (λ x. x < count) (sym f.me) few) (subst (λ x. Near x count h) (sym me) k)).near in
     let noted = noted_begun write name s.home.bytes n.sections in
-    by_name name (λ b q. let o = home_start write name s (free n) in Acts q i None None (free n) o.node o.posts)
-    (acts_if name i None None (free n) s.opened _ _
-    (λ w. home_here name i None None (free n) _ h s e refl refl goes.size (open_now.0 w ∙ ap (λ x. begun write x) mine ∙ sym noted) (subst (λ x. CountFits x) (sym noted) (count_begun write _ may)) near happens)
-    (λ w. home_here name i None None (free n) _ h s e refl refl goes.size (open_now.1 w ∙ mine) (l.counts name) near happens))
-    (λ q other. acts_if q i None None (free n) s.opened _ _
-    (λ w. home_there name q i (free n) _ h s e refl refl (noted_other write name q s.home.bytes n.sections other) other)
-    (λ w. home_there name q i (free n) _ h s e refl refl refl other))
+    by_name name (λ b q. let o = home_start write name s (free n) in Acts K q i None None (free n) o.node o.posts)
+    (acts_if K name i None None (free n) s.opened _ _
+    (λ w. home_here K name i None None (free n) _ h s e refl refl goes.size (open_now.0 w ∙ ap (λ x. begun write x) mine ∙ sym noted) (subst (λ x. CountFits x) (sym noted) (count_begun write _ may)) near happens)
+    (λ w. home_here K name i None None (free n) _ h s e refl refl goes.size (open_now.1 w ∙ mine) (l.counts name) near happens))
+    (λ q other. acts_if K q i None None (free n) s.opened _ _
+    (λ w. home_there K name q i (free n) _ h s e refl refl (noted_other write name q s.home.bytes n.sections other) other)
+    (λ w. home_there K name q i (free n) _ h s e refl refl refl other))
 
 -- and at another node
-start_side : (i : ℕ) (d : Name → List ℕ) (n : Node) (write : Bool) (name : Name) (r : Remote) → n.remotes name ≡ Some r → MayStart write (section_at name n.sections) → Local i d (free n)
-    → (q : Name) → let o = remote_start write name (remote_starts write r) (free n) in Acts q i None None (free n) o.node o.posts
+start_side : (K : Name → ℕ → Type 0) (i : ℕ) (d : Name → List ℕ) (n : Node) (write : Bool) (name : Name) (r : Remote) → n.remotes name ≡ Some r → MayStart write (section_at name n.sections) → Local i d (free n)
+    → (q : Name) → let o = remote_start write name (remote_starts write r) (free n) in Acts K q i None None (free n) o.node o.posts
 unfolding section_opens
-start_side i d n write name r e may l =
+start_side K i d n write name r e may l =
     let f = l.fits in
     let idle = free_asks name r (asking_of i d (free n) name r e f) in
     let s = remote_starts write r in
@@ -153,26 +154,27 @@ start_side i d n write name r e may l =
         (subst (λ x. Happens name.home g (at_remote i (remote_starts write (g.remotes i)) x g)) (sym comes)
         (region.start i write (eqb-false i name.home other_home) (subst (λ (x : Remote). MayStart write x.here) (sym at_i) (subst (λ x. MayStart write x) (sym here) may))
         (ap (λ (x : Remote). x.asking) at_i ∙ idle) (ap (λ (x : Remote). x.size) at_i ∙ sized))) in
+    let size = (serving.remote_start write r).size in
     let noted = noted_begun write name (copy_bytes s.remote.copy) n.sections in
-    by_name name (λ b q. let o = remote_start write name s (free n) in Acts q i None None (free n) o.node o.posts)
-    (acts_if name i None None (free n) s.opened _ _
-    (λ w. moved_here name i None None (free n) _ r s e put refl f.me other_home (open_now.0 w ∙ ap (λ x. begun write x) here ∙ sym noted) (subst (λ x. CountFits x) (sym noted) (count_begun write _ may)) happens)
-    (λ w. moved_here name i None None (free n) _ r s e put refl f.me other_home (open_now.1 w ∙ here) (l.counts name) happens))
-    (λ q other. acts_if q i None None (free n) s.opened _ _
-    (λ w. moved_there name q i (free n) _ s.posts (cond-false (name_eq name q) _ _ other) refl (noted_other write name q (copy_bytes s.remote.copy) n.sections other) other)
-    (λ w. moved_there name q i (free n) _ s.posts (cond-false (name_eq name q) _ _ other) refl refl other))
+    by_name name (λ b q. let o = remote_start write name s (free n) in Acts K q i None None (free n) o.node o.posts)
+    (acts_if K name i None None (free n) s.opened _ _
+    (λ w. moved_here K name i None None (free n) _ r s e put refl f.me other_home (open_now.0 w ∙ ap (λ x. begun write x) here ∙ sym noted) (subst (λ x. CountFits x) (sym noted) (count_begun write _ may)) size happens)
+    (λ w. moved_here K name i None None (free n) _ r s e put refl f.me other_home (open_now.1 w ∙ here) (l.counts name) size happens))
+    (λ q other. acts_if K q i None None (free n) s.opened _ _
+    (λ w. moved_there K name q i (free n) _ s.posts (cond-false (name_eq name q) _ _ other) refl (noted_other write name q (copy_bytes s.remote.copy) n.sections other) other)
+    (λ w. moved_there K name q i (free n) _ s.posts (cond-false (name_eq name q) _ _ other) refl refl other))
 
-pub acts_start : (i : ℕ) (d : Name → List ℕ) (n : Node) (write : Bool) (name : Name) → of_start write (section_at name n.sections) ≡ None → Local i d (free n)
-    → (q : Name) → let o = starts write name (free n) in Acts q i None None (free n) o.node o.posts
-acts_start i d n write name v l = at_home_or (home_of (free n) name) refl
+pub acts_start : (K : Name → ℕ → Type 0) (i : ℕ) (d : Name → List ℕ) (n : Node) (write : Bool) (name : Name) → of_start write (section_at name n.sections) ≡ None → Local i d (free n)
+    → (q : Name) → let o = starts write name (free n) in Acts K q i None None (free n) o.node o.posts
+acts_start K i d n write name v l = at_home_or (home_of (free n) name) refl
   where
     may : MayStart write (section_at name n.sections)
     may = may_start write (section_at name n.sections) (l.counts name) v
 
-    at_side_or : (o : Option Remote) → n.remotes name ≡ o → (q : Name) → let o = starts_remote write name o (free n) in Acts q i None None (free n) o.node o.posts
+    at_side_or : (o : Option Remote) → n.remotes name ≡ o → (q : Name) → let o = starts_remote write name o (free n) in Acts K q i None None (free n) o.node o.posts
     at_side_or None e q = nothing refl refl refl refl refl refl
-    at_side_or (Some r) e q = start_side i d n write name r e may l q
+    at_side_or (Some r) e q = start_side K i d n write name r e may l q
 
-    at_home_or : (o : Option Home) → home_of (free n) name ≡ o → (q : Name) → let o = starts_home write name o (free n) in Acts q i None None (free n) o.node o.posts
+    at_home_or : (o : Option Home) → home_of (free n) name ≡ o → (q : Name) → let o = starts_home write name o (free n) in Acts K q i None None (free n) o.node o.posts
     at_home_or None e q = at_side_or (n.remotes name) refl q
-    at_home_or (Some h) e q = start_home i d n write name h e may l q
+    at_home_or (Some h) e q = start_home K i d n write name h e may l q
