@@ -1,13 +1,13 @@
 mod Calls
 pub mod Events
-mod Facts
+pub mod Facts
 pub mod Fits
 mod Forgets
 mod HomeEvents
-mod Keeps
+pub mod Keeps
 pub mod Lists
 mod Mails
-mod Opens
+pub mod Opens
 mod OwnEvents
 mod Owned
 mod Pairs

@@ -11,3 +11,4 @@ mod Moves
 mod Near
 mod Opened
 mod Sections
+mod Whole
