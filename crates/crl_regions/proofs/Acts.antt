@@ -50,7 +50,7 @@ pub data Acts (K : Name → ℕ → Type 0) (q : Name) (i : ℕ) (came : Option 
       → s.home.mine ≡ section_at q m.sections → CountFits (section_at q m.sections) → ((count : ℕ) → i < count → FromNear count came → Near q.home count h → Near q.home count s.home)
       → ((g : Region) (rest : List Flying) → g.home ≡ h → Comes came g.flight rest → Happens q.home g (record (at_home s rest g) { array = bytes_after written g.array }))
       → Acts K q i came written n m posts
-  side_acts : (after : ℕ → Remote) (mails : List Mail) → home_of m q ≡ home_of n q → ((size : ℕ) → side size (m.remotes q) ≡ after size) → picks (flying q) posts ≡ sent_by i mails
+  side_acts : (after : ℕ → Remote) (mails : List Mail) → home_of n q ≡ None → home_of m q ≡ home_of n q → ((size : ℕ) → side size (m.remotes q) ≡ after size) → picks (flying q) posts ≡ sent_by i mails
       → expected None (m.remotes q) ≡ section_at q m.sections → CountFits (section_at q m.sections)
       → (((r0 : Remote) → n.remotes q ≡ Some r0 → K q r0.size) → (r : Remote) → m.remotes q ≡ Some r → K q r.size)
       → ((g : Region) (rest : List Flying) → g.remotes i ≡ side g.home.size (n.remotes q) → SizeIs (n.remotes q) g.home.size → Comes came g.flight rest
@@ -124,9 +124,13 @@ pub acts_sending : (K : Name → ℕ → Type 0) (q : Name) (i : ℕ) (came : Op
     → Acts K q i came written n m posts → Acts K q i came written n m (posts ++ x ∷ [])
 acts_sending K q i came written n m posts x e (nothing a b c d f o) = nothing a b c d (more_none (flying q) posts x e ∙ f) o
 acts_sending K q i came written n m posts x e (home_acts h s a b c d f o p near happens) = home_acts h s a b c d (more_none (flying q) posts x e ∙ f) o p near happens
-acts_sending K q i came written n m posts x e (side_acts after mails a b f o p known happens) = side_acts after mails a b (more_none (flying q) posts x e ∙ f) o p known happens
+acts_sending K q i came written n m posts x e (side_acts after mails z a b f o p known happens) = side_acts after mails z a b (more_none (flying q) posts x e ∙ f) o p known happens
 acts_sending K q i came written n m posts x e (absent a b c d f g o) = absent a b c d f (more_none (flying q) posts x e ∙ g) o
 acts_sending K q i came written n m posts x e (made size a b c d f g k o) = made size a b c d f g (more_none (flying q) posts x e ∙ k) o
+
+-- and elsewhere there is none
+pub away_none : (n : Node) (name : Name) (i : ℕ) → n.me ≡ i → (i == name.home) ≡ false → home_of n name ≡ None
+away_none n name i me other = cond-false (is_mine n name) _ _ (ne_eqb name.home n.me (λ w. eqb-false i name.home other (sym me ∙ sym w)))
 
 -- A step at the home, for the name and for all others.
 pub home_here : (K : Name → ℕ → Type 0) (name : Name) (i : ℕ) (came : Option Flying) (written : Option (List ℕ)) (n m : Node) (h : Home) (s : Served) → home_of n name ≡ Some h
@@ -148,7 +152,7 @@ pub moved_here : (K : Name → ℕ → Type 0) (name : Name) (i : ℕ) (came : O
     → ((g : Region) (rest : List Flying) → g.remotes i ≡ r → r.size ≡ g.home.size → Comes came g.flight rest → Happens name.home g (record (at_remote i s rest g) { array = bytes_after written g.array }))
     → Acts K name i came written n m (mails n name s.posts)
 moved_here K name i came written n m r s e after home me other here count size happens =
-    side_acts (λ size. s.remote) s.posts home (λ size. ap (λ o. side size o) after) (mails_here n name i s.posts me other) (ap (λ o. expected None o) after ∙ here) count
+    side_acts (λ size. s.remote) s.posts (away_none n name i me other) home (λ size. ap (λ o. side size o) after) (mails_here n name i s.posts me other) (ap (λ o. expected None o) after ∙ here) count
     (λ known x w. let same : s.remote ≡ x = (let both : Some s.remote ≡ Some x = sym after ∙ w in cc) in subst (λ z. K name z) (sym size ∙ ap (λ (y : Remote). y.size) same) (known r e))
     (λ g rest at_i sized comes. happens g rest (at_i ∙ ap (λ o. side g.home.size o) e) (subst (λ o. SizeIs o g.home.size) e sized) comes)
 
@@ -160,6 +164,6 @@ pub forgotten_here : (K : Name → ℕ → Type 0) (name : Name) (i : ℕ) (n m 
     → ((g : Region) → g.remotes i ≡ r → Happens name.home g (record (at_remote i (remote_flushes r) g.flight g) { remotes = at_node g.remotes i (new_remote g.home.size) }))
     → Acts K name i None None n m (mails n name (remote_flushes r).posts)
 forgotten_here K name i n m r e after home me other closed happens =
-    side_acts (λ size. new_remote size) (remote_flushes r).posts home (λ size. ap (λ o. side size o) after) (mails_here n name i (remote_flushes r).posts me other) (ap (λ o. expected None o) after ∙ closed) (subst (λ x. CountFits x) closed tt) (λ known x w. absurd (let none = after in cc))
+    side_acts (λ size. new_remote size) (remote_flushes r).posts (away_none n name i me other) home (λ size. ap (λ o. side size o) after) (mails_here n name i (remote_flushes r).posts me other) (ap (λ o. expected None o) after ∙ closed) (subst (λ x. CountFits x) closed tt) (λ known x w. absurd (let none = after in cc))
     (λ g rest at_i sized comes. subst (λ x. Happens name.home g (record g { remotes = at_node g.remotes i (new_remote g.home.size); flight = x ++ sent_by i (remote_flushes r).posts; array = g.array }))
     (sym comes) (happens g (at_i ∙ ap (λ o. side g.home.size o) e)))

@@ -11,4 +11,5 @@ mod Moves
 mod Near
 mod Opened
 mod Sections
+mod Steps
 mod Whole

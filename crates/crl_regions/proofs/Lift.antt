@@ -14,7 +14,8 @@ use Rattle.crl_coherence.specs.Region.{Flying, Region, Happens, elsewhere, Run, 
 use Rattle.crl_coherence.proofs.Lists.{same_or}
 use Rattle.crl_regions.specs.View.{flying, side, sight}
 use Rattle.crl_regions.proofs.Moves.{Moves, run_moves}
-use Rattle.crl_regions.proofs.Acts.{Comes, Acts, nothing, home_acts, side_acts, absent, made, home_is}
+use Rattle.crl_regions.proofs.Near.{Near}
+use Rattle.crl_regions.proofs.Acts.{FromNear, Comes, Acts, nothing, home_acts, side_acts, absent, made, home_is}
 
 -- An event, after which messages may stand at other places.
 pub finish : (me : ℕ) (g c k : Region) → Happens me g c → c.home ≡ k.home → ((n : ℕ) → c.remotes n ≡ k.remotes n) → c.array ≡ k.array → Moves c.flight k.flight → Run me g k
@@ -23,10 +24,11 @@ finish me g c k happens home remotes array moves =
     next happens (subst (λ x. Run me c x) same (run_moves me c k.flight moves))
 
 -- what the region is after the outcome, and how it came to be so
-pub record Lifted (q : Name) (before after : ℕ → Node) (boxes_before boxes_after : List Message) (h : Home) (array left : List ℕ) : Type 0 where
+pub record Lifted (q : Name) (i : ℕ) (came : Option Flying) (before after : ℕ → Node) (boxes_before boxes_after : List Message) (h : Home) (array left : List ℕ) : Type 0 where
   pub home : Home
   pub there : home_of (after q.home) q ≡ Some home
   pub size : home.size ≡ h.size
+  pub near : (count : ℕ) → i < count → FromNear count came → Near q.home count h → Near q.home count home
   pub run : Run q.home (sight q h before boxes_before array) (sight q home after boxes_after left)
 
 -- Node i goes from n to m, and sends these messages; the others stay.
@@ -62,11 +64,12 @@ remotes_but q i size before after n m r o e j = elim (same_or i j) [
 pub lift : (K : Name → ℕ → Type 0) (q : Name) (i : ℕ) (before after : ℕ → Node) (n m : Node) (boxes_before boxes_after posts : List Message) (rest : List Flying) (came : Option Flying) (written : Option (List ℕ)) (h : Home) (array : List ℕ)
     → Outcomes q i before after n m → home_of (before q.home) q ≡ Some h → SizeIs (n.remotes q) h.size
     → Comes came (picks (flying q) boxes_before) rest → Moves (rest ++ picks (flying q) posts) (picks (flying q) boxes_after)
-    → Acts K q i came written n m posts → Lifted q before after boxes_before boxes_after h array (bytes_after written array)
+    → Acts K q i came written n m posts → Lifted q i came before after boxes_before boxes_after h array (bytes_after written array)
 lift K q i before after n m bb ba posts rest came written h array o there sized comes moves (nothing none unwritten e f p o1) = record {
   home = h;
   there = home_stays q i before after n m o e ∙ there;
   size = refl;
+  near = λ count few c x. x;
   run = let g = sight q h before bb array in let k = sight q h after ba (bytes_after written array) in
       let stays : rest ≡ g.flight = subst (λ c. Comes c g.flight rest) none comes in
       finish q.home g g k elsewhere refl (λ j. sym (ap (λ x. side h.size x) (remotes_stay q i before after n m o f j))) (sym (ap (λ w. bytes_after w array) unwritten))
@@ -76,6 +79,7 @@ lift K q i before after n m bb ba posts rest came written h array o there sized 
   home = s.home;
   there = subst (λ j. home_of (after j) q ≡ Some s.home) (sym at_home) (o.home_after ∙ f);
   size = size ∙ ap (λ (x : Home). x.size) (sym table);
+  near = λ count few c x. near count few c (subst (λ y. Near q.home count y) table x);
   run = let g = sight q h before bb array in let k = sight q s.home after ba (bytes_after written array) in
       finish q.home g _ k (happens g rest table comes) refl
       (λ j. ap (λ z. side z ((before j).remotes q)) (ap (λ (x : Home). x.size) table ∙ sym size) ∙ sym (ap (λ x. side s.home.size x) (remotes_stay q i before after n m o same j))) refl
@@ -87,10 +91,11 @@ lift K q i before after n m bb ba posts rest came written h array o there sized 
 
     table : h ≡ h0
     table = let both : Some h ≡ Some h0 = sym there ∙ subst (λ j. home_of (before j) q ≡ home_of n q) (sym at_home) o.home_before ∙ e in cc
-lift K q i before after n m bb ba posts rest came written h array o there sized comes moves (side_acts r mails e f p o1 o2 known happens) = record {
+lift K q i before after n m bb ba posts rest came written h array o there sized comes moves (side_acts r mails z e f p o1 o2 known happens) = record {
   home = h;
   there = home_stays q i before after n m o e ∙ there;
   size = refl;
+  near = λ count few c x. x;
   run = let g = sight q h before bb array in let k = sight q h after ba (bytes_after written array) in
       finish q.home g _ k (happens g rest (ap (λ x. side h.size x) o.remote_before) sized comes) refl
       (λ j. remotes_but q i h.size before after n m (r h.size) o (f h.size) j) refl

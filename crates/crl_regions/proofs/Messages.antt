@@ -39,7 +39,7 @@ use Rattle.crl_coherence.specs.Region.{Flying, Region, Happens, at_home, at_remo
 use Rattle.crl_regions.specs.View.{if_about, mail_in, other_end, flown, flying, side}
 use Rattle.crl_regions.proofs.Opened.{begun, Serves, asked_serves, returned_serves, released_serves, recalled_same, yields_same, noted_begun, noted_other}
 use Rattle.crl_regions.proofs.Near.{Near, NearServed, near_asked, near_returned, near_released}
-use Rattle.crl_regions.proofs.Acts.{FromNear, expected, CountFits, Comes, Acts, nothing, side_acts, absent, acts_if, acts_sending, home_is, home_here, home_there, moved_here, moved_there}
+use Rattle.crl_regions.proofs.Acts.{FromNear, expected, CountFits, Comes, Acts, nothing, side_acts, absent, acts_if, acts_sending, home_is, away_none, home_here, home_there, moved_here, moved_there}
 use Rattle.crl_regions.proofs.Sections.{Local, away, no_table, mine_is, here_is, home_event, side_event}
 use Rattle.crl_regions.proofs.Calls.{purges_quiet, results_quiet, IsLeft, acts_forgets, unmapped_closed}
 
@@ -181,7 +181,7 @@ acts_nowhere : (K : Name → ℕ → Type 0) (i : ℕ) (d : Name → List ℕ) (
     → (q : Name) → Acts K q i (coming q from i (name_eq name q) mail) None n n []
 acts_nowhere K i d from n name mail step goes l e blank happens =
     by_name name (λ b q. Acts K q i (coming q from i b mail) None n n [])
-    (side_acts (λ size. new_remote size) [] refl (λ size. ap (λ o. side size o) e) refl (nowhere_closed i d n name goes.1 e l) (l.counts name) (λ known r w. known r w)
+    (side_acts (λ size. new_remote size) [] (away_none n name i l.fits.me goes.1) refl (λ size. ap (λ o. side size o) e) refl (nowhere_closed i d n name goes.1 e l) (l.counts name) (λ known r w. known r w)
     (λ g rest at_g sized took. subst (λ (s : Moved). Happens name.home g (at_remote i s rest g)) (ap step (at_g ∙ ap (λ o. side g.home.size o) e) ∙ blank g.home.size)
     (happens g rest (from_home name i from mail g.flight rest goes took))))
     (λ q other. nothing refl refl refl refl refl refl)
@@ -245,7 +245,7 @@ acts_info_told : (K : Name → ℕ → Type 0) (i : ℕ) (d : Name → List ℕ)
     → (q : Name) → Acts K q i None None n (info_told name doomed t n) []
 acts_info_told K i d n name doomed (told.Live size) other_home e l tells q =
     by_name name (λ b q. Acts K q i None None n (info_told name doomed (told.Live size) n) [])
-    (side_acts (λ z. new_remote size) [] refl (λ z. ap (λ o. side z o) (cond-true (name_eq name name) _ _ (name_self name))) refl
+    (side_acts (λ z. new_remote size) [] (away_none n name i l.fits.me other_home) refl (λ z. ap (λ o. side z o) (cond-true (name_eq name name) _ _ (name_self name))) refl
     (ap (λ o. expected None o) (cond-true (name_eq name name) (Some (new_remote size)) (n.remotes name) (name_self name)) ∙ sym (ap (λ o. expected None o) e) ∙ nowhere_closed i d n name other_home e l) (l.counts name)
     (λ known x w. let same : new_remote size ≡ x = (let both : Some (new_remote size) ≡ Some x = sym (cond-true (name_eq name name) (Some (new_remote size)) (n.remotes name) (name_self name)) ∙ w in cc) in
         subst (λ z. K name z) (ap (λ (y : Remote). y.size) same) tells)
