@@ -1,6 +1,6 @@
 -- A message that is carried from box to box.
-use Rattle.std.proofs.Common.{◌≡◌, ◌≢◌, ◌⊎◌, inl, inr, ℕ, zero, suc, ◌+◌, ◌<◌, ◌==◌, Bool, true, false, None, Some, Option, List, [], ◌∷◌, ◌++◌, if◌then◌else◌, refl, ap, sym, ◌∙◌, subst, arith}
-use Rattle.std.proofs.lemmas.Bool.{cond_both, cond-true, cond-false, eqb-true, eq-eqb, ne_eqb}
+use Rattle.std.proofs.Common.{◌≡◌, ◌≢◌, ◌⊎◌, inl, inr, ℕ, zero, suc, ◌+◌, ◌<◌, ◌==◌, nat_lt, Bool, true, false, None, Some, Option, List, [], ◌∷◌, ◌++◌, if◌then◌else◌, refl, ap, sym, ◌∙◌, subst, arith}
+use Rattle.std.proofs.lemmas.Bool.{cond_both, cond-true, cond-false, eqb-true, eq-eqb, ne_eqb, ltb-true, ltb-false}
 use Rattle.crl_model.specs.declared.name.Name.{Name}
 use Rattle.crl_model.specs.declared.event.Event.{Event}
 use Rattle.crl_model.specs.declared.event.Event.TheVariants as event
@@ -65,35 +65,32 @@ side_carried q i e t w j =
     before : (k : ℕ) → (between i e t w k).remotes q ≡ (w.nodes k).remotes q
     before = of_node w.nodes i (sender i e t w) (λ k n. n.remotes q ≡ (w.nodes k).remotes q) refl (λ k ne. refl)
 
--- The message is at another place, where it is about the region's copies.
-pub flight_moves : (q : Name) (i place : ℕ) (e : Event) (t : Taken Message) (w : World) → i < w.count → take_out place (w.nodes i).outbox ≡ Some t → t.taken.addressee < w.count
-    → Moves (picks (flying q) (flight w)) (picks (flying q) (boxes_from 0 w.count (arrived i e t w)))
+-- The message is at another place, where it is about the region's copies. Then it goes to a node of the world.
+pub flight_moves : (q : Name) (i place : ℕ) (e : Event) (t : Taken Message) (w : World) → i < w.count → take_out place (w.nodes i).outbox ≡ Some t
+    → ((f : Flying) → flying q t.taken ≡ Some f → t.taken.addressee < w.count) → Moves (picks (flying q) (flight w)) (picks (flying q) (boxes_from 0 w.count (arrived i e t w)))
 flight_moves q i place e t w few out to = go (flying q t.taken) refl
   where
-    go : (o : Option Flying) → flying q t.taken ≡ o → Moves (picks (flying q) (flight w)) (picks (flying q) (boxes_from 0 w.count (arrived i e t w)))
-    go None x = subst (λ l. Moves (picks (flying q) (flight w)) l) (took_none (flying q) (leaves i place e t w few out) x ∙ sym (took_none (flying q) (arrives i e t w to) x)) still
-    go (Some f) x = moved f _ (took_some (flying q) (leaves i place e t w few out) f x) (took_some (flying q) (arrives i e t w to) f x) still
+    quiet : flying q t.taken ≡ None → (b : Bool) → nat_lt t.taken.addressee w.count ≡ b → picks (flying q) (boxes_from 0 w.count (between i e t w)) ≡ picks (flying q) (boxes_from 0 w.count (arrived i e t w))
+    quiet x true b = sym (took_none (flying q) (arrives i e t w (ltb-true t.taken.addressee w.count b)) x)
+    quiet x false b =
+        ap (λ l. picks (flying q) l) (flight_same w.count (between i e t w) (arrived i e t w)
+        (λ l few_l. ap boxes (sym (node_there (between i e t w) t.taken.addressee (put_in t.taken (between i e t w t.taken.addressee)) l (λ same. let past = ltb-false t.taken.addressee w.count b in omega arith)))))
 
-pub carried_run : (q : Name) (h : Home) (array : List ℕ) (i place : ℕ) (e : Event) (t : Taken Message) (w : World) → i < w.count → take_out place (w.nodes i).outbox ≡ Some t → t.taken.addressee < w.count
+    go : (o : Option Flying) → flying q t.taken ≡ o → Moves (picks (flying q) (flight w)) (picks (flying q) (boxes_from 0 w.count (arrived i e t w)))
+    go None x = subst (λ l. Moves (picks (flying q) (flight w)) l) (took_none (flying q) (leaves i place e t w few out) x ∙ quiet x (nat_lt t.taken.addressee w.count) refl) still
+    go (Some f) x = moved f _ (took_some (flying q) (leaves i place e t w few out) f x) (took_some (flying q) (arrives i e t w (to f x)) f x) still
+
+pub carried_run : (q : Name) (h : Home) (array : List ℕ) (i place : ℕ) (e : Event) (t : Taken Message) (w : World) → i < w.count → take_out place (w.nodes i).outbox ≡ Some t
+    → ((f : Flying) → flying q t.taken ≡ Some f → t.taken.addressee < w.count)
     → Run q.home (sight q h w.nodes (flight w) array) (sight q h (arrived i e t w) (boxes_from 0 w.count (arrived i e t w)) array)
 carried_run q h array i place e t w few out to =
     let g = sight q h w.nodes (flight w) array in
     finish q.home g g _ elsewhere refl (λ j. ap (λ o. side h.size o) (sym (side_carried q i e t w j))) refl (flight_moves q i place e t w few out to)
 
-pub carry_runs : (q : Name) (array : List ℕ) (i place : ℕ) (t : Taken Message) (w : World) → i < w.count → take_out place (w.nodes i).outbox ≡ Some t → t.taken.addressee < w.count
-    → Run q.home (view q array w) (view q array (step (event.Carry i place) w).world)
-unfolding step
-carry_runs q array i place t w few out to = go (take_out place (w.nodes i).outbox) out
+-- what holds of each node holds still, where the boxes are no part of it, or it is kept as the message leaves and comes
+pub arrived_all : (i : ℕ) (e : Event) (t : Taken Message) (w : World) (P : ℕ → Node → Type 0) → ((j : ℕ) → P j (w.nodes j)) → (P i (w.nodes i) → P i (sender i e t w))
+    → ((n : Node) → P t.taken.addressee n → P t.taken.addressee (put_in t.taken n)) → (j : ℕ) → P j (arrived i e t w j)
+arrived_all i e t w P all sent put = of_node (between i e t w) t.taken.addressee (put_in t.taken (between i e t w t.taken.addressee)) P (put _ (before t.taken.addressee)) (λ j other. before j)
   where
-    e : Event
-    e = event.Carry i place
-
-    ran : Run q.home (view q array w) (sight q (table_or_blank (table_of q w)) (arrived i e t w) (boxes_from 0 w.count (arrived i e t w)) array)
-    ran = carried_run q (table_or_blank (table_of q w)) array i place e t w few out to
-
-    go : (o : Option (Taken Message)) → o ≡ Some t → Run q.home (view q array w) (view q array (carried i e o w).world)
-    go None x = absurd (cc)
-    go (Some u) x =
-        let same : t ≡ u = cc in
-        subst (λ v. Run q.home (view q array w) (view q array (carried i e (Some v) w).world)) same
-        (subst (λ o. Run q.home (view q array w) (sight q (table_or_blank o) (arrived i e t w) (boxes_from 0 w.count (arrived i e t w)) array)) (sym (table_carried q i e t w q.home)) ran)
+    before : (j : ℕ) → P j (between i e t w j)
+    before = of_node w.nodes i (sender i e t w) P (sent (all i)) (λ j other. all j)

@@ -2,6 +2,7 @@ mod Acts
 mod Calls
 mod Carried
 mod Ends
+mod Events
 mod Fair
 mod Houses
 mod Kept
@@ -10,6 +11,7 @@ mod Messages
 mod Moves
 mod Near
 mod Opened
+mod Runs
 mod Sections
 mod Steps
 mod Whole

@@ -132,9 +132,9 @@ no_side w drafts arrays q j k none = go ((w.nodes j).remotes q) refl
     go (Some r) e = absurd (let t = (k.sizes j q r e).1 in cc)
 
 -- The outcome o of node i, from n on, where the message that came is taken out of the inbox.
-pub record Outcome_of (w : World) (drafts : ℕ → Name → List ℕ) (arrays : Name → List ℕ) (i : ℕ) (inbox : List Message) (o : Outcome) (came : Name → Option Flying) (written : Name → Option (List ℕ)) : Type 0 where
+pub record Outcome_of (w : World) (after : ℕ → Name → List ℕ) (i : ℕ) (e : Event) (inbox : List Message) (o : Outcome) (came : Name → Option Flying) (written : Name → Option (List ℕ)) : Type 0 where
   pub few : i < w.count
-  pub good : Good i (drafts i) o
+  pub fits : (j : ℕ) → Fits j ((stepped i e o w).world.nodes j) (after j)
   pub acts : (q : Name) → Acts (λ p size. (h : Home) × (table_of p w ≡ Some h) × (h.size ≡ size)) q i (came q) (written q) (record (w.nodes i) { inbox = inbox }) o.node o.posts
   pub keeps : Keeps (record (w.nodes i) { inbox = inbox }) o.node
   pub rest : AllByRecursion (λ (m : Message). Fair w.count (λ q. table_of q w) m × (m.addressee ≡ i)) inbox
@@ -146,12 +146,12 @@ own_live : (b : Bool) (v : Seen) → OwnFits b v → LiveFits v.stage v.home
 own_live true v own = own.live
 own_live false v own = subst (λ s. LiveFits s v.home) (sym own.unknown) tt
 
-pub whole_stepped : (w : World) (drafts : ℕ → Name → List ℕ) (arrays : Name → List ℕ) (i : ℕ) (e : Event) (inbox : List Message) (o : Outcome) (came : Name → Option Flying) (written : Name → Option (List ℕ))
-    → Whole w drafts arrays → Outcome_of w drafts arrays i inbox o came written
-    → Whole (stepped i e o w).world (at_node drafts i (begins o.answer (drafts i))) (λ q. bytes_after (written q) (arrays q))
-whole_stepped w drafts arrays i e inbox o came written k x = record {
-  fits = of_node w.nodes i m (λ j n. Fits j n (at_node drafts i (begins o.answer (drafts i)) j)) (subst (λ d. Fits i m d) (sym (node_here drafts i (begins o.answer (drafts i)))) fits_now)
-      (λ j other. subst (λ d. Fits j (w.nodes j) d) (sym (node_there drafts i (begins o.answer (drafts i)) j other)) (k.fits j));
+pub whole_stepped : (w : World) (drafts later : ℕ → Name → List ℕ) (arrays : Name → List ℕ) (i : ℕ) (e : Event) (inbox : List Message) (o : Outcome) (came : Name → Option Flying) (written : Name → Option (List ℕ))
+    → Whole w drafts arrays → Outcome_of w later i e inbox o came written
+    → Whole (stepped i e o w).world later (λ q. bytes_after (written q) (arrays q))
+    × ((q : Name) (h : Home) → table_of q w ≡ Some h → Lifted q i (came q) w.nodes (stepped i e o w).world.nodes (flight w) (flight (stepped i e o w).world) h (arrays q) (bytes_after (written q) (arrays q)))
+whole_stepped w drafts later arrays i e inbox o came written k x = (record {
+  fits = x.fits;
   agrees = of_node w.nodes i m (λ j n. (q : Name) → expected (home_of n q) (n.remotes q) ≡ section_at q n.sections) (λ q. agrees_now q (x.acts q)) (λ j other. k.agrees j);
   counts = of_node w.nodes i m (λ j n. (q : Name) → CountFits (section_at q n.sections)) (λ q. counts_now q (x.acts q)) (λ j other. k.counts j);
   housed = of_node w.nodes i m (λ j n. Housed n) (x.keeps.2 (k.housed i)) (λ j other. k.housed j);
@@ -165,7 +165,7 @@ whole_stepped w drafts arrays i e inbox o came written k x = record {
       (all_append (Fair w.count after) o.node.outbox o.posts (subst (λ ms. AllFair w.count after ms) (sym x.keeps.1) (all_grown w.count before after (w.nodes i).outbox grows (k.outbox i))) (x.fair after sends))
       (λ j other. all_grown w.count before after (w.nodes j).outbox grows (k.outbox j));
   coherent = coherent_now;
-}
+}, lifted)
   where
     n : Node
     n = record (w.nodes i) { inbox = inbox }
@@ -184,9 +184,6 @@ whole_stepped w drafts arrays i e inbox o came written k x = record {
 
     after : Name → Option Home
     after = λ q. table_of q v
-
-    fits_now : Fits i m (begins o.answer (drafts i))
-    fits_now = let f = x.good.node in record { me = f.me; each = f.each; cache = f.cache; fresh = f.fresh; inbox = f.inbox; outbox = all_append Leaves o.node.outbox o.posts f.outbox x.good.posts }
 
     outcomes : (q : Name) → Outcomes q i w.nodes v.nodes n o.node
     outcomes q = record {

@@ -18,7 +18,7 @@ use Rattle.crl_protocol.specs.Home.{Home, new_home, bytes_after}
 use Rattle.crl_protocol.specs.Remote.{Remote, new_remote}
 use Rattle.crl_protocol.specs.Node.{Node, next_name, home_of}
 use Rattle.crl_protocol.specs.Verdict.{verdict}
-use Rattle.crl_protocol.specs.World.{World, flight}
+use Rattle.crl_protocol.specs.World.{World, new_world, flight, step}
 use Rattle.crl_coherence.specs.Region.{Flying, Region}
 
 -- the mail of a message that is about this region's copies
@@ -88,3 +88,12 @@ left_by q _ w = None
 
 abbrev pub array_after : Name → Event → World → List ℕ → List ℕ
 array_after q e w array = bytes_after (left_by q e w) array
+
+-- the bytes of the region in the array after these events, where it has these before them
+abbrev pub array_from : Name → World → List Event → List ℕ → List ℕ
+array_from q w [] array = array
+array_from q w (e ∷ es) array = array_from q (step e w).world es (array_after q e w array)
+
+-- and after a run from its start
+abbrev pub array_of : Name → ℕ → ℕ → List Event → List ℕ
+array_of q count capacity run = array_from q (new_world count capacity) run []
