@@ -1,20 +1,20 @@
 -- What an outcome of one node does to a region, and what that is of the region seen by itself.
-use Rattle.std.proofs.Common.{◌≡◌, ◌≢◌, ℕ, zero, suc, ◌+◌, ◌^◌, ◌<◌, ◌==◌, Bool, true, false, None, Some, Option, List, [], ◌∷◌, ◌++◌, length, map, replicate, if◌then◌else◌, refl, ap, sym, ◌∙◌, subst, arith}
+use Rattle.std.proofs.Common.{◌≡◌, ℕ, ◌^◌, ◌<◌, ◌==◌, Bool, true, false, None, Some, Option, List, [], ◌∷◌, ◌++◌, replicate, if◌then◌else◌, refl, ap, sym, ◌∙◌, subst}
 use Rattle.std.proofs.lemmas.Bool.{cond_both, cond-true, cond-false, eqb-true, eq-eqb, eqb-false, ne_eqb}
 use Rattle.crl_model.specs.declared.name.Name.{Name}
 use Rattle.crl_model.specs.declared.directory.Section.{Section}
 use Rattle.crl_model.specs.declared.directory.Section.TheVariants as section
 use Rattle.crl_model.specs.declared.message.Message.{Message}
-use Rattle.crl_model.specs.Names.{name_eq, at_node, at_name}
+use Rattle.crl_model.specs.Names.{name_eq, at_node}
 use Rattle.crl_protocol.specs.Places.{picks, Took}
 use Rattle.crl_protocol.specs.Mail.{Mail, Ask, Grant, Recall, Yield, Return, Release, Letter, about}
 use Rattle.crl_protocol.specs.Home.{Home, Served, new_home, bytes_after}
 use Rattle.crl_protocol.specs.Remote.{Remote, Moved, new_remote, remote_flushes}
 use Rattle.crl_protocol.specs.Sections.{section_at}
-use Rattle.crl_protocol.specs.Node.{Node, Outcome, at_serial, is_mine, home_of, with_home, with_remote, message, letters, mails}
-use Rattle.crl_protocol.proofs.Fitting.{name_self, other_name, SizeIs}
+use Rattle.crl_protocol.specs.Node.{Node, Outcome, at_serial, is_mine, home_of, with_home, message, letters, mails}
+use Rattle.crl_protocol.proofs.Fitting.{name_self, SizeIs}
 use Rattle.crl_protocol.proofs.Tabling.{home_put}
-use Rattle.crl_coherence.specs.Region.{Flying, Region, Happens, sent, sent_by, at_home, at_remote, forget}
+use Rattle.crl_coherence.specs.Region.{Flying, Region, Happens, sent, sent_by, at_home, at_remote}
 use Rattle.crl_coherence.proofs.Lists.{picked_none, picked_some, more_none}
 use Rattle.crl_regions.proofs.Near.{Near}
 use Rattle.crl_regions.specs.View.{if_about, mail_in, other_end, flown, flying, side}
@@ -56,7 +56,6 @@ pub data Acts (K : Name → ℕ → Type 0) (q : Name) (i : ℕ) (came : Option 
       → ((g : Region) (rest : List Flying) → g.remotes i ≡ side g.home.size (n.remotes q) → SizeIs (n.remotes q) g.home.size → Comes came g.flight rest
       → Happens q.home g (record g { remotes = at_node g.remotes i (after g.home.size); flight = rest ++ sent_by i mails; array = bytes_after written g.array }))
       → Acts K q i came written n m posts
-
   absent : written ≡ None → (q.home == i) ≡ true → home_of n q ≡ None → home_of m q ≡ None → m.remotes q ≡ n.remotes q → picks (flying q) posts ≡ []
       → section_at q m.sections ≡ section_at q n.sections → Acts K q i came written n m posts
   made : (size : ℕ) → came ≡ None → written ≡ Some (replicate size 0) → (q.home == i) ≡ true → home_of n q ≡ None → home_of m q ≡ Some (new_home n.nodes size) → m.remotes q ≡ n.remotes q

@@ -1,6 +1,6 @@
 -- What each other call does to each region.
-use Rattle.std.proofs.Common.{◌≡◌, ◌≢◌, ℕ, zero, suc, ◌+◌, ◌-◌, ◌<◌, ◌==◌, nat_lt, Bool, true, false, None, Some, Option, List, [], ◌∷◌, ◌++◌, length, map, replicate, if◌then◌else◌, refl, ap, sym, ◌∙◌, subst, arith}
-use Rattle.std.proofs.lemmas.Bool.{cond_both, cond-true, cond-false, eqb-true, eqb-false, eq-eqb, and_parts, ne_eqb}
+use Rattle.std.proofs.Common.{◌≡◌, ℕ, zero, suc, ◌+◌, ◌-◌, ◌==◌, nat_lt, Bool, true, false, None, Some, Option, List, [], ◌∷◌, length, map, replicate, refl, ap, sym, ◌∙◌, subst}
+use Rattle.std.proofs.lemmas.Bool.{cond_both, cond-true, cond-false, eqb-true, eq-eqb}
 use Rattle.std.proofs.Math.Logic.{◌⊎◌, inl, inr}
 use Rattle.crl_model.specs.declared.name.Name.{Name}
 use Rattle.crl_model.specs.declared.call.Call.{Call}
@@ -9,32 +9,29 @@ use Rattle.crl_model.specs.declared.call.CallKind.{CallKind}
 use Rattle.crl_model.specs.declared.call.Refusal.{Refusal}
 use Rattle.crl_model.specs.declared.collective.Fold.{Fold}
 use Rattle.crl_model.specs.declared.collective.Part.{Part}
-use Rattle.crl_model.specs.declared.directory.Section.{Section}
 use Rattle.crl_model.specs.declared.directory.Section.TheVariants as section
-use Rattle.crl_model.specs.declared.message.Message.{Message}
 use Rattle.crl_model.specs.declared.message.Kind.TheVariants as kind
 use Rattle.crl_model.specs.Calls.{kind_of}
-use Rattle.crl_model.specs.Names.{name_eq, at_node}
+use Rattle.crl_model.specs.Names.{name_eq}
 use Rattle.crl_protocol.specs.Places.{picks}
-use Rattle.crl_protocol.specs.Home.{Home, new_home}
-use Rattle.crl_protocol.specs.Remote.{Remote, is_closed, remote_flushes}
+use Rattle.crl_protocol.specs.Home.{new_home}
+use Rattle.crl_protocol.specs.Remote.{Remote}
 use Rattle.crl_protocol.specs.Leases.{Mapping, Kept, Keeps, keeps, push_out, cached_size, Lease, lease_begins, members}
 use Rattle.crl_protocol.specs.Gathering.{gathers}
-use Rattle.crl_protocol.specs.Node.{Node, Outcome, Free, ForDelete, Waiting, COUNT_LIMIT, used, next_name, is_mine, home_of, lease_of, with_home, with_remote, with_lease, with_mapping, message, only, Done}
+use Rattle.crl_protocol.specs.Node.{Node, Free, COUNT_LIMIT, used, next_name, is_mine, home_of, lease_of, message}
 use Rattle.crl_protocol.specs.Sections.{Record, section_of, section_at}
 use Rattle.crl_protocol.specs.Sectioning.{forgets_over, forgets}
-use Rattle.crl_protocol.specs.Verdict.{of_open, of_start, of_end, verdict, used_up, call_refused}
-use Rattle.crl_protocol.specs.Calls.{creates, deletes_own, deletes, is_gone, purges, maps_over, maps_cached, unmaps_over, unmaps, forgets_evicted, caches, parts_with, results_from, gathered_own, comes, call_taken, called_as, called}
+use Rattle.crl_protocol.specs.Verdict.{of_open, verdict, used_up, call_refused}
+use Rattle.crl_protocol.specs.Calls.{creates, deletes_own, deletes, is_gone, maps_over, maps_cached, unmaps_over, forgets_evicted, results_from, gathered_own, comes, call_taken, called_as, called}
 use Rattle.crl_protocol.specs.World.{is_call}
-use Rattle.crl_protocol.proofs.Fitting.{by_name, by_test, name_self, same_name, RecordFits, IsCached, Fits}
+use Rattle.crl_protocol.proofs.Fitting.{by_name, name_self, RecordFits, IsCached}
 use Rattle.crl_protocol.proofs.Tabling.{home_end, home_next, home_none}
 use Rattle.crl_protocol.proofs.Opening.{free}
 use Rattle.crl_protocol.proofs.Outcomes.{asking_of}
 use Rattle.crl_protocol.proofs.Calling.{none_of}
-use Rattle.crl_protocol.proofs.Obeying.{allowed_by}
 use Rattle.crl_regions.specs.View.{flying, left_if, left_in}
-use Rattle.crl_regions.proofs.Acts.{Comes, Acts, nothing, made, acts_if}
-use Rattle.crl_regions.proofs.Sections.{Local, free_asks, away, no_table, here_is, closed_of, acts_start}
+use Rattle.crl_regions.proofs.Acts.{Acts, nothing, made, acts_if}
+use Rattle.crl_regions.proofs.Sections.{Local, free_asks, away, here_is, closed_of, acts_start}
 use Rattle.crl_regions.proofs.Ends.{acts_end_read, acts_end_write, acts_flush, forgets_acts}
 
 -- A create.

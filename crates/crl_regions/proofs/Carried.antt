@@ -1,18 +1,17 @@
 -- A message that is carried from box to box.
-use Rattle.std.proofs.Common.{◌≡◌, ◌≢◌, ◌⊎◌, inl, inr, ℕ, zero, suc, ◌+◌, ◌<◌, ◌==◌, nat_lt, Bool, true, false, None, Some, Option, List, [], ◌∷◌, ◌++◌, if◌then◌else◌, refl, ap, sym, ◌∙◌, subst, arith}
+use Rattle.std.proofs.Common.{◌≡◌, ℕ, ◌<◌, ◌==◌, nat_lt, Bool, true, false, None, Some, Option, List, refl, ap, sym, ◌∙◌, subst, arith}
 use Rattle.std.proofs.lemmas.Bool.{cond_both, cond-true, cond-false, eqb-true, eq-eqb, ne_eqb, ltb-true, ltb-false}
 use Rattle.crl_model.specs.declared.name.Name.{Name}
 use Rattle.crl_model.specs.declared.event.Event.{Event}
-use Rattle.crl_model.specs.declared.event.Event.TheVariants as event
 use Rattle.crl_model.specs.declared.message.Message.{Message}
 use Rattle.crl_model.specs.Names.{at_node}
 use Rattle.crl_protocol.specs.Places.{picks, Took, Taken, take_out}
 use Rattle.crl_protocol.specs.Home.{Home}
 use Rattle.crl_protocol.specs.Node.{Node, home_of}
-use Rattle.crl_protocol.specs.World.{World, flight, boxes_from, note, put_in, carried, step}
-use Rattle.crl_coherence.specs.Region.{Flying, Region, carry, elsewhere, Run, done, next}
+use Rattle.crl_protocol.specs.World.{World, flight, boxes_from, note, put_in}
+use Rattle.crl_coherence.specs.Region.{Flying, elsewhere, Run}
 use Rattle.crl_coherence.proofs.Lists.{took_some, took_none}
-use Rattle.crl_regions.specs.View.{flying, side, sight, table_of, table_or_blank, view}
+use Rattle.crl_regions.specs.View.{flying, side, sight}
 use Rattle.crl_regions.proofs.Moves.{Moves, still, moved, boxes, flight_took, flight_same, took_out, took_left, took_right, took_put}
 use Rattle.crl_regions.proofs.Lift.{finish}
 

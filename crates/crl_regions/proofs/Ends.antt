@@ -1,14 +1,13 @@
 -- What the end of a section, a flush and a name that is forgotten do to each region.
-use Rattle.std.proofs.Common.{◌≡◌, ◌≢◌, ℕ, zero, suc, ◌+◌, ◌-◌, ◌^◌, ◌<◌, ◌==◌, Bool, true, false, None, Some, Option, List, [], ◌∷◌, ◌++◌, length, if◌then◌else◌, refl, ap, sym, ◌∙◌, subst, arith}
+use Rattle.std.proofs.Common.{◌≡◌, ℕ, ◌+◌, ◌-◌, ◌^◌, ◌<◌, ◌==◌, Bool, true, false, None, Some, Option, List, length, refl, ap, sym, ◌∙◌, subst, arith}
 use Rattle.std.proofs.lemmas.Bool.{cond_both, cond-true, cond-false, eqb-true, eqb-false}
 use Rattle.crl_model.specs.declared.name.Name.{Name}
-use Rattle.crl_model.specs.declared.directory.Section.{Section}
 use Rattle.crl_model.specs.declared.directory.Section.TheVariants as section
 use Rattle.crl_model.specs.Names.{name_eq, at_node}
 use Rattle.crl_protocol.specs.Home.{Home, Served, one_less, home_ends_read, home_ends_write, bytes_after}
 use Rattle.crl_protocol.specs.Remote.{Remote, Moved, new_remote, remote_ends_read, remote_ends_write, remote_flushes}
-use Rattle.crl_protocol.specs.Node.{Node, Outcome, Free, is_mine, home_of, with_home, with_remote, mails}
-use Rattle.crl_protocol.specs.Sectioning.{moved, left_home, closes, ends_remote, ends_home, ends_read, ends_write, flushes_remote, flushes, forgets_over, forgets}
+use Rattle.crl_protocol.specs.Node.{Node, is_mine, home_of, with_remote, mails}
+use Rattle.crl_protocol.specs.Sectioning.{moved, left_home, closes, ends_remote, ends_home, ends_read, ends_write, flushes_remote, flushes}
 use Rattle.crl_protocol.specs.Sections.{Sections, section_at, section_ends, bytes_at, is_writing}
 use Rattle.crl_protocol.specs.Leases.{Mapping}
 use Rattle.crl_protocol.specs.Verdict.{of_end, of_open}
@@ -23,7 +22,7 @@ use Rattle.crl_regions.specs.View.{left_if}
 use Rattle.crl_regions.proofs.Opened.{ended, read_ended, write_ended, read_left, write_left, flushes_same, noted_ended, ended_other}
 use Rattle.crl_regions.proofs.Near.{Near, near_read, near_write}
 use Rattle.crl_regions.proofs.Acts.{expected, CountFits, Comes, Acts, nothing, acts_if, home_is, home_here, home_there, moved_here, moved_there, forgotten_here}
-use Rattle.crl_regions.proofs.Sections.{Local, idle_of, free_idle, free_asks, away, no_table, mine_is, here_is, home_event, side_event, reading_of, writing_of, closed_of}
+use Rattle.crl_regions.proofs.Sections.{Local, idle_of, free_idle, free_asks, away, mine_is, here_is, home_event, side_event, reading_of, writing_of, closed_of}
 
 -- what the end of a section is at the home, and at another node
 abbrev HomeEnds : Name → Home → Served → Option (List ℕ) → Type 0
@@ -104,19 +103,25 @@ acts_end_read K i d n name v l =
     at_h : (h : Home) → home_of (free n) name ≡ Some h → ((home_ends_read n.me h).home.size ≡ h.size) × ((home_ends_read n.me h).home.mine ≡ ended (section_at name n.sections)) × NearStays name h (home_ends_read n.me h) × HomeEnds name h (home_ends_read n.me h) None
     at_h h e =
         let idle = home_idle i d n name h e l.fits in
-        let mine : h.mine ≡ section.Reading (reading.0 + 1) = mine_is i d (free n) name h e l ∙ reading.1 in
-        ((read_goes n.me h (home_bytes i d (free n) name h e l.fits)).size, read_ended n.me h idle.1 ∙ ap one_less mine ∙ sym (ap ended reading.1),
-        λ k x. subst (λ y. Near y k (home_ends_read n.me h).home) idle.0 (near_read n.me k h (subst (λ y. Near y k h) (sym idle.0) x)).near, λ g rest at_g comes.
-        home_event n.me name.home h (λ k x. home_ends_read k x) g rest g.array idle.0 at_g
-        (subst (λ x. Happens name.home g (at_home (home_ends_read name.home g.home) x g)) (sym comes)
-        (region.home_end_read reading.0 (ap (λ (x : Home). x.mine) at_g ∙ mine) (idle.2 g at_g))))
+        let mine : h.mine ≡ section.Reading (reading.0 + 1) = mine_is i d (free n) name h e l ∙ reading.1 in (
+          (read_goes n.me h (home_bytes i d (free n) name h e l.fits)).size,
+          read_ended n.me h idle.1 ∙ ap one_less mine ∙ sym (ap ended reading.1),
+          λ k x. subst (λ y. Near y k (home_ends_read n.me h).home) idle.0 (near_read n.me k h (subst (λ y. Near y k h) (sym idle.0) x)).near,
+          λ g rest at_g comes.
+              home_event n.me name.home h (λ k x. home_ends_read k x) g rest g.array idle.0 at_g
+              (subst (λ x. Happens name.home g (at_home (home_ends_read name.home g.home) x g)) (sym comes)
+              (region.home_end_read reading.0 (ap (λ (x : Home). x.mine) at_g ∙ mine) (idle.2 g at_g))),
+        )
 
     at_r : (r : Remote) → n.remotes name ≡ Some r → ((remote_ends_read r).remote.here ≡ ended (section_at name n.sections)) × ((remote_ends_read r).remote.size ≡ r.size) × SideEnds name i r (remote_ends_read r) None
     at_r r e =
-        let here : r.here ≡ section.Reading (reading.0 + 1) = here_is i d (free n) name r e l ∙ reading.1 in
-        (read_left r ∙ ap one_less here ∙ sym (ap ended reading.1), (read_ends r (remote_bytes i d (free n) name r e l.fits)).size, λ g rest at_g sized comes. side_event name.home i r (λ x. remote_ends_read x) g rest g.array at_g
-        (subst (λ x. Happens name.home g (at_remote i (remote_ends_read (g.remotes i)) x g)) (sym comes)
-        (region.end_read i reading.0 (eqb-false i name.home (away i d (free n) name r e l.fits)) (ap (λ (x : Remote). x.here) at_g ∙ here))))
+        let here : r.here ≡ section.Reading (reading.0 + 1) = here_is i d (free n) name r e l ∙ reading.1 in (
+          read_left r ∙ ap one_less here ∙ sym (ap ended reading.1),
+          (read_ends r (remote_bytes i d (free n) name r e l.fits)).size,
+          λ g rest at_g sized comes. side_event name.home i r (λ x. remote_ends_read x) g rest g.array at_g
+              (subst (λ x. Happens name.home g (at_remote i (remote_ends_read (g.remotes i)) x g)) (sym comes)
+              (region.end_read i reading.0 (eqb-false i name.home (away i d (free n) name r e l.fits)) (ap (λ (x : Remote). x.here) at_g ∙ here))),
+        )
 
 pub acts_end_write : (K : Name → ℕ → Type 0) (i : ℕ) (d : Name → List ℕ) (n : Node) (name : Name) (after : List ℕ) → of_end true (section_at name n.sections) ≡ None
     → length after ≡ length (bytes_at name n.sections) → Local i d (free n)
@@ -134,20 +139,26 @@ acts_end_write K i d n name after v same l =
     at_h h e =
         let idle = home_idle i d n name h e l.fits in
         let mine : h.mine ≡ section.Writing = mine_is i d (free n) name h e l ∙ writing in
-        let sized : length after ≡ h.size = same ∙ size.2 ∙ mapped_home i d (free n) name h size.0 e size.1 l.fits in
-        ((write_goes n.me after h sized).size, write_ended n.me after h idle.1 ∙ sym (ap ended writing),
-        λ k x. subst (λ y. Near y k (home_ends_write n.me after h).home) idle.0 (near_write n.me k after h (subst (λ y. Near y k h) (sym idle.0) x)).near, λ g rest at_g comes.
-        home_event n.me name.home h (λ k x. home_ends_write k after x) g rest after idle.0 at_g
-        (subst (λ x. Happens name.home g (record (at_home (home_ends_write name.home after g.home) x g) { array = after })) (sym comes)
-        (region.home_end_write after (ap (λ (x : Home). x.mine) at_g ∙ mine) (idle.2 g at_g) (sized ∙ sym (ap (λ (x : Home). x.size) at_g)))))
+        let sized : length after ≡ h.size = same ∙ size.2 ∙ mapped_home i d (free n) name h size.0 e size.1 l.fits in (
+          (write_goes n.me after h sized).size,
+          write_ended n.me after h idle.1 ∙ sym (ap ended writing),
+          λ k x. subst (λ y. Near y k (home_ends_write n.me after h).home) idle.0 (near_write n.me k after h (subst (λ y. Near y k h) (sym idle.0) x)).near,
+          λ g rest at_g comes.
+              home_event n.me name.home h (λ k x. home_ends_write k after x) g rest after idle.0 at_g
+              (subst (λ x. Happens name.home g (record (at_home (home_ends_write name.home after g.home) x g) { array = after })) (sym comes)
+              (region.home_end_write after (ap (λ (x : Home). x.mine) at_g ∙ mine) (idle.2 g at_g) (sized ∙ sym (ap (λ (x : Home). x.size) at_g)))),
+        )
 
     at_r : (r : Remote) → n.remotes name ≡ Some r → ((remote_ends_write after r).remote.here ≡ ended (section_at name n.sections)) × ((remote_ends_write after r).remote.size ≡ r.size) × SideEnds name i r (remote_ends_write after r) (Some after)
     at_r r e =
         let here : r.here ≡ section.Writing = here_is i d (free n) name r e l ∙ writing in
-        let long = same ∙ size.2 ∙ mapped_remote i d (free n) name r size.0 e size.1 l.fits in
-        (write_left after r ∙ sym (ap ended writing), (write_ends after r long).size, λ g rest at_g sized comes. side_event name.home i r (λ x. remote_ends_write after x) g rest after at_g
-        (subst (λ x. Happens name.home g (record (at_remote i (remote_ends_write after (g.remotes i)) x g) { array = after })) (sym comes)
-        (region.end_write i after (eqb-false i name.home (away i d (free n) name r e l.fits)) (ap (λ (x : Remote). x.here) at_g ∙ here) (long ∙ sized))))
+        let long = same ∙ size.2 ∙ mapped_remote i d (free n) name r size.0 e size.1 l.fits in (
+          write_left after r ∙ sym (ap ended writing),
+          (write_ends after r long).size,
+          λ g rest at_g sized comes. side_event name.home i r (λ x. remote_ends_write after x) g rest after at_g
+              (subst (λ x. Happens name.home g (record (at_remote i (remote_ends_write after (g.remotes i)) x g) { array = after })) (sym comes)
+              (region.end_write i after (eqb-false i name.home (away i d (free n) name r e l.fits)) (ap (λ (x : Remote). x.here) at_g ∙ here) (long ∙ sized))),
+        )
 
 -- A flush, and a name that is forgotten.
 flush_side : (i : ℕ) (name : Name) (r : Remote) → (i == name.home) ≡ false → r.here ≡ section.Closed → r.asking ≡ None → SideEnds name i r (remote_flushes r) None

@@ -1,50 +1,38 @@
 -- Each event of a run keeps what holds of all nodes, and is a run of each region's events.
-use Rattle.std.proofs.Common.{◌≡◌, ◌≢◌, ◌⊎◌, inl, inr, ℕ, zero, suc, ◌+◌, ◌<◌, ◌==◌, nat_lt, Bool, true, false, None, Some, Option, List, [], ◌∷◌, ◌++◌, length, if◌then◌else◌, refl, ap, sym, ◌∙◌, subst, arith}
-use Rattle.std.specs.List.{All, AllByRecursion}
-use Rattle.std.proofs.lemmas.Bool.{cond_both, cond-true, cond-false, eqb-true, eqb-false, eq-eqb, ne_eqb, and_parts, ltb-true}
-use Rattle.std.proofs.lemmas.List.Elements.{All-from_recursion}
+use Rattle.std.proofs.Common.{◌≡◌, ℕ, ◌<◌, ◌==◌, Bool, true, false, None, Some, Option, List, refl, ap, sym, subst}
+use Rattle.std.specs.List.{AllByRecursion}
+use Rattle.std.proofs.lemmas.Bool.{cond-true, cond-false, eq-eqb}
 use Rattle.crl_model.specs.declared.name.Name.{Name}
 use Rattle.crl_model.specs.declared.call.Call.{Call}
 use Rattle.crl_model.specs.declared.event.Event.{Event}
 use Rattle.crl_model.specs.declared.event.Event.TheVariants as event
-use Rattle.crl_model.specs.declared.statement.Statement.{Statement}
 use Rattle.crl_model.specs.declared.message.Told.{Told}
 use Rattle.crl_model.specs.declared.message.Told.TheVariants as told
 use Rattle.crl_model.specs.declared.message.Message.{Message}
 use Rattle.crl_model.specs.declared.message.Kind.{Kind}
 use Rattle.crl_model.specs.declared.message.Kind.TheVariants as kind
 use Rattle.crl_model.specs.Names.{name_eq, at_node}
-use Rattle.crl_protocol.specs.Places.{at, picks, Took, here, there, Taken, take_out}
-use Rattle.crl_protocol.specs.Mail.{Mail, Ask, Grant, Recall, Yield, Return, Release}
+use Rattle.crl_protocol.specs.Places.{picks, Took, here, there, Taken, take_out}
+use Rattle.crl_protocol.specs.Mail.{Mail}
 use Rattle.crl_protocol.specs.Home.{Home, bytes_after}
-use Rattle.crl_protocol.specs.Remote.{Remote}
-use Rattle.crl_protocol.specs.Sections.{section_at}
-use Rattle.crl_protocol.specs.Node.{Node, new_node, Outcome, Activity, Free, Waiting, Ready, at_serial, is_mine, home_of}
+use Rattle.crl_protocol.specs.Node.{Node, Outcome, Activity, Free, Waiting, Ready}
 use Rattle.crl_protocol.specs.Verdict.{verdict}
 use Rattle.crl_protocol.specs.Calls.{called}
 use Rattle.crl_protocol.specs.Handlers.{handled}
-use Rattle.crl_protocol.specs.Chosen.{Actor, Running, running, goes_on}
-use Rattle.crl_protocol.specs.Laws.{IsStatement, AreStatements, node_of}
-use Rattle.crl_protocol.specs.World.{World, new_world, noted_call, Stepped, boxes_from, flight, collected, stepped, stays, handled_at, carried, put_in, step, is_free, is_call, is_enabled, IsRunFrom, world_after}
+use Rattle.crl_protocol.specs.World.{World, boxes_from, flight, collected, stepped, is_free, is_call}
 use Rattle.crl_protocol.proofs.Fitting as fitting
 use Rattle.crl_protocol.proofs.Fitting.{same_name, seen, OwnFits, Fits}
-use Rattle.crl_protocol.proofs.Placing.{all_append}
-use Rattle.crl_protocol.proofs.Sound.{Sound, sound_start, sound_event}
-use Rattle.crl_coherence.specs.Region.{Flying, Region, Run, done}
-use Rattle.crl_coherence.specs.Coherent.{IsCoherent}
+use Rattle.crl_coherence.specs.Region.{Flying, Run, done}
 use Rattle.crl_coherence.proofs.Lists.{took_some, took_none}
-use Rattle.crl_coherence.proofs.Events.{runs_kept}
-use Rattle.crl_regions.specs.View.{if_about, mail_in, other_end, flown, flying, sight, table_of, table_or_blank, view, left_by, array_after, array_from}
+use Rattle.crl_regions.specs.View.{if_about, mail_in, other_end, flown, flying, sight, table_of, left_by, array_after}
 use Rattle.crl_regions.proofs.Moves.{boxes, flight_took, flight_same, took_out, took_left}
-use Rattle.crl_regions.proofs.Near.{Near}
-use Rattle.crl_regions.proofs.Acts.{expected, CountFits, FromNear, Comes, Acts, nothing}
+use Rattle.crl_regions.proofs.Acts.{FromNear, Comes, Acts, nothing}
 use Rattle.crl_regions.proofs.Sections.{Local}
 use Rattle.crl_regions.proofs.Calls.{acts_call}
 use Rattle.crl_regions.proofs.Messages.{Goes, KnownTold, Tells, acts_message}
-use Rattle.crl_regions.proofs.Kept.{Housed, OwnNothing, keeps_call, keeps_collected, keeps_message}
-use Rattle.crl_regions.proofs.Fair.{HasTable, SizedTold, FairKind, Fair, AllFair, fair_call, fair_collected, fair_message}
-use Rattle.crl_regions.proofs.Carried.{of_node, node_here, node_there, sender, arrived, table_carried, side_carried, carried_run, arrived_all}
-use Rattle.crl_regions.proofs.Lift.{Lifted}
+use Rattle.crl_regions.proofs.Kept.{OwnNothing, keeps_call, keeps_collected, keeps_message}
+use Rattle.crl_regions.proofs.Fair.{SizedTold, FairKind, Fair, fair_call, fair_collected, fair_message}
+use Rattle.crl_regions.proofs.Carried.{of_node, node_here, node_there}
 use Rattle.crl_regions.proofs.Whole.{Whole, local, passes}
 use Rattle.crl_regions.proofs.Steps.{Outcome_of, whole_stepped}
 

@@ -1,8 +1,8 @@
 -- What an outcome sends: mail about copies goes between a region's home and another node of the world, and a size
 -- that is told is the region's.
-use Rattle.std.proofs.Common.{◌≡◌, ◌⊎◌, inl, inr, ℕ, zero, suc, ◌+◌, ◌-◌, ◌<◌, ◌==◌, nat_lt, Bool, true, false, ◌&&◌, None, Some, Option, List, [], ◌∷◌, ◌++◌, map, if◌then◌else◌, refl, ap, sym, ◌∙◌, subst}
+use Rattle.std.proofs.Common.{◌≡◌, ℕ, zero, suc, ◌+◌, ◌-◌, ◌<◌, ◌==◌, Bool, true, false, ◌&&◌, None, Some, Option, List, [], ◌∷◌, map, refl, ap, sym, ◌∙◌, subst}
 use Rattle.std.specs.List.{AllByRecursion}
-use Rattle.std.proofs.lemmas.Bool.{cond_both, cond-true, cond-false, eqb-true, eqb-false, eq-eqb, ne_eqb}
+use Rattle.std.proofs.lemmas.Bool.{cond_both, eqb-true}
 use Rattle.crl_model.specs.declared.name.Name.{Name}
 use Rattle.crl_model.specs.declared.region.Stage.{Stage}
 use Rattle.crl_model.specs.declared.region.Stage.TheVariants as stage
@@ -23,15 +23,15 @@ use Rattle.crl_model.specs.declared.message.Kind.TheVariants as kind
 use Rattle.crl_model.specs.Calls.{kind_of}
 use Rattle.crl_model.specs.Names.{name_eq}
 use Rattle.crl_protocol.specs.Mail.{Mail, Ask, Grant, Recall, Yield, Return, Release, Letter, about}
-use Rattle.crl_protocol.specs.Home.{Home, Served, home_asked, home_returned, home_released, home_starts, home_ends_read, home_ends_write, takes_return, takes_release, one_less}
-use Rattle.crl_protocol.specs.Remote.{Copy, Remote, Moved, quiet, starts_over, remote_starts, overtakes, recalled_in, recalled_over, remote_recalled, yields_in, yields_over, remote_yields, leaves_over, lowers_over, is_closed, remote_ends_read, remote_ends_write, flushes_over, remote_flushes, takes_grant}
+use Rattle.crl_protocol.specs.Home.{Home, Served, home_starts, home_ends_read, home_ends_write, takes_return, takes_release, one_less}
+use Rattle.crl_protocol.specs.Remote.{Copy, Remote, Moved, starts_over, remote_starts, overtakes, recalled_in, recalled_over, remote_recalled, yields_in, yields_over, remote_yields, leaves_over, lowers_over, is_closed, remote_ends_read, remote_ends_write, flushes_over, remote_flushes, takes_grant}
 use Rattle.crl_protocol.specs.Leases.{Mapping, Lease, keeps, cached_size, lease_begins, lease_purged, members}
 use Rattle.crl_protocol.specs.Gathering.{gathers, awaits}
 use Rattle.crl_protocol.specs.Node.{Node, Outcome, ForSection, ForMap, ForDelete, ForRound, Activity, Free, Waiting, Ready, is_mine, home_of, lease_of, message, letters, mails, section_opens}
 use Rattle.crl_protocol.specs.Sectioning.{starts_remote, starts_home, served, moved, left_home, closes, ends_remote, ends_home, flushes_remote, forgets_over, forgets}
 use Rattle.crl_protocol.specs.Verdict.{verdict, call_refused}
-use Rattle.crl_protocol.specs.Calls.{size_of, deletes_own, is_gone, maps_over, maps_cached, unmaps_over, forgets_evicted, gathered_own, results_from, call_taken, called_as, called}
-use Rattle.crl_protocol.specs.Handlers.{told_of, info_is, is_queued_in, asked, returned, released, granted, remote_called, delete_asked, delete_is, purged_cached, purged_over, purged_by, own_result, gathered_from, result, handled}
+use Rattle.crl_protocol.specs.Calls.{size_of, is_gone, maps_over, maps_cached, unmaps_over, forgets_evicted, gathered_own, results_from, call_taken, called_as, called}
+use Rattle.crl_protocol.specs.Handlers.{told_of, info_is, is_queued_in, asked, returned, released, granted, remote_called, delete_asked, delete_is, purged_cached, purged_over, purged_by, gathered_from, result, handled}
 use Rattle.crl_protocol.specs.World.{collected}
 use Rattle.crl_protocol.proofs.Fitting.{LiveFits}
 use Rattle.crl_protocol.proofs.Placing.{all_append}

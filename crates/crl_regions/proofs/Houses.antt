@@ -1,12 +1,12 @@
 -- What a node has of other nodes' regions is mapped or cached, and never both.
-use Rattle.std.proofs.Common.{◌≡◌, ◌⊎◌, inl, inr, ℕ, zero, suc, ◌+◌, ◌-◌, ◌==◌, nat_lt, Bool, true, false, None, Some, Option, List, [], ◌∷◌, ◌++◌, length, if◌then◌else◌, refl, ap, sym, ◌∙◌, subst}
+use Rattle.std.proofs.Common.{◌≡◌, ◌⊎◌, inl, inr, ℕ, ◌==◌, nat_lt, Bool, true, false, None, Some, Option, List, [], ◌∷◌, ◌++◌, length, if◌then◌else◌, refl, sym, ◌∙◌, subst}
 use Rattle.std.proofs.lemmas.Bool.{cond_both, cond-true, cond-false}
 use Rattle.crl_model.specs.declared.name.Name.{Name}
 use Rattle.crl_model.specs.Names.{name_eq, at_name}
 use Rattle.crl_protocol.specs.Remote.{Remote}
-use Rattle.crl_protocol.specs.Leases.{Mapping, Kept, Keeps, push_out, keeps, cached_size, dropped}
-use Rattle.crl_protocol.proofs.Fitting.{by_name, by_test, same_name, name_self, other_name, IsCached}
-use Rattle.crl_protocol.proofs.Outcomes.{is_cached, not_cached, kept_dropped, kept_more}
+use Rattle.crl_protocol.specs.Leases.{Mapping, Kept, Keeps, push_out, keeps, dropped}
+use Rattle.crl_protocol.proofs.Fitting.{by_name, same_name, name_self, other_name, IsCached}
+use Rattle.crl_protocol.proofs.Outcomes.{kept_dropped, kept_more}
 
 -- no name stands in the cache twice
 abbrev pub Once : List Kept → Type 0
@@ -193,7 +193,7 @@ push_left : (name : Name) (size : ℕ) (me : ℕ) (maps : Name → Option Mappin
 push_left name size me maps remotes [] away fresh h = but_unmapped name me maps remotes [] h
 push_left name size me maps remotes (old ∷ cache) away fresh h =
     let all = put_in name size me maps remotes cache (λ q. name_eq old.name q ≡ false) away (λ z c. fresh z (inr c)) (λ q z c. h.cached q z (inr c)) (λ q z c. h.others q z (inr c)) h.once.1
-        (λ q r other w n. let c = h.held q r w n in (c.0, behind q c.0 other c.1)) in
+    (λ q r other w n. let c = h.held q r w n in (c.0, behind q c.0 other c.1)) in
     record { cached = all.0; held = λ q r other w n. all.3 q r other w n; others = all.1; once = all.2 }
   where
     behind : (q : Name) (z : ℕ) → name_eq old.name q ≡ false → IsCached q z (old ∷ cache) → IsCached q z cache
@@ -207,5 +207,5 @@ kept_left name size capacity me maps remotes cache away fresh h =
     cond_both (capacity == 0) _ _ (Left me (at_name maps name None) remotes) (λ w. but_unmapped name me maps remotes cache h)
     (λ w. cond_both (nat_lt (length cache) capacity) _ _ (Left me (at_name maps name None) remotes)
     (λ v. let all = put_in name size me maps remotes cache (λ q. Unit {0}) away fresh h.cached h.others h.once (λ q r p w n. h.held q r w n) in
-        record { cached = all.0; held = λ q r w n. all.3 q r tt w n; others = all.1; once = all.2 })
+    record { cached = all.0; held = λ q r w n. all.3 q r tt w n; others = all.1; once = all.2 })
     (λ v. push_left name size me maps remotes cache away fresh h))

@@ -1,6 +1,6 @@
 -- No outcome of a node touches its boxes: what it sends is put into the outbox afterwards. And what it has of other
 -- nodes' regions stays mapped or cached.
-use Rattle.std.proofs.Common.{◌≡◌, ℕ, ◌+◌, ◌-◌, ◌==◌, nat_lt, Bool, true, false, None, Some, Option, List, [], ◌∷◌, ◌++◌, if◌then◌else◌, refl, sym, subst}
+use Rattle.std.proofs.Common.{◌≡◌, ℕ, ◌+◌, ◌==◌, Bool, true, false, None, Some, Option, List, if◌then◌else◌, refl, sym, subst}
 use Rattle.std.proofs.lemmas.Bool.{cond_both}
 use Rattle.crl_model.specs.declared.name.Name.{Name}
 use Rattle.crl_model.specs.declared.region.Stage.{Stage}
@@ -18,13 +18,13 @@ use Rattle.crl_model.specs.Calls.{kind_of}
 use Rattle.crl_model.specs.Names.{name_eq}
 use Rattle.crl_protocol.specs.Home.{Home, Served, home_starts, home_ends_read, home_ends_write, takes_return, takes_release}
 use Rattle.crl_protocol.specs.Remote.{Remote, Moved, remote_starts, remote_ends_read, remote_ends_write, remote_flushes, remote_granted, takes_grant}
-use Rattle.crl_protocol.specs.Leases.{Mapping, Lease, Kept, keeps, cached_size, lease_begins, lease_purged}
+use Rattle.crl_protocol.specs.Leases.{Mapping, Lease, keeps, cached_size, lease_begins, lease_purged}
 use Rattle.crl_protocol.specs.Gathering.{gathers, awaits}
 use Rattle.crl_protocol.specs.Node.{Node, Outcome, ForSection, ForMap, ForDelete, ForRound, Activity, Free, Waiting, Ready, COUNT_LIMIT, used, is_mine, home_of, lease_of, section_opens}
-use Rattle.crl_protocol.specs.Sectioning.{home_start, remote_start, starts_remote, starts_home, starts, served, moved, left_home, closes, ends_remote, ends_home, ends_read, ends_write, flushes_remote, flushes, forgets_over, forgets}
-use Rattle.crl_protocol.specs.Verdict.{verdict, used_up, call_refused}
-use Rattle.crl_protocol.specs.Calls.{deletes_own, deletes, is_gone, maps_over, maps_cached, unmaps_over, unmaps, forgets_evicted, caches, parts_with, gathered_own, comes, call_taken, called_as, called}
-use Rattle.crl_protocol.specs.Handlers.{info_asked, info_told, info_is, is_queued_in, asked, returned, released, granted, remote_called, delete_begun, delete_asked, delete_is, purged_cached, purged_over, purge, purged_by, purged, own_result, gathered_from, come, result, handled}
+use Rattle.crl_protocol.specs.Sectioning.{starts_remote, starts_home, served, moved, left_home, closes, ends_remote, ends_home, flushes_remote, forgets_over, forgets}
+use Rattle.crl_protocol.specs.Verdict.{verdict, call_refused}
+use Rattle.crl_protocol.specs.Calls.{is_gone, maps_over, maps_cached, unmaps_over, forgets_evicted, gathered_own, call_taken, called_as, called}
+use Rattle.crl_protocol.specs.Handlers.{info_told, info_is, is_queued_in, asked, returned, released, granted, remote_called, delete_asked, delete_is, purged_cached, purged_over, purged_by, own_result, gathered_from, result, handled}
 use Rattle.crl_protocol.specs.World.{collected}
 use Rattle.crl_protocol.proofs.Fitting.{IsCached, FreshFits, same_name}
 use Rattle.crl_regions.proofs.Houses.{Houses, HousesBut, LeftBut, but_none, but_forgotten, houses_some, houses_more, houses_own, houses_new, houses_cached, but_dropped, but_unmapped, kept_left}
@@ -193,7 +193,7 @@ keeps_info n name t (Ready answer) fresh = (refl, refl, λ h. h)
 keeps_info n name t (Waiting (ForSection waited)) fresh = (refl, refl, λ h. h)
 keeps_info n name t (Waiting (ForDelete waited)) fresh = (refl, refl, λ h. h)
 keeps_info n name t (Waiting (ForRound round k)) fresh = (refl, refl, λ h. h)
-keeps_info n name t (Waiting (ForMap waited doomed)) fresh = 
+keeps_info n name t (Waiting (ForMap waited doomed)) fresh =
     keeps_when n (name_eq waited name) _ _ (λ w. keeps_told n name doomed t (λ size c. fresh size (subst (λ p. IsCached p size n.cache) (sym (same_name waited name w)) c))) (λ w. (refl, refl, λ h. h))
 
 keeps_delete_asked : (n : Node) (from : ℕ) (name : Name) (s : Stage) → Keeps n (delete_asked from name s n).node

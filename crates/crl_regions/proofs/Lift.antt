@@ -1,16 +1,16 @@
 -- What an outcome of one node does to a region is a run of the region's events.
-use Rattle.std.proofs.Common.{◌≡◌, ◌≢◌, ◌⊎◌, inl, inr, ℕ, zero, suc, ◌+◌, ◌<◌, ◌==◌, Bool, true, false, None, Some, Option, List, [], ◌∷◌, ◌++◌, length, if◌then◌else◌, refl, ap, sym, ◌∙◌, subst, arith}
-use Rattle.std.proofs.lemmas.Bool.{cond-true, cond-false, eqb-true, eqb-false, eq-eqb, ne_eqb}
+use Rattle.std.proofs.Common.{◌≡◌, inl, inr, ℕ, ◌<◌, ◌==◌, None, Some, Option, List, ◌++◌, refl, ap, sym, ◌∙◌, subst}
+use Rattle.std.proofs.lemmas.Bool.{cond-true, cond-false, eqb-true, eq-eqb, ne_eqb}
 use Rattle.crl_model.specs.declared.name.Name.{Name}
 use Rattle.crl_model.specs.declared.message.Message.{Message}
-use Rattle.crl_model.specs.Names.{name_eq, at_node}
-use Rattle.crl_protocol.specs.Places.{picks, Took}
+use Rattle.crl_model.specs.Names.{at_node}
+use Rattle.crl_protocol.specs.Places.{picks}
 use Rattle.crl_protocol.specs.Home.{Home, bytes_after}
 use Rattle.crl_protocol.specs.Remote.{Remote}
 use Rattle.crl_protocol.specs.Node.{Node, home_of}
 use Rattle.crl_protocol.proofs.Fitting.{SizeIs}
 use Rattle.crl_protocol.proofs.Growing.{append_nil}
-use Rattle.crl_coherence.specs.Region.{Flying, Region, Happens, elsewhere, Run, done, next}
+use Rattle.crl_coherence.specs.Region.{Flying, Region, Happens, elsewhere, Run, next}
 use Rattle.crl_coherence.proofs.Lists.{same_or}
 use Rattle.crl_regions.specs.View.{flying, side, sight}
 use Rattle.crl_regions.proofs.Moves.{Moves, run_moves}

@@ -1,5 +1,5 @@
 -- What a message that comes does to each region.
-use Rattle.std.proofs.Common.{◌≡◌, ◌≢◌, ℕ, zero, suc, ◌+◌, ◌-◌, ◌^◌, ◌<◌, ◌==◌, nat_lt, Bool, true, false, None, Some, Option, List, [], ◌∷◌, ◌++◌, length, map, if◌then◌else◌, refl, ap, sym, ◌∙◌, subst, arith}
+use Rattle.std.proofs.Common.{◌≡◌, ℕ, ◌-◌, ◌^◌, ◌<◌, ◌==◌, Bool, true, false, None, Some, Option, List, [], ◌++◌, if◌then◌else◌, refl, ap, sym, ◌∙◌, subst, arith}
 use Rattle.std.proofs.lemmas.Bool.{cond_both, cond-true, cond-false, eqb-true, eqb-false, eq-eqb, and_parts, ne_eqb}
 use Rattle.std.proofs.Math.Logic.{◌⊎◌, inl, inr}
 use Rattle.crl_model.specs.declared.name.Name.{Name}
@@ -15,7 +15,6 @@ use Rattle.crl_model.specs.declared.message.Told.TheVariants as told
 use Rattle.crl_model.specs.declared.message.DeleteTold.{DeleteTold}
 use Rattle.crl_model.specs.declared.message.Granted.{Granted}
 use Rattle.crl_model.specs.declared.message.Granted.TheVariants.{Shared, Exclusive, Upgrade}
-use Rattle.crl_model.specs.declared.message.Message.{Message}
 use Rattle.crl_model.specs.declared.message.Kind.{Kind}
 use Rattle.crl_model.specs.declared.message.Kind.TheVariants as kind
 use Rattle.crl_model.specs.Names.{name_eq, at_node}
@@ -23,24 +22,24 @@ use Rattle.crl_protocol.specs.Places.{picks, Took}
 use Rattle.crl_protocol.specs.Mail.{Mail, Ask, Grant, Recall, Yield, Return, Release}
 use Rattle.crl_protocol.specs.Home.{Home, Served, home_asked, home_returned, home_released, takes_return, takes_release}
 use Rattle.crl_protocol.specs.Remote.{Remote, Moved, new_remote, remote_granted, remote_recalled, remote_yields, takes_grant, asks_to_write, asks_to_read, opened_by}
-use Rattle.crl_protocol.specs.Leases.{Mapping, new_mapping, cached_size, dropped, Lease, lease_asked, lease_begins, lease_purged, members}
+use Rattle.crl_protocol.specs.Leases.{Mapping, cached_size, dropped, Lease, lease_begins, lease_purged, members}
 use Rattle.crl_protocol.specs.Gathering.{gathers, awaits}
-use Rattle.crl_protocol.specs.Node.{Node, Outcome, ForSection, ForMap, ForDelete, ForRound, Activity, Free, Waiting, Ready, is_mine, home_of, lease_of, with_home, with_remote, with_lease, with_mapping, message, section_opens}
+use Rattle.crl_protocol.specs.Node.{Node, ForSection, ForMap, ForDelete, ForRound, Activity, Free, Waiting, Ready, is_mine, home_of, lease_of, message, section_opens}
 use Rattle.crl_protocol.specs.Sections.{section_at, section_begins, is_writing}
 use Rattle.crl_protocol.specs.Sectioning.{copy_bytes, served, moved}
-use Rattle.crl_protocol.specs.Calls.{is_gone, purges}
-use Rattle.crl_protocol.specs.Handlers.{info_asked, info_told, info_is, is_queued_in, asked, returned, released, opened_with, granted, remote_called, delete_begun, delete_asked, delete_is, purged_cached, purged_over, purge, delete_done_at, purged_by, purged, own_result, gathered_from, come, result, handled}
-use Rattle.crl_protocol.proofs.Fitting.{by_name, name_self, same_name, AskingFits, IsMapped, FreshFits, WaitFits, IsCached, CopyFits, Fits, SizeIs}
+use Rattle.crl_protocol.specs.Calls.{is_gone}
+use Rattle.crl_protocol.specs.Handlers.{info_asked, info_told, info_is, is_queued_in, asked, returned, released, opened_with, granted, remote_called, delete_begun, delete_asked, delete_is, purged_cached, purged_over, purged_by, purged, own_result, gathered_from, come, result, handled}
+use Rattle.crl_protocol.proofs.Fitting.{by_name, name_self, same_name, AskingFits, IsMapped, FreshFits, WaitFits, IsCached, CopyFits}
 use Rattle.crl_protocol.proofs.Growing.{append_nil}
 use Rattle.crl_protocol.proofs.Outcomes.{asking_of, home_bytes, remote_bytes}
-use Rattle.crl_protocol.proofs.Serving.{HomeGoes, asked_goes, returned_goes, released_goes, recalled_goes, yields_goes}
+use Rattle.crl_protocol.proofs.Serving.{asked_goes, returned_goes, released_goes, recalled_goes, yields_goes}
 use Rattle.crl_coherence.specs.Region as region
 use Rattle.crl_coherence.specs.Region.{Flying, Region, Happens, at_home, at_remote}
-use Rattle.crl_regions.specs.View.{if_about, mail_in, other_end, flown, flying, side}
+use Rattle.crl_regions.specs.View.{if_about, flown, flying, side}
 use Rattle.crl_regions.proofs.Opened.{begun, Serves, asked_serves, returned_serves, released_serves, recalled_same, yields_same, noted_begun, noted_other}
 use Rattle.crl_regions.proofs.Near.{Near, NearServed, near_asked, near_returned, near_released}
 use Rattle.crl_regions.proofs.Acts.{FromNear, expected, CountFits, Comes, Acts, nothing, side_acts, absent, acts_if, acts_sending, home_is, away_none, home_here, home_there, moved_here, moved_there}
-use Rattle.crl_regions.proofs.Sections.{Local, away, no_table, mine_is, here_is, home_event, side_event}
+use Rattle.crl_regions.proofs.Sections.{Local, away, mine_is, here_is, home_event, side_event}
 use Rattle.crl_regions.proofs.Calls.{purges_quiet, results_quiet, IsLeft, acts_forgets, unmapped_closed}
 
 -- A message about copies goes between the home and another node.
@@ -248,7 +247,7 @@ acts_info_told K i d n name doomed (told.Live size) other_home e l tells q =
     (side_acts (λ z. new_remote size) [] (away_none n name i l.fits.me other_home) refl (λ z. ap (λ o. side z o) (cond-true (name_eq name name) _ _ (name_self name))) refl
     (ap (λ o. expected None o) (cond-true (name_eq name name) (Some (new_remote size)) (n.remotes name) (name_self name)) ∙ sym (ap (λ o. expected None o) e) ∙ nowhere_closed i d n name other_home e l) (l.counts name)
     (λ known x w. let same : new_remote size ≡ x = (let both : Some (new_remote size) ≡ Some x = sym (cond-true (name_eq name name) (Some (new_remote size)) (n.remotes name) (name_self name)) ∙ w in cc) in
-        subst (λ z. K name z) (ap (λ (y : Remote). y.size) same) tells)
+    subst (λ z. K name z) (ap (λ (y : Remote). y.size) same) tells)
     (λ g rest at_g sized comes. appearing g rest (at_g ∙ ap (λ o. side g.home.size o) e) comes))
     (λ q other. nothing refl refl refl (cond-false (name_eq name q) _ _ other) refl refl) q
   where

@@ -1,14 +1,12 @@
 -- Messages of a list that stand at other places, and the messages of all nodes where one node's change.
-use Rattle.std.proofs.Common.{◌≡◌, ℕ, zero, suc, ◌+◌, ◌<◌, ◌==◌, Bool, true, false, None, Some, Option, List, [], ◌∷◌, ◌++◌, if◌then◌else◌, refl, ap, sym, ◌∙◌, subst, append_assoc, arith}
-use Rattle.std.proofs.lemmas.Bool.{eqb-true, eq-eqb, ne_eqb, cond-true, cond-false}
+use Rattle.std.proofs.Common.{◌≡◌, ℕ, zero, suc, ◌+◌, ◌<◌, None, Some, Option, List, [], ◌∷◌, ◌++◌, refl, ap, sym, ◌∙◌, subst, append_assoc, arith}
 use Rattle.crl_model.specs.declared.message.Message.{Message}
-use Rattle.crl_model.specs.Names.{at_node}
 use Rattle.crl_protocol.specs.Places.{picks, Took, here, there, Taken, behind, take_out}
 use Rattle.crl_protocol.specs.Node.{Node}
 use Rattle.crl_protocol.specs.World.{boxes_from}
 use Rattle.crl_protocol.proofs.Growing.{append_nil}
-use Rattle.crl_coherence.specs.Region.{Flying, Region, Happens, carry, Run, done, next}
-use Rattle.crl_coherence.proofs.Lists.{picks-append, took_some, took_none}
+use Rattle.crl_coherence.specs.Region.{Flying, Region, carry, Run, done, next}
+use Rattle.crl_coherence.proofs.Lists.{took_some, took_none}
 
 -- the same elements in another order, by taking one out and putting it in again
 pub data Moves {A : Type 0} : List A → List A → Type 0 where

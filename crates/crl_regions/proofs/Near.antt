@@ -1,12 +1,12 @@
 -- The home lists and queues other nodes of the world, and writes to them only.
-use Rattle.std.proofs.Common.{◌≡◌, ◌≢◌, ◌⊎◌, inl, inr, ℕ, zero, suc, ◌+◌, ◌<◌, ◌==◌, Bool, true, false, not, ◌&&◌, None, Some, Option, List, [], ◌∷◌, ◌++◌, replicate, if◌then◌else◌, refl, ap, sym, ◌∙◌, subst, arith}
+use Rattle.std.proofs.Common.{◌≡◌, inl, inr, ℕ, zero, suc, ◌+◌, ◌<◌, ◌==◌, Bool, true, false, not, ◌&&◌, None, Some, Option, List, [], ◌∷◌, ◌++◌, replicate, if◌then◌else◌, refl, sym, ◌∙◌, subst, arith}
 use Rattle.std.specs.List.{AllByRecursion}
-use Rattle.std.proofs.lemmas.Bool.{cond_both, eqb-false, ne_eqb}
+use Rattle.std.proofs.lemmas.Bool.{cond_both}
 use Rattle.crl_model.specs.declared.directory.Asked.{Asked}
 use Rattle.crl_model.specs.declared.directory.Listing.{Listing}
 use Rattle.crl_protocol.specs.Places.{at, put}
-use Rattle.crl_protocol.specs.Mail.{Mail, Ask, Grant, Recall, Yield, Return, Release, Letter}
-use Rattle.crl_protocol.specs.Home.{Home, Served, new_home, is_servable, is_called, call_for, calls, open_own, grant_next, grant_for, opening, posting, serve, marked, mark_for, home_asked, bytes_after, home_returned, is_lowered, lowered, home_released, own_ask, is_empty, is_reading, home_starts, home_ends_read, home_ends_write}
+use Rattle.crl_protocol.specs.Mail.{Mail, Grant, Recall, Yield, Letter}
+use Rattle.crl_protocol.specs.Home.{Home, Served, new_home, is_servable, is_called, calls, open_own, grant_next, grant_for, opening, posting, serve, marked, home_asked, home_returned, is_lowered, lowered, home_released, own_ask, is_empty, is_reading, home_starts, home_ends_read, home_ends_write}
 use Rattle.crl_protocol.proofs.Placing.{all_append}
 use Rattle.crl_coherence.proofs.Lists.{at-put_same, at-put_other, same_or}
 

@@ -1,6 +1,6 @@
 -- The section that is open after each event of the home and of another node's side, and in the node's own notes.
-use Rattle.std.proofs.Common.{◌≡◌, ◌⊎◌, inl, inr, ℕ, zero, suc, ◌+◌, ◌-◌, ◌^◌, ◌<◌, ◌==◌, nat_lt, Bool, true, false, not, ◌&&◌, None, Some, Option, List, [], ◌∷◌, ◌++◌, if◌then◌else◌, refl, ap, sym, ◌∙◌, subst, arith}
-use Rattle.std.proofs.lemmas.Bool.{cond_both, cond-true, cond-false, and_parts, eq-eqb, eqb-false}
+use Rattle.std.proofs.Common.{◌≡◌, ◌⊎◌, inl, inr, ℕ, ◌-◌, ◌==◌, nat_lt, Bool, true, false, not, ◌&&◌, None, Some, Option, List, [], ◌∷◌, ◌++◌, if◌then◌else◌, refl, ap, ◌∙◌}
+use Rattle.std.proofs.lemmas.Bool.{cond_both, cond-true, cond-false, and_parts, eq-eqb}
 use Rattle.crl_model.specs.declared.name.Name.{Name}
 use Rattle.crl_model.specs.declared.directory.Section.{Section}
 use Rattle.crl_model.specs.declared.directory.Section.TheVariants as section
@@ -8,8 +8,8 @@ use Rattle.crl_model.specs.declared.directory.Asked.{Asked}
 use Rattle.crl_model.specs.Names.{name_eq, at_name}
 use Rattle.crl_protocol.specs.Home.{Home, Served, is_servable, lets, open_own, grant_next, grant_for, opening, posting, serve, own_ask, is_empty, is_reading, one_more, one_less, home_asked, home_returned, home_released, is_lowered, home_starts, home_ends_read, home_ends_write}
 use Rattle.crl_protocol.specs.Places.{at}
-use Rattle.crl_protocol.specs.Remote.{Copy, Remote, Moved, remote_starts, starts_over, quiet, notes_due, is_newer, overtakes, recalled_in, recalled_over, remote_recalled, yields_in, yields_over, remote_yields, leaves_over, lowers_over, is_closed, remote_ends_read, remote_ends_write, flushes_over, remote_flushes, gives_back, lowers}
-use Rattle.crl_protocol.specs.Sections.{Record, Sections, section_of, section_at, begins_to_read, section_begins, ends_over, section_ends, is_writing}
+use Rattle.crl_protocol.specs.Remote.{Copy, Remote, Moved, remote_starts, starts_over, notes_due, is_newer, overtakes, recalled_in, recalled_over, remote_recalled, yields_in, yields_over, remote_yields, leaves_over, lowers_over, is_closed, remote_ends_read, remote_ends_write, flushes_over, remote_flushes}
+use Rattle.crl_protocol.specs.Sections.{Record, Sections, section_of, section_at, begins_to_read, section_begins, ends_over, section_ends}
 use Rattle.crl_protocol.proofs.Fitting.{NoOwn, name_self}
 
 -- a section begins beside those that are open

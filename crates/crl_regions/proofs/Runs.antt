@@ -1,36 +1,34 @@
 -- What holds of all nodes holds at the start of a run and after each of its events.
-use Rattle.std.proofs.Common.{◌≡◌, ◌≢◌, ◌⊎◌, inl, inr, ℕ, zero, suc, ◌+◌, ◌-◌, ◌<◌, ◌==◌, nat_lt, Bool, true, false, None, Some, Option, List, [], ◌∷◌, ◌++◌, length, if◌then◌else◌, refl, ap, sym, ◌∙◌, subst, arith}
-use Rattle.std.specs.List.{All, AllByRecursion}
-use Rattle.std.proofs.lemmas.Bool.{cond_both, and_parts, ltb-true}
+use Rattle.std.proofs.Common.{◌≡◌, ℕ, ◌-◌, ◌<◌, ◌==◌, Bool, true, false, None, Some, Option, List, [], ◌∷◌, if◌then◌else◌, refl, ap, sym, ◌∙◌, subst}
+use Rattle.std.specs.List.{AllByRecursion}
+use Rattle.std.proofs.lemmas.Bool.{and_parts, ltb-true}
 use Rattle.std.proofs.lemmas.List.Elements.{All-from_recursion}
 use Rattle.crl_model.specs.declared.name.Name.{Name}
 use Rattle.crl_model.specs.declared.event.Event.{Event}
 use Rattle.crl_model.specs.declared.event.Event.TheVariants as event
-use Rattle.crl_model.specs.declared.statement.Statement.{Statement}
-use Rattle.crl_model.specs.declared.directory.Section.TheVariants as section
 use Rattle.crl_model.specs.declared.message.Message.{Message}
 use Rattle.crl_model.specs.declared.message.Kind.{Kind}
 use Rattle.crl_model.specs.declared.message.Kind.TheVariants as kind
-use Rattle.crl_protocol.specs.Places.{at, picks, Taken, take_out}
+use Rattle.crl_protocol.specs.Places.{at, Taken, take_out}
 use Rattle.crl_protocol.specs.Home.{Home}
 use Rattle.crl_protocol.specs.Remote.{Remote}
 use Rattle.crl_protocol.specs.Sections.{section_at}
-use Rattle.crl_protocol.specs.Node.{Node, new_node, at_serial, home_of}
-use Rattle.crl_protocol.specs.Chosen.{Actor, Running, running, goes_on}
-use Rattle.crl_protocol.specs.Laws.{IsStatement, AreStatements, node_of}
-use Rattle.crl_protocol.specs.World.{World, new_world, Stepped, flight, boxes_from, handled_at, carried, put_in, step, is_enabled, IsRunFrom, world_after}
+use Rattle.crl_protocol.specs.Node.{new_node, home_of}
+use Rattle.crl_protocol.specs.Chosen.{Running, goes_on}
+use Rattle.crl_protocol.specs.Laws.{AreStatements, node_of}
+use Rattle.crl_protocol.specs.World.{World, new_world, flight, handled_at, carried, step, is_enabled, IsRunFrom, world_after}
 use Rattle.crl_protocol.proofs.Fitting.{Fits}
 use Rattle.crl_protocol.proofs.Placing.{all_append}
 use Rattle.crl_protocol.proofs.Sound.{Sound, sound_start, sound_event}
-use Rattle.crl_coherence.specs.Region.{Flying, Region, Run}
+use Rattle.crl_coherence.specs.Region.{Flying, Run}
 use Rattle.crl_coherence.specs.Coherent.{IsCoherent}
 use Rattle.crl_coherence.proofs.Events.{runs_kept}
-use Rattle.crl_regions.specs.View.{mail_in, other_end, flown, flying, sight, table_of, table_or_blank, view, array_after, array_from}
+use Rattle.crl_regions.specs.View.{mail_in, other_end, flown, sight, table_of, table_or_blank, view, array_after, array_from}
 use Rattle.crl_regions.proofs.Moves.{took_out}
 use Rattle.crl_regions.proofs.Acts.{expected, CountFits}
 use Rattle.crl_regions.proofs.Kept.{Housed}
-use Rattle.crl_regions.proofs.Fair.{HasTable, FairKind, Fair, AllFair}
-use Rattle.crl_regions.proofs.Carried.{sender, arrived, table_carried, carried_run, arrived_all}
+use Rattle.crl_regions.proofs.Fair.{FairKind, Fair, AllFair}
+use Rattle.crl_regions.proofs.Carried.{table_carried, carried_run, arrived_all}
 use Rattle.crl_regions.proofs.Whole.{Whole}
 use Rattle.crl_regions.proofs.Steps.{Grows, fair_grown, all_grown, inbox_grown}
 use Rattle.crl_regions.proofs.Events.{Gone_on, nothing_on, is_freed, call_on, collect_on, handle_on, all_took}

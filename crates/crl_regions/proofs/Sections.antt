@@ -1,30 +1,29 @@
 -- What a call about sections does to each region.
-use Rattle.std.proofs.Common.{◌≡◌, ◌≢◌, ℕ, zero, suc, ◌+◌, ◌-◌, ◌^◌, ◌<◌, ◌==◌, Bool, true, false, not, None, Some, Option, List, [], ◌∷◌, ◌++◌, length, if◌then◌else◌, refl, ap, sym, ◌∙◌, subst, arith}
-use Rattle.std.proofs.lemmas.Bool.{cond_both, cond-true, cond-false, eqb-true, eq-eqb, eqb-false, ne_eqb}
-use Rattle.std.proofs.Math.Logic.{◌⊎◌, inl, inr}
+use Rattle.std.proofs.Common.{◌≡◌, ℕ, zero, suc, ◌+◌, ◌^◌, ◌<◌, ◌==◌, Bool, true, false, None, Some, Option, List, [], ◌∷◌, if◌then◌else◌, refl, ap, sym, ◌∙◌, subst, arith}
+use Rattle.std.proofs.lemmas.Bool.{cond-true, cond-false, eqb-true, eqb-false, ne_eqb}
+use Rattle.std.proofs.Math.Logic.{inl, inr}
 use Rattle.crl_model.specs.declared.name.Name.{Name}
-use Rattle.crl_model.specs.declared.call.Refusal.TheVariants.{NotReading, NotWriting, SectionOpen, TooMany}
+use Rattle.crl_model.specs.declared.call.Refusal.TheVariants.{TooMany}
 use Rattle.crl_model.specs.declared.directory.Section.{Section}
 use Rattle.crl_model.specs.declared.directory.Section.TheVariants as section
 use Rattle.crl_model.specs.declared.directory.Asked.{Asked}
-use Rattle.crl_model.specs.Names.{name_eq, at_node}
-use Rattle.crl_protocol.specs.Home.{Home, Served, home_starts, home_ends_read, home_ends_write, bytes_after}
-use Rattle.crl_protocol.specs.Remote.{Remote, Moved, remote_starts, remote_ends_read, remote_ends_write, remote_flushes, is_closed}
-use Rattle.crl_protocol.specs.Leases.{Mapping}
-use Rattle.crl_protocol.specs.Node.{Node, Outcome, Free, COUNT_LIMIT, is_mine, home_of, with_home, with_remote, section_opens}
-use Rattle.crl_protocol.specs.Sectioning.{copy_bytes, starts_or_waits, home_start, remote_start, starts_remote, starts_home, starts, moved, left_home, closes, ends_remote, ends_home, ends_read, ends_write, flushes_remote, flushes}
-use Rattle.crl_protocol.specs.Sections.{Record, section_of, section_at, count_of, record_bytes, section_ends, section_begins, bytes_at}
+use Rattle.crl_model.specs.Names.{name_eq}
+use Rattle.crl_protocol.specs.Home.{Home, Served, home_starts}
+use Rattle.crl_protocol.specs.Remote.{Remote, Moved, remote_starts}
+use Rattle.crl_protocol.specs.Node.{Node, Free, COUNT_LIMIT, is_mine, home_of, with_remote, section_opens}
+use Rattle.crl_protocol.specs.Sectioning.{copy_bytes, home_start, remote_start, starts_remote, starts_home, starts}
+use Rattle.crl_protocol.specs.Sections.{section_at}
 use Rattle.crl_protocol.specs.Verdict.{of_start, of_end, of_open}
-use Rattle.crl_protocol.proofs.Fitting.{by_test, by_name, name_self, NoOwn, QueueFits, AskingFits, RecordFits, IsCached, Fits, SizeIs}
+use Rattle.crl_protocol.proofs.Fitting.{by_name, name_self, NoOwn, QueueFits, AskingFits, IsCached, Fits}
 use Rattle.crl_protocol.proofs.Opening.{free}
-use Rattle.crl_protocol.proofs.Outcomes.{home_bytes, remote_bytes, queue_of, asking_of, not_mine, mapped_home, mapped_remote}
+use Rattle.crl_protocol.proofs.Outcomes.{home_bytes, queue_of, asking_of, not_mine}
 use Rattle.crl_protocol.proofs.Serving as serving
 use Rattle.crl_protocol.proofs.Serving.{HomeGoes, read_goes, write_goes, HomeStarts, starts_fit}
 use Rattle.crl_coherence.specs.Region as region
 use Rattle.crl_coherence.specs.Region.{Flying, Region, Happens, at_home, at_remote, IsIdle, MayStart}
 use Rattle.crl_regions.proofs.Opened.{begun, home_begun, side_begun, noted_begun, noted_other}
 use Rattle.crl_regions.proofs.Near.{Near, near_starts}
-use Rattle.crl_regions.proofs.Acts.{FromNear, expected, CountFits, Comes, Acts, nothing, acts_if, home_is, home_here, home_there, moved_here, moved_there, forgotten_here}
+use Rattle.crl_regions.proofs.Acts.{FromNear, expected, CountFits, Comes, Acts, nothing, acts_if, home_is, home_here, home_there, moved_here, moved_there}
 
 -- What holds of node i: besides sizes and asks, the sections that it notes are those of its tables, and what it
 -- has of regions that aren't mapped is cached.
@@ -122,12 +121,12 @@ start_home K i d n write name h e may l =
     let mine = mine_is i d (free n) name h e l in
     let open_now = home_begun n.me write h none in
     let happens : (g : Region) (rest : List Flying) → g.home ≡ h → Comes None g.flight rest → Happens name.home g (record (at_home s rest g) { array = g.array }) =
-        λ g rest at_h comes. home_event n.me name.home h (λ k x. home_starts k write x) g rest g.array me at_h
-        (subst (λ x. Happens name.home g (at_home (home_starts name.home write g.home) x g)) (sym comes)
-        (region.home_start write (subst (λ x. MayStart write x.mine) (sym at_h) (subst (λ x. MayStart write x) (sym mine) may))
-        (subst (λ k. IsIdle k g.home.queue) me (subst (λ (x : Home). IsIdle n.me x.queue) (sym at_h) (idle_of n.me h.queue none))))) in
+    λ g rest at_h comes. home_event n.me name.home h (λ k x. home_starts k write x) g rest g.array me at_h
+    (subst (λ x. Happens name.home g (at_home (home_starts name.home write g.home) x g)) (sym comes)
+    (region.home_start write (subst (λ x. MayStart write x.mine) (sym at_h) (subst (λ x. MayStart write x) (sym mine) may))
+    (subst (λ k. IsIdle k g.home.queue) me (subst (λ (x : Home). IsIdle n.me x.queue) (sym at_h) (idle_of n.me h.queue none))))) in
     let near : (count : ℕ) → i < count → FromNear count None → Near name.home count h → Near name.home count s.home =
-        λ count few c k. subst (λ x. Near x count s.home) me (near_starts n.me count write h (subst (λ x. x < count) (sym f.me) few) (subst (λ x. Near x count h) (sym me) k)).near in
+    λ count few c k. subst (λ x. Near x count s.home) me (near_starts n.me count write h (subst (λ x. x < count) (sym f.me) few) (subst (λ x. Near x count h) (sym me) k)).near in
     let noted = noted_begun write name s.home.bytes n.sections in
     by_name name (λ b q. let o = home_start write name s (free n) in Acts K q i None None (free n) o.node o.posts)
     (acts_if K name i None None (free n) s.opened _ _
@@ -150,10 +149,10 @@ start_side K i d n write name r e may l =
     let open_now = side_begun write r in
     let put : (with_remote name (Some s.remote) (free n)).remotes name ≡ Some s.remote = cond-true (name_eq name name) _ _ (name_self name) in
     let happens : (g : Region) (rest : List Flying) → g.remotes i ≡ r → r.size ≡ g.home.size → Comes None g.flight rest → Happens name.home g (record (at_remote i s rest g) { array = g.array }) =
-        λ g rest at_i sized comes. side_event name.home i r (λ x. remote_starts write x) g rest g.array at_i
-        (subst (λ x. Happens name.home g (at_remote i (remote_starts write (g.remotes i)) x g)) (sym comes)
-        (region.start i write (eqb-false i name.home other_home) (subst (λ (x : Remote). MayStart write x.here) (sym at_i) (subst (λ x. MayStart write x) (sym here) may))
-        (ap (λ (x : Remote). x.asking) at_i ∙ idle) (ap (λ (x : Remote). x.size) at_i ∙ sized))) in
+    λ g rest at_i sized comes. side_event name.home i r (λ x. remote_starts write x) g rest g.array at_i
+    (subst (λ x. Happens name.home g (at_remote i (remote_starts write (g.remotes i)) x g)) (sym comes)
+    (region.start i write (eqb-false i name.home other_home) (subst (λ (x : Remote). MayStart write x.here) (sym at_i) (subst (λ x. MayStart write x) (sym here) may))
+    (ap (λ (x : Remote). x.asking) at_i ∙ idle) (ap (λ (x : Remote). x.size) at_i ∙ sized))) in
     let size = (serving.remote_start write r).size in
     let noted = noted_begun write name (copy_bytes s.remote.copy) n.sections in
     by_name name (λ b q. let o = remote_start write name s (free n) in Acts K q i None None (free n) o.node o.posts)

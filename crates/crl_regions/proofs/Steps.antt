@@ -1,11 +1,8 @@
 -- What holds of all nodes holds after the outcome of one node.
-use Rattle.std.proofs.Common.{◌≡◌, ◌≢◌, ◌⊎◌, inl, inr, ℕ, zero, suc, ◌+◌, ◌<◌, ◌==◌, Bool, true, false, None, Some, Option, List, [], ◌∷◌, ◌++◌, length, replicate, if◌then◌else◌, refl, ap, sym, ◌∙◌, subst, append_assoc, arith}
+use Rattle.std.proofs.Common.{◌≡◌, ◌≢◌, ◌⊎◌, inl, inr, ℕ, zero, suc, ◌+◌, ◌<◌, ◌==◌, Bool, true, false, None, Some, Option, List, [], ◌∷◌, ◌++◌, replicate, refl, ap, sym, ◌∙◌, subst, append_assoc}
 use Rattle.std.specs.List.{AllByRecursion}
-use Rattle.std.proofs.lemmas.Bool.{cond_both, cond-true, cond-false, eqb-true, eqb-false, eq-eqb, ne_eqb}
+use Rattle.std.proofs.lemmas.Bool.{eqb-true}
 use Rattle.crl_model.specs.declared.name.Name.{Name}
-use Rattle.crl_model.specs.declared.region.Stage.{Stage}
-use Rattle.crl_model.specs.declared.region.Stage.TheVariants as stage
-use Rattle.crl_model.specs.declared.directory.Section.TheVariants as section
 use Rattle.crl_model.specs.declared.event.Event.{Event}
 use Rattle.crl_model.specs.declared.message.Told.{Told}
 use Rattle.crl_model.specs.declared.message.Told.TheVariants as told
@@ -13,31 +10,30 @@ use Rattle.crl_model.specs.declared.message.Message.{Message}
 use Rattle.crl_model.specs.declared.message.Kind.{Kind}
 use Rattle.crl_model.specs.declared.message.Kind.TheVariants as kind
 use Rattle.crl_model.specs.Names.{name_eq, at_node}
-use Rattle.crl_protocol.specs.Places.{picks, Took}
+use Rattle.crl_protocol.specs.Places.{picks}
 use Rattle.crl_protocol.specs.Mail.{Mail}
 use Rattle.crl_protocol.specs.Home.{Home, new_home, bytes_after}
 use Rattle.crl_protocol.specs.Remote.{Remote, new_remote}
 use Rattle.crl_protocol.specs.Sections.{section_at}
-use Rattle.crl_protocol.specs.Node.{Node, Outcome, is_mine, home_of, lease_of}
-use Rattle.crl_protocol.specs.World.{World, Stepped, boxes_from, flight, committed, stepped}
-use Rattle.crl_protocol.proofs.Fitting.{same_name, Leaves, begins, Seen, seen, LiveFits, OwnFits, SizeIs, Fits}
+use Rattle.crl_protocol.specs.Node.{Node, Outcome, is_mine, home_of}
+use Rattle.crl_protocol.specs.World.{World, boxes_from, flight, committed, stepped}
+use Rattle.crl_protocol.proofs.Fitting.{same_name, Seen, seen, LiveFits, OwnFits, SizeIs, Fits}
 use Rattle.crl_protocol.proofs.Growing.{append_nil}
-use Rattle.crl_protocol.proofs.Outcomes.{Good}
 use Rattle.crl_protocol.proofs.Placing.{all_append}
-use Rattle.crl_coherence.specs.Region.{Flying, Region, Run}
+use Rattle.crl_coherence.specs.Region.{Flying}
 use Rattle.crl_coherence.specs.Coherent.{IsCoherent, created}
 use Rattle.crl_coherence.proofs.Lists.{picks-append, same_or, took_nothing, picked_none}
 use Rattle.crl_coherence.proofs.Events.{runs_kept, created_kept}
 use Rattle.crl_regions.specs.View.{if_about, mail_in, other_end, flown, flying, side, sight, table_of}
-use Rattle.crl_regions.proofs.Moves.{Moves, still, moved, moves_picked, boxes, flight_more, flight_same}
+use Rattle.crl_regions.proofs.Moves.{Moves, still, moved, moves_picked, boxes, flight_more}
 use Rattle.crl_regions.proofs.Near.{Near, near_new}
 use Rattle.crl_regions.proofs.Acts.{expected, CountFits, FromNear, Comes, Acts, nothing, home_acts, side_acts, absent, made}
 use Rattle.crl_regions.proofs.Sections.{away}
 use Rattle.crl_regions.proofs.Kept.{Housed, Keeps}
-use Rattle.crl_regions.proofs.Fair.{HasTable, SizedTold, FairTo, FairFrom, FairKind, Fair, AllFair, Sends}
+use Rattle.crl_regions.proofs.Fair.{HasTable, SizedTold, FairKind, Fair, AllFair, Sends}
 use Rattle.crl_regions.proofs.Carried.{of_node, node_here, node_there}
 use Rattle.crl_regions.proofs.Lift.{Lifted, Outcomes, lift}
-use Rattle.crl_regions.proofs.Whole.{Whole, local, table_at}
+use Rattle.crl_regions.proofs.Whole.{Whole, table_at}
 
 -- Tables grow: one that is there stays there, with its size.
 abbrev pub Grows : (Name → Option Home) → (Name → Option Home) → Type 0
@@ -150,22 +146,25 @@ pub whole_stepped : (w : World) (drafts later : ℕ → Name → List ℕ) (arra
     → Whole w drafts arrays → Outcome_of w later i e inbox o came written
     → Whole (stepped i e o w).world later (λ q. bytes_after (written q) (arrays q))
     × ((q : Name) (h : Home) → table_of q w ≡ Some h → Lifted q i (came q) w.nodes (stepped i e o w).world.nodes (flight w) (flight (stepped i e o w).world) h (arrays q) (bytes_after (written q) (arrays q)))
-whole_stepped w drafts later arrays i e inbox o came written k x = (record {
-  fits = x.fits;
-  agrees = of_node w.nodes i m (λ j n. (q : Name) → expected (home_of n q) (n.remotes q) ≡ section_at q n.sections) (λ q. agrees_now q (x.acts q)) (λ j other. k.agrees j);
-  counts = of_node w.nodes i m (λ j n. (q : Name) → CountFits (section_at q n.sections)) (λ q. counts_now q (x.acts q)) (λ j other. k.counts j);
-  housed = of_node w.nodes i m (λ j n. Housed n) (x.keeps.2 (k.housed i)) (λ j other. k.housed j);
-  near = near_now;
-  sizes = of_node w.nodes i m (λ j n. (q : Name) (r : Remote) → n.remotes q ≡ Some r → (h : Home) × (table_of q v ≡ Some h) × (h.size ≡ r.size)) (λ q r f. known q r.size (sizes_now q (x.acts q) r f))
-      (λ j other q r f. known q r.size (k.sizes j q r f));
-  inbox = of_node w.nodes i m (λ j n. AllByRecursion (λ (y : Message). Fair w.count after y × (y.addressee ≡ j)) n.inbox)
-      (subst (λ ms. AllByRecursion (λ (y : Message). Fair w.count after y × (y.addressee ≡ i)) ms) (sym x.keeps.0) (inbox_grown w.count i before after inbox grows x.rest))
-      (λ j other. inbox_grown w.count j before after (w.nodes j).inbox grows (k.inbox j));
-  outbox = of_node w.nodes i m (λ j n. AllFair w.count after n.outbox)
-      (all_append (Fair w.count after) o.node.outbox o.posts (subst (λ ms. AllFair w.count after ms) (sym x.keeps.1) (all_grown w.count before after (w.nodes i).outbox grows (k.outbox i))) (x.fair after sends))
-      (λ j other. all_grown w.count before after (w.nodes j).outbox grows (k.outbox j));
-  coherent = coherent_now;
-}, lifted)
+whole_stepped w drafts later arrays i e inbox o came written k x = (
+  record {
+    fits = x.fits;
+    agrees = of_node w.nodes i m (λ j n. (q : Name) → expected (home_of n q) (n.remotes q) ≡ section_at q n.sections) (λ q. agrees_now q (x.acts q)) (λ j other. k.agrees j);
+    counts = of_node w.nodes i m (λ j n. (q : Name) → CountFits (section_at q n.sections)) (λ q. counts_now q (x.acts q)) (λ j other. k.counts j);
+    housed = of_node w.nodes i m (λ j n. Housed n) (x.keeps.2 (k.housed i)) (λ j other. k.housed j);
+    near = near_now;
+    sizes = of_node w.nodes i m (λ j n. (q : Name) (r : Remote) → n.remotes q ≡ Some r → (h : Home) × (table_of q v ≡ Some h) × (h.size ≡ r.size)) (λ q r f. known q r.size (sizes_now q (x.acts q) r f))
+        (λ j other q r f. known q r.size (k.sizes j q r f));
+    inbox = of_node w.nodes i m (λ j n. AllByRecursion (λ (y : Message). Fair w.count after y × (y.addressee ≡ j)) n.inbox)
+        (subst (λ ms. AllByRecursion (λ (y : Message). Fair w.count after y × (y.addressee ≡ i)) ms) (sym x.keeps.0) (inbox_grown w.count i before after inbox grows x.rest))
+        (λ j other. inbox_grown w.count j before after (w.nodes j).inbox grows (k.inbox j));
+    outbox = of_node w.nodes i m (λ j n. AllFair w.count after n.outbox)
+        (all_append (Fair w.count after) o.node.outbox o.posts (subst (λ ms. AllFair w.count after ms) (sym x.keeps.1) (all_grown w.count before after (w.nodes i).outbox grows (k.outbox i))) (x.fair after sends))
+        (λ j other. all_grown w.count before after (w.nodes j).outbox grows (k.outbox j));
+    coherent = coherent_now;
+  },
+  lifted,
+)
   where
     n : Node
     n = record (w.nodes i) { inbox = inbox }
@@ -298,10 +297,10 @@ whole_stepped w drafts later arrays i e inbox o came written k x = (record {
     new_region : (q : Name) (h : Home) (new : New q h) → table_of q w ≡ None → created n.nodes new.0 (λ j. new.0) ≡ sight q h v.nodes (flight v) (bytes_after (written q) (arrays q))
     new_region q h new none =
         let sides : (j : ℕ) → new_remote new.0 ≡ side h.size ((v.nodes j).remotes q) =
-            λ j. sym (ap (λ y. side h.size y) (of_node w.nodes i m (λ l y. y.remotes q ≡ None) (new.5 ∙ no_side w drafts arrays q i k none) (λ l other. no_side w drafts arrays q l k none) j) ∙ ap (λ (y : Home). new_remote y.size) new.1) in
+        λ j. sym (ap (λ y. side h.size y) (of_node w.nodes i m (λ l y. y.remotes q ≡ None) (new.5 ∙ no_side w drafts arrays q i k none) (λ l other. no_side w drafts arrays q l k none) j) ∙ ap (λ (y : Home). new_remote y.size) new.1) in
         let empty : [] ≡ picks (flying q) (flight v) =
-            sym (moves_nothing (moves q) (ap (λ l. picks (flying q) (boxes_from 0 w.count (at_node w.nodes i n)) ++ l) new.6 ∙ append_nil _
-            ∙ subst (λ c. Comes c (picks (flying q) (flight w)) (picks (flying q) (boxes_from 0 w.count (at_node w.nodes i n)))) new.3 (x.comes q) ∙ nothing_flies w drafts arrays q k none)) in
+        sym (moves_nothing (moves q) (ap (λ l. picks (flying q) (boxes_from 0 w.count (at_node w.nodes i n)) ++ l) new.6 ∙ append_nil _
+        ∙ subst (λ c. Comes c (picks (flying q) (flight w)) (picks (flying q) (boxes_from 0 w.count (at_node w.nodes i n)))) new.3 (x.comes q) ∙ nothing_flies w drafts arrays q k none)) in
         let bytes : replicate new.0 0 ≡ bytes_after (written q) (arrays q) = sym (ap (λ y. bytes_after y (arrays q)) new.4) in
         λ t. record { home = sym new.1 t; remotes = λ j. sides j t; flight = empty t; array = bytes t }
 

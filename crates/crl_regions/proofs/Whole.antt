@@ -1,39 +1,37 @@
 -- What holds of all nodes after each event of a run, and what it says of a message that comes.
-use Rattle.std.proofs.Common.{◌≡◌, ◌≢◌, ◌⊎◌, inl, inr, ℕ, zero, suc, ◌+◌, ◌-◌, ◌<◌, ◌==◌, Bool, true, false, ◌||◌, None, Some, Option, List, [], ◌∷◌, ◌++◌, if◌then◌else◌, refl, ap, sym, ◌∙◌, subst, arith}
+use Rattle.std.proofs.Common.{◌≡◌, ◌≢◌, ◌⊎◌, inl, inr, ℕ, suc, ◌+◌, ◌-◌, ◌<◌, ◌==◌, Bool, true, false, ◌||◌, None, Some, Option, List, [], ◌∷◌, ◌++◌, refl, ap, sym, ◌∙◌, subst, arith}
 use Rattle.std.specs.List.{AllByRecursion}
-use Rattle.std.proofs.lemmas.Bool.{cond_both, cond-true, cond-false, eqb-true, eqb-false, eq-eqb, ne_eqb}
+use Rattle.std.proofs.lemmas.Bool.{cond-true, cond-false, eqb-true, eqb-false, eq-eqb, ne_eqb}
 use Rattle.crl_model.specs.declared.name.Name.{Name}
 use Rattle.crl_model.specs.declared.directory.Section.{Section}
 use Rattle.crl_model.specs.declared.directory.Section.TheVariants as section
 use Rattle.crl_model.specs.declared.directory.Asked.{Asked}
-use Rattle.crl_model.specs.declared.message.Granted.{Granted}
 use Rattle.crl_model.specs.declared.message.Message.{Message}
 use Rattle.crl_model.specs.declared.message.Kind.{Kind}
 use Rattle.crl_model.specs.declared.message.Kind.TheVariants as kind
 use Rattle.crl_protocol.specs.Places.{at, picks, Took}
-use Rattle.crl_protocol.specs.Mail.{Mail, Ask, Grant, Recall, Yield, Return, Release, about}
+use Rattle.crl_protocol.specs.Mail.{Mail, Ask, Grant, Return, Release, about}
 use Rattle.crl_protocol.specs.Home.{Home, home_asked, home_returned, home_released, takes_return, takes_release}
 use Rattle.crl_protocol.specs.Remote.{Copy, Remote, takes_grant}
 use Rattle.crl_protocol.specs.Sections.{section_at}
-use Rattle.crl_protocol.specs.Node.{Node, Activity, Waiting, ForSection, at_serial, is_mine, home_of}
+use Rattle.crl_protocol.specs.Node.{Node, Activity, Waiting, ForSection, at_serial, home_of}
 use Rattle.crl_protocol.specs.Handlers.{is_queued, is_queued_in}
 use Rattle.crl_protocol.specs.World.{World, flight}
 use Rattle.crl_protocol.proofs.Fitting.{AskingFits, Fits}
-use Rattle.crl_protocol.proofs.Outcomes.{asking_of}
 use Rattle.crl_coherence.specs.Region.{Flying, Region, flies}
-use Rattle.crl_coherence.specs.Kept.{Given, AskPlace, SectionFits, IsKept, pair_of, of_node, asked_in, queued_of}
+use Rattle.crl_coherence.specs.Kept.{Given, AskPlace, SectionFits, pair_of, of_node, asked_in}
 use Rattle.crl_coherence.specs.Coherent.{IsCoherent}
 use Rattle.crl_coherence.proofs.Lists.{took_some, took_nothing}
 use Rattle.crl_coherence.proofs.Fits.{fits_grant, fits_return, fits_release, fits_ask, queued_none}
 use Rattle.crl_coherence.proofs.Opens.{grant_opens, asked_quiet}
 use Rattle.crl_coherence.proofs.Keeps.{return_opens, release_opens}
-use Rattle.crl_regions.specs.View.{mail_in, other_end, flown, flying, side, sight, table_of}
+use Rattle.crl_regions.specs.View.{mail_in, flown, flying, side, sight, table_of}
 use Rattle.crl_regions.proofs.Near.{Near}
 use Rattle.crl_regions.proofs.Acts.{expected, CountFits, about_here, home_is}
 use Rattle.crl_regions.proofs.Sections.{Local}
 use Rattle.crl_regions.proofs.Kept.{Housed}
-use Rattle.crl_regions.proofs.Fair.{HasTable, FairTo, FairFrom, FairKind, Fair, AllFair}
-use Rattle.crl_regions.proofs.Messages.{OpensClosed, Passes}
+use Rattle.crl_regions.proofs.Fair.{FairKind, Fair, AllFair}
+use Rattle.crl_regions.proofs.Messages.{Passes}
 
 -- The drafts are those of the nodes' actors, and the arrays the bytes of each region in the single machine.
 pub record Whole (w : World) (drafts : ℕ → Name → List ℕ) (arrays : Name → List ℕ) : Type 0 where
@@ -156,28 +154,31 @@ passes w drafts arrays i m inbox rest k to fair took = go m.kind refl fair
     go : (x : Kind) → m.kind ≡ x → FairKind w.count (λ q. table_of q w) m.sender m.addressee x → Passes m.sender x n
     go (kind.Ask name write have) e f =
         let h = f.3.0 in let there = f.3.1 in let other = eqb-false m.sender name.home f.1 in
-        let t = to_home_took name m (Ask write have) (flight w) rest e f.1 took in
-        (none_queued w drafts arrays i name h m.sender write have _ k there (f.0 ∙ to) other t,
-        λ g x o. absurd (let u = table name h g there x in
-            asked_quiet name.home (region name h) (record { node = m.sender; write = write; have = have }) (k.coherent name h there) other
-            (subst (λ (y : Home). (home_asked name.home (record { node = m.sender; write = write; have = have }) y).opened ≡ true) (sym u.1)
-            (subst (λ y. (home_asked y (record { node = m.sender; write = write; have = have }) g).opened ≡ true) u.0 o))))
+        let t = to_home_took name m (Ask write have) (flight w) rest e f.1 took in (
+          none_queued w drafts arrays i name h m.sender write have _ k there (f.0 ∙ to) other t,
+          λ g x o. absurd (let u = table name h g there x in
+              asked_quiet name.home (region name h) (record { node = m.sender; write = write; have = have }) (k.coherent name h there) other
+              (subst (λ (y : Home). (home_asked name.home (record { node = m.sender; write = write; have = have }) y).opened ≡ true) (sym u.1)
+              (subst (λ y. (home_asked y (record { node = m.sender; write = write; have = have }) g).opened ≡ true) u.0 o))),
+        )
     go (kind.Return name version bytes) e f = λ g x.
         let h = f.3.0 in let there = f.3.1 in let other = eqb-false m.sender name.home f.1 in
         let t = to_home_took name m (Return version bytes) (flight w) rest e f.1 took in
-        let u = table name h g there x in
-        (subst (λ y. takes_return m.sender version bytes y ≡ true) u.1 (fits_return name.home (region name h) m.sender version bytes _ (k.coherent name h there) other t),
-        λ o. subst (λ (y : Home). y.mine ≡ section.Closed) u.1
-            (return_opens name.home (region name h) m.sender version bytes _ (k.coherent name h there) other t
-            (subst (λ (y : Home). (home_returned name.home m.sender bytes y).opened ≡ true) (sym u.1) (subst (λ y. (home_returned y m.sender bytes g).opened ≡ true) u.0 o))).0)
+        let u = table name h g there x in (
+          subst (λ y. takes_return m.sender version bytes y ≡ true) u.1 (fits_return name.home (region name h) m.sender version bytes _ (k.coherent name h there) other t),
+          λ o. subst (λ (y : Home). y.mine ≡ section.Closed) u.1
+              (return_opens name.home (region name h) m.sender version bytes _ (k.coherent name h there) other t
+              (subst (λ (y : Home). (home_returned name.home m.sender bytes y).opened ≡ true) (sym u.1) (subst (λ y. (home_returned y m.sender bytes g).opened ≡ true) u.0 o))).0,
+        )
     go (kind.Release name version bytes) e f = λ g x.
         let h = f.3.0 in let there = f.3.1 in let other = eqb-false m.sender name.home f.1 in
         let t = to_home_took name m (Release version bytes) (flight w) rest e f.1 took in
-        let u = table name h g there x in
-        (subst (λ y. takes_release bytes y ≡ true) u.1 (fits_release name.home (region name h) m.sender version bytes _ (k.coherent name h there) other t),
-        λ o. subst (λ (y : Home). y.mine ≡ section.Closed) u.1
-            (release_opens name.home (region name h) m.sender version bytes _ (k.coherent name h there) other t
-            (subst (λ (y : Home). (home_released name.home m.sender version bytes y).opened ≡ true) (sym u.1) (subst (λ y. (home_released y m.sender version bytes g).opened ≡ true) u.0 o))).0)
+        let u = table name h g there x in (
+          subst (λ y. takes_release bytes y ≡ true) u.1 (fits_release name.home (region name h) m.sender version bytes _ (k.coherent name h there) other t),
+          λ o. subst (λ (y : Home). y.mine ≡ section.Closed) u.1
+              (release_opens name.home (region name h) m.sender version bytes _ (k.coherent name h there) other t
+              (subst (λ (y : Home). (home_released name.home m.sender version bytes y).opened ≡ true) (sym u.1) (subst (λ y. (home_released y m.sender version bytes g).opened ≡ true) u.0 o))).0,
+        )
     go (kind.Grant name version what) e f =
         let h = f.3.0 in let there = f.3.1 in
         let other = eqb-false m.addressee name.home f.1 in
@@ -186,8 +187,8 @@ passes w drafts arrays i m inbox rest k to fair took = go m.kind refl fair
         let asks = grant_opens name.home (region name h) m.addressee version what _ (k.coherent name h there) other t in
         let kept = ((k.coherent name h there).loose.pairs m.addressee other).section in
         let closed : (side h.size ((w.nodes m.addressee).remotes name)).here ≡ section.Closed =
-            section_idle (side h.size ((w.nodes m.addressee).remotes name)).here (side h.size ((w.nodes m.addressee).remotes name)).copy asks.0
-            (subst (λ o. SectionFits (side h.size ((w.nodes m.addressee).remotes name)).here (side h.size ((w.nodes m.addressee).remotes name)).copy o) asks.1 kept) in
+        section_idle (side h.size ((w.nodes m.addressee).remotes name)).here (side h.size ((w.nodes m.addressee).remotes name)).copy asks.0
+        (subst (λ o. SectionFits (side h.size ((w.nodes m.addressee).remotes name)).here (side h.size ((w.nodes m.addressee).remotes name)).copy o) asks.1 kept) in
         (h.size, subst (λ j. takes_grant what (side h.size ((w.nodes j).remotes name)) ≡ true) to fits, subst (λ j. (side h.size ((w.nodes j).remotes name)).here ≡ section.Closed) to closed)
     go (kind.InfoAsk name) e f = tt
     go (kind.InfoIs name t) e f = tt
