@@ -1,6 +1,6 @@
 mod Calls
 pub mod Events
-pub mod Facts
+mod Facts
 pub mod Fits
 mod Forgets
 mod HomeEvents

@@ -10,9 +10,9 @@ pub mod Fitting
 mod Following
 pub mod Growing
 mod Handling
-pub mod Informing
+mod Informing
 mod Keeping
-pub mod Obeying
+mod Obeying
 pub mod Opening
 pub mod Outcomes
 pub mod Placing

@@ -34,20 +34,20 @@ use Rattle.crl_regions.proofs.Kept.{OwnNothing, keeps_call, keeps_collected, kee
 use Rattle.crl_regions.proofs.Fair.{SizedTold, FairKind, Fair, fair_call, fair_collected, fair_message}
 use Rattle.crl_regions.proofs.Carried.{of_node, node_here, node_there}
 use Rattle.crl_regions.proofs.Whole.{Whole, local, passes}
-use Rattle.crl_regions.proofs.Steps.{Outcome_of, whole_stepped}
+use Rattle.crl_regions.proofs.Steps.{StepFits, whole_stepped}
 
 -- what is known of all nodes after an event, and what the event was of a region that was there
-pub record Gone_on (w v : World) (later : ℕ → Name → List ℕ) (arrays left : Name → List ℕ) : Type 0 where
+pub record GoneOn (w v : World) (later : ℕ → Name → List ℕ) (arrays left : Name → List ℕ) : Type 0 where
   pub whole : Whole v later left
   pub ran : (q : Name) (h : Home) → table_of q w ≡ Some h → (k : Home) × (table_of q v ≡ Some k) × Run q.home (sight q h w.nodes (flight w) (arrays q)) (sight q k v.nodes (flight v) (left q))
 
 of_outcome : (w : World) (drafts later : ℕ → Name → List ℕ) (arrays : Name → List ℕ) (i : ℕ) (e : Event) (inbox : List Message) (o : Outcome) (came : Name → Option Flying) (written : Name → Option (List ℕ))
-    → Whole w drafts arrays → Outcome_of w later i e inbox o came written → Gone_on w (stepped i e o w).world later arrays (λ q. bytes_after (written q) (arrays q))
+    → Whole w drafts arrays → StepFits w later i e inbox o came written → GoneOn w (stepped i e o w).world later arrays (λ q. bytes_after (written q) (arrays q))
 of_outcome w drafts later arrays i e inbox o came written k x =
     let both = whole_stepped w drafts later arrays i e inbox o came written k x in
     record { whole = both.0; ran = λ q h there. let l = both.1 q h there in (l.home, l.there, l.run) }
 
-pub nothing_on : (w : World) (drafts : ℕ → Name → List ℕ) (arrays : Name → List ℕ) → Whole w drafts arrays → Gone_on w w drafts arrays arrays
+pub nothing_on : (w : World) (drafts : ℕ → Name → List ℕ) (arrays : Name → List ℕ) → Whole w drafts arrays → GoneOn w w drafts arrays arrays
 nothing_on w drafts arrays k = record { whole = k; ran = λ q h there. (h, there, done) }
 
 pub is_freed : (a : Activity) → is_free a ≡ true → a ≡ Free
@@ -63,7 +63,7 @@ stays_boxes : (w : World) (i : ℕ) (q : Name) → picks (flying q) (boxes_from 
 stays_boxes w i q = ap (λ l. picks (flying q) l) (flight_same w.count _ w.nodes (λ l few. of_node w.nodes i (w.nodes i) (λ j n. boxes n ≡ boxes (w.nodes j)) refl (λ j other. refl) l))
 
 pub call_on : (w : World) (drafts later : ℕ → Name → List ℕ) (arrays : Name → List ℕ) (i : ℕ) (e : Event) (c : Call) → i < w.count → (w.nodes i).activity ≡ Free → is_call (w.nodes i) c (verdict (w.nodes i) c) ≡ true → Whole w drafts arrays
-    → ((j : ℕ) → Fits j ((stepped i e (called c (w.nodes i)) w).world.nodes j) (later j)) → Gone_on w (stepped i e (called c (w.nodes i)) w).world later arrays (λ q. array_after q (event.Call i c) w (arrays q))
+    → ((j : ℕ) → Fits j ((stepped i e (called c (w.nodes i)) w).world.nodes j) (later j)) → GoneOn w (stepped i e (called c (w.nodes i)) w).world later arrays (λ q. array_after q (event.Call i c) w (arrays q))
 call_on w drafts later arrays i e c few idle may k fits =
     of_outcome w drafts later arrays i e (w.nodes i).inbox (called c (w.nodes i)) (λ q. None) (λ q. left_by q (event.Call i c) w) k (record {
       few = few;
@@ -83,7 +83,7 @@ acts_collected K i n (Ready answer) q = nothing refl refl refl refl refl refl
 
 pub collect_on : (w : World) (drafts later : ℕ → Name → List ℕ) (arrays : Name → List ℕ) (i : ℕ) (e : Event) → i < w.count → Whole w drafts arrays
     → ((j : ℕ) → Fits j ((stepped i e (collected (w.nodes i).activity (w.nodes i)) w).world.nodes j) (later j))
-    → Gone_on w (stepped i e (collected (w.nodes i).activity (w.nodes i)) w).world later arrays arrays
+    → GoneOn w (stepped i e (collected (w.nodes i).activity (w.nodes i)) w).world later arrays arrays
 collect_on w drafts later arrays i e few k fits =
     of_outcome w drafts later arrays i e (w.nodes i).inbox (collected (w.nodes i).activity (w.nodes i)) (λ q. None) (λ q. None) k (record {
       few = few;
@@ -173,7 +173,7 @@ tells_of w from to (kind.Result round fold) f = tt
 
 pub handle_on : (w : World) (drafts later : ℕ → Name → List ℕ) (arrays : Name → List ℕ) (i place : ℕ) (e : Event) (t : Taken Message) → i < w.count → take_out place (w.nodes i).inbox ≡ Some t → Whole w drafts arrays
     → let o = handled t.taken.sender t.taken.kind (record (w.nodes i) { inbox = t.rest }) in
-    ((j : ℕ) → Fits j ((stepped i e o w).world.nodes j) (later j)) → Gone_on w (stepped i e o w).world later arrays arrays
+    ((j : ℕ) → Fits j ((stepped i e o w).world.nodes j) (later j)) → GoneOn w (stepped i e o w).world later arrays arrays
 handle_on w drafts later arrays i place e t few out k fits =
     of_outcome w drafts later arrays i e t.rest (handled t.taken.sender t.taken.kind n) (λ q. flying q t.taken) (λ q. None) k (record {
       few = few;

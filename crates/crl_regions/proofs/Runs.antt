@@ -31,7 +31,7 @@ use Rattle.crl_regions.proofs.Fair.{FairKind, Fair, AllFair}
 use Rattle.crl_regions.proofs.Carried.{table_carried, carried_run, arrived_all}
 use Rattle.crl_regions.proofs.Whole.{Whole}
 use Rattle.crl_regions.proofs.Steps.{Grows, fair_grown, all_grown, inbox_grown}
-use Rattle.crl_regions.proofs.Events.{Gone_on, nothing_on, is_freed, call_on, collect_on, handle_on, all_took}
+use Rattle.crl_regions.proofs.Events.{GoneOn, nothing_on, is_freed, call_on, collect_on, handle_on, all_took}
 
 -- Mail about copies goes to a node of the world.
 mail_none : (n : ℕ) (f : Flying) → flown n None ≡ Some f → ⊥
@@ -55,7 +55,7 @@ reaches w drafts arrays q m (kind.Come round part) x f g e = absurd (mail_none (
 reaches w drafts arrays q m (kind.Result round fold) x f g e = absurd (mail_none (other_end q m) g e)
 
 carry_on : (w : World) (drafts later : ℕ → Name → List ℕ) (arrays : Name → List ℕ) (i place : ℕ) (e : Event) (t : Taken Message) → i < w.count → take_out place (w.nodes i).outbox ≡ Some t → Whole w drafts arrays
-    → ((j : ℕ) → Fits j ((carried i e (Some t) w).world.nodes j) (later j)) → Gone_on w (carried i e (Some t) w).world later arrays arrays
+    → ((j : ℕ) → Fits j ((carried i e (Some t) w).world.nodes j) (later j)) → GoneOn w (carried i e (Some t) w).world later arrays arrays
 carry_on w drafts later arrays i place e t few out k fits = record {
   whole = record {
     fits = fits;
@@ -96,7 +96,7 @@ carry_on w drafts later arrays i place e t few out k fits = record {
 
 -- Any event that may come.
 abbrev pub Later : World → Event → (Name → List ℕ) → Type 0
-Later w e arrays = (later : ℕ → Name → List ℕ) × Gone_on w (step e w).world later arrays (λ q. array_after q e w (arrays q))
+Later w e arrays = (later : ℕ → Name → List ℕ) × GoneOn w (step e w).world later arrays (λ q. array_after q e w (arrays q))
 
 abbrev running_at : World → (ℕ → Name → List ℕ) → Running
 running_at w drafts = record { world = w; actors = λ i. record { left = []; drafts = drafts i }; events = []; entries = [] }
@@ -108,12 +108,12 @@ abbrev drafts_after : World → (ℕ → Name → List ℕ) → Event → ℕ �
 drafts_after w drafts e j = ((goes_on (node_of e) e (running_at w drafts)).actors j).drafts
 
 handled_on : (w : World) (drafts later : ℕ → Name → List ℕ) (arrays : Name → List ℕ) (i place : ℕ) (e : Event) (o : Option (Taken Message)) → i < w.count → take_out place (w.nodes i).inbox ≡ o → Whole w drafts arrays
-    → ((j : ℕ) → Fits j ((handled_at i e o w).world.nodes j) (later j)) → (ds : ℕ → Name → List ℕ) × Gone_on w (handled_at i e o w).world ds arrays arrays
+    → ((j : ℕ) → Fits j ((handled_at i e o w).world.nodes j) (later j)) → (ds : ℕ → Name → List ℕ) × GoneOn w (handled_at i e o w).world ds arrays arrays
 handled_on w drafts later arrays i place e None few out k fits = (drafts, nothing_on w drafts arrays k)
 handled_on w drafts later arrays i place e (Some t) few out k fits = (later, handle_on w drafts later arrays i place e t few out k fits)
 
 carried_on : (w : World) (drafts later : ℕ → Name → List ℕ) (arrays : Name → List ℕ) (i place : ℕ) (e : Event) (o : Option (Taken Message)) → i < w.count → take_out place (w.nodes i).outbox ≡ o → Whole w drafts arrays
-    → ((j : ℕ) → Fits j ((carried i e o w).world.nodes j) (later j)) → (ds : ℕ → Name → List ℕ) × Gone_on w (carried i e o w).world ds arrays arrays
+    → ((j : ℕ) → Fits j ((carried i e o w).world.nodes j) (later j)) → (ds : ℕ → Name → List ℕ) × GoneOn w (carried i e o w).world ds arrays arrays
 carried_on w drafts later arrays i place e None few out k fits = (drafts, nothing_on w drafts arrays k)
 carried_on w drafts later arrays i place e (Some t) few out k fits = (later, carry_on w drafts later arrays i place e t few out k fits)
 

@@ -128,7 +128,7 @@ no_side w drafts arrays q j k none = go ((w.nodes j).remotes q) refl
     go (Some r) e = absurd (let t = (k.sizes j q r e).1 in cc)
 
 -- The outcome o of node i, from n on, where the message that came is taken out of the inbox.
-pub record Outcome_of (w : World) (after : ℕ → Name → List ℕ) (i : ℕ) (e : Event) (inbox : List Message) (o : Outcome) (came : Name → Option Flying) (written : Name → Option (List ℕ)) : Type 0 where
+pub record StepFits (w : World) (after : ℕ → Name → List ℕ) (i : ℕ) (e : Event) (inbox : List Message) (o : Outcome) (came : Name → Option Flying) (written : Name → Option (List ℕ)) : Type 0 where
   pub few : i < w.count
   pub fits : (j : ℕ) → Fits j ((stepped i e o w).world.nodes j) (after j)
   pub acts : (q : Name) → Acts (λ p size. (h : Home) × (table_of p w ≡ Some h) × (h.size ≡ size)) q i (came q) (written q) (record (w.nodes i) { inbox = inbox }) o.node o.posts
@@ -143,7 +143,7 @@ own_live true v own = own.live
 own_live false v own = subst (λ s. LiveFits s v.home) (sym own.unknown) tt
 
 pub whole_stepped : (w : World) (drafts later : ℕ → Name → List ℕ) (arrays : Name → List ℕ) (i : ℕ) (e : Event) (inbox : List Message) (o : Outcome) (came : Name → Option Flying) (written : Name → Option (List ℕ))
-    → Whole w drafts arrays → Outcome_of w later i e inbox o came written
+    → Whole w drafts arrays → StepFits w later i e inbox o came written
     → Whole (stepped i e o w).world later (λ q. bytes_after (written q) (arrays q))
     × ((q : Name) (h : Home) → table_of q w ≡ Some h → Lifted q i (came q) w.nodes (stepped i e o w).world.nodes (flight w) (flight (stepped i e o w).world) h (arrays q) (bytes_after (written q) (arrays q)))
 whole_stepped w drafts later arrays i e inbox o came written k x = (

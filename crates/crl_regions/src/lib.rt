@@ -13,8 +13,8 @@ ghost use Rattle.crl_coherence.specs.Coherent.{IsCoherent};
 ghost use Rattle.crl_regions.specs.View.{table_of, view, array_of, array_after};
 
 /// An event that may come after a run, and a region that is there: it is there afterwards too, and as it is seen it
-/// went from the one to the other by a run of its own events. Its array is as before, but for the end of a write
-/// section of the region, which leaves its bytes.
+/// goes from the one to the other by a run of its own events. Its array is what `array_after` says: the bytes that a
+/// write section of it leaves which ends, zeros where it is created, and else as before.
 pub fn events_are_the_regions()
     ensures { (count capacity : ℕ) (run : List Event) (e : Event) → IsRunFrom (new_world count capacity) run → is_enabled e (world_of count capacity run) ≡ true → (name : Name) (h : Home) → table_of name (world_of count capacity run) ≡ Some h → (k : Home) × (table_of name (step e (world_of count capacity run)).world ≡ Some k) × Run name.home (view name (array_of name count capacity run) (world_of count capacity run)) (view name (array_after name e (world_of count capacity run) (array_of name count capacity run)) (step e (world_of count capacity run)).world) }
 {}
