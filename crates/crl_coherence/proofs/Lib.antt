@@ -1,13 +1,13 @@
 mod Calls
-mod Events
+pub mod Events
 mod Facts
-mod Fits
+pub mod Fits
 mod Forgets
 mod HomeEvents
-mod Keeps
-mod Lists
+pub mod Keeps
+pub mod Lists
 mod Mails
-mod Opens
+pub mod Opens
 mod OwnEvents
 mod Owned
 mod Pairs

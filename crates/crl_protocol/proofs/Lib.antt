@@ -1,23 +1,23 @@
 mod Allowing
 mod Answering
 mod Bounding
-mod Calling
+pub mod Calling
 mod Computed
 mod Deciding
 mod Enabling
-mod Entering
-mod Fitting
+pub mod Entering
+pub mod Fitting
 mod Following
-mod Growing
+pub mod Growing
 mod Handling
 mod Informing
 mod Keeping
 mod Obeying
-mod Opening
-mod Outcomes
-mod Placing
-mod Serving
-mod Sound
-mod Tabling
+pub mod Opening
+pub mod Outcomes
+pub mod Placing
+pub mod Serving
+pub mod Sound
+pub mod Tabling
 mod Touching
 mod Wording

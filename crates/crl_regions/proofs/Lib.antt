@@ -1,0 +1,17 @@
+mod Acts
+mod Calls
+mod Carried
+mod Ends
+mod Events
+mod Fair
+mod Houses
+mod Kept
+mod Lift
+mod Messages
+mod Moves
+mod Near
+mod Opened
+mod Runs
+mod Sections
+mod Steps
+mod Whole

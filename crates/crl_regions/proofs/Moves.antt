@@ -1,0 +1,140 @@
+-- Messages of a list that stand at other places, and the messages of all nodes where one node's change.
+use Rattle.std.proofs.Common.{◌≡◌, ℕ, zero, suc, ◌+◌, ◌<◌, None, Some, Option, List, [], ◌∷◌, ◌++◌, refl, ap, sym, ◌∙◌, subst, append_assoc, arith}
+use Rattle.crl_model.specs.declared.message.Message.{Message}
+use Rattle.crl_protocol.specs.Places.{picks, Took, here, there, Taken, behind, take_out}
+use Rattle.crl_protocol.specs.Node.{Node}
+use Rattle.crl_protocol.specs.World.{boxes_from}
+use Rattle.crl_protocol.proofs.Growing.{append_nil}
+use Rattle.crl_coherence.specs.Region.{Flying, Region, carry, Run, done, next}
+use Rattle.crl_coherence.proofs.Lists.{took_some, took_none}
+
+-- the same elements in another order, by taking one out and putting it in again
+pub data Moves {A : Type 0} : List A → List A → Type 0 where
+  still : {xs : List A} → Moves xs xs
+  moved : {xs ys zs : List A} (x : A) (rest : List A) → Took x xs rest → Took x ys rest → Moves ys zs → Moves xs zs
+
+pub moves_then : {A : Type 0} {xs ys zs : List A} → Moves xs ys → Moves ys zs → Moves xs zs
+moves_then still n = n
+moves_then (moved x rest a b m) n = moved x rest a b (moves_then m n)
+
+pub moves_in : {A : Type 0} (y : A) {xs ys : List A} → Moves xs ys → Moves (y ∷ xs) (y ∷ ys)
+moves_in y still = still
+moves_in y (moved x rest a b m) = moved x (y ∷ rest) (there a) (there b) (moves_in y m)
+
+pub moves_behind : {A : Type 0} (ys : List A) {xs zs : List A} → Moves xs zs → Moves (ys ++ xs) (ys ++ zs)
+moves_behind [] m = m
+moves_behind (y ∷ ys) m = moves_in y (moves_behind ys m)
+
+took_before : {A : Type 0} (x : A) (xs ys : List A) → Took x (xs ++ x ∷ ys) (xs ++ ys)
+took_before x [] ys = here
+took_before x (z ∷ xs) ys = there (took_before x xs ys)
+
+-- the parts of a list change places
+pub moves_past : {A : Type 0} (xs ys zs : List A) → Moves (xs ++ (ys ++ zs)) (xs ++ (zs ++ ys))
+moves_past xs ys [] = subst (λ l. Moves (xs ++ l) (xs ++ ys)) (sym (append_nil ys)) still
+moves_past xs ys (z ∷ zs) =
+    moves_behind xs (moved z (ys ++ zs) (took_before z ys zs) here (moves_in z (moves_past [] ys zs)))
+
+-- what a selector finds
+picked_move : {A B : Type 0} (f : A → Option B) (x : A) (xs ys zs rest : List A) → Took x xs rest → Took x ys rest → (o : Option B) → f x ≡ o
+    → Moves (picks f ys) (picks f zs) → Moves (picks f xs) (picks f zs)
+picked_move f x xs ys zs rest a b None e m = subst (λ l. Moves l (picks f zs)) (sym (took_none f a e ∙ sym (took_none f b e))) m
+picked_move f x xs ys zs rest a b (Some y) e m = moved y (picks f rest) (took_some f a y e) (took_some f b y e) m
+
+pub moves_picked : {A B : Type 0} (f : A → Option B) {xs ys : List A} → Moves xs ys → Moves (picks f xs) (picks f ys)
+moves_picked f still = still
+moves_picked f (moved {xs = xs} {ys = ys} {zs = zs} x rest a b m) = picked_move f x xs ys zs rest a b (f x) refl (moves_picked f m)
+
+-- a region's messages change places
+pub run_moves : (me : ℕ) (g : Region) (after : List Flying) → Moves g.flight after → Run me g (record g { flight = after })
+run_moves me g after m = go g.flight after m
+  where
+    go : (before after : List Flying) → Moves before after → Run me (record g { flight = before }) (record g { flight = after })
+    go before after still = done
+    go before after (moved {ys = between} x rest a b m) = next (carry x rest between a b) (go between after m)
+
+pub run_then : (me : ℕ) (g h k : Region) → Run me g h → Run me h k → Run me g k
+run_then me g h k done s = s
+run_then me g h k (next {h = between} e r) s = next e (run_then me between h k r s)
+
+-- what is taken out by its place is taken out
+took_behind : {A : Type 0} (x : A) (xs : List A) (t : Taken A) (o : Option (Taken A)) → behind x o ≡ Some t → ((u : Taken A) → o ≡ Some u → Took u.taken xs u.rest) → Took t.taken (x ∷ xs) t.rest
+took_behind x xs t None e h = cc
+took_behind x xs t (Some u) e h = let same : record { taken = u.taken; rest = x ∷ u.rest } ≡ t = cc in subst (λ (v : Taken _). Took v.taken (x ∷ xs) v.rest) same (there (h u refl))
+
+pub took_out : {A : Type 0} (place : ℕ) (xs : List A) (t : Taken A) → take_out place xs ≡ Some t → Took t.taken xs t.rest
+took_out place [] t e = cc
+took_out zero (x ∷ xs) t e = let same : record { taken = x; rest = xs } ≡ t = cc in subst (λ (u : Taken _). Took u.taken (x ∷ xs) u.rest) same here
+took_out (suc place) (x ∷ xs) t e = took_behind x xs t (take_out place xs) e (λ u w. took_out place xs u w)
+
+pub took_left : {A : Type 0} {x : A} {xs ys : List A} (zs : List A) → Took x xs ys → Took x (xs ++ zs) (ys ++ zs)
+took_left zs here = here
+took_left zs (there t) = there (took_left zs t)
+
+pub took_right : {A : Type 0} {x : A} (zs : List A) {xs ys : List A} → Took x xs ys → Took x (zs ++ xs) (zs ++ ys)
+took_right [] t = t
+took_right (z ∷ zs) t = there (took_right zs t)
+
+-- The boxes of all nodes.
+abbrev pub boxes : Node → List Message
+boxes n = n.inbox ++ n.outbox
+
+boxes_same : (i k : ℕ) (f g : ℕ → Node) → ((j : ℕ) → i + j < i + k → boxes (f (i + j)) ≡ boxes (g (i + j))) → boxes_from i k f ≡ boxes_from i k g
+boxes_same i zero f g h = refl
+boxes_same i (suc k) f g h =
+    let first : boxes (f i) ≡ boxes (g i) = subst (λ x. boxes (f x) ≡ boxes (g x)) (omega arith) (h 0 (omega arith)) in
+    let others = boxes_same (i + 1) k f g (λ j l. subst (λ x. boxes (f x) ≡ boxes (g x)) (omega arith) (h (suc j) (omega arith))) in
+    ap (λ b. b ++ boxes_from (i + 1) k f) first ∙ ap (λ b. boxes (g i) ++ b) others
+
+-- what is said of the boxes of one node is said of all boxes, where the others stay
+pub boxes_took : (m : Message) (i k j : ℕ) (f g : ℕ → Node) → j < k → Took m (boxes (f (i + j))) (boxes (g (i + j))) → ((l : ℕ) → (l ≡ i + j → ⊥) → boxes (f l) ≡ boxes (g l))
+    → Took m (boxes_from i k f) (boxes_from i k g)
+boxes_took m i zero j f g l t h = absurd (omega arith)
+boxes_took m i (suc k) zero f g l t h =
+    let same = boxes_same (i + 1) k f g (λ x y. h (i + 1 + x) (λ e. omega arith)) in
+    let first : Took m (boxes (f i)) (boxes (g i)) = subst (λ x. Took m (boxes (f x)) (boxes (g x))) (omega arith) t in
+    subst (λ b. Took m (boxes (f i) ++ boxes_from (i + 1) k f) (boxes (g i) ++ b)) same (took_left (boxes_from (i + 1) k f) first)
+boxes_took m i (suc k) (suc j) f g l t h =
+    let same = h i (λ e. omega arith) in
+    let step : i + suc j ≡ i + 1 + j = omega arith in
+    let t2 : Took m (boxes (f (i + 1 + j))) (boxes (g (i + 1 + j))) = subst (λ x. Took m (boxes (f x)) (boxes (g x))) step t in
+    let others = boxes_took m (i + 1) k j f g (omega arith) t2 (λ x n. h x (λ e. n (e ∙ step))) in
+    subst (λ b. Took m (boxes (f i) ++ boxes_from (i + 1) k f) (b ++ boxes_from (i + 1) k g)) same (took_right (boxes (f i)) others)
+
+-- more messages behind those of one node
+pub boxes_more : (posts : List Message) (i k j : ℕ) (f g : ℕ → Node) → j < k → boxes (g (i + j)) ≡ boxes (f (i + j)) ++ posts → ((l : ℕ) → (l ≡ i + j → ⊥) → boxes (f l) ≡ boxes (g l))
+    → Moves (boxes_from i k f ++ posts) (boxes_from i k g)
+boxes_more posts i zero j f g l t h = absurd (omega arith)
+boxes_more posts i (suc k) zero f g l t h =
+    let same = boxes_same (i + 1) k f g (λ x y. h (i + 1 + x) (λ e. omega arith)) in
+    let first : boxes (g i) ≡ boxes (f i) ++ posts = subst (λ x. boxes (g x) ≡ boxes (f x) ++ posts) (omega arith) t in
+    let whole : (boxes (f i) ++ posts) ++ boxes_from (i + 1) k f ≡ boxes_from i (suc k) g = ap (λ b. b ++ boxes_from (i + 1) k f) (sym first) ∙ ap (λ b. boxes (g i) ++ b) same in
+    subst (λ b. Moves ((boxes (f i) ++ boxes_from (i + 1) k f) ++ posts) b) (sym (append_assoc (boxes (f i)) posts (boxes_from (i + 1) k f)) ∙ whole)
+    (subst (λ b. Moves b (boxes (f i) ++ (posts ++ boxes_from (i + 1) k f))) (sym (append_assoc (boxes (f i)) (boxes_from (i + 1) k f) posts))
+    (moves_past (boxes (f i)) (boxes_from (i + 1) k f) posts))
+boxes_more posts i (suc k) (suc j) f g l t h =
+    let same = h i (λ e. omega arith) in
+    let step : i + suc j ≡ i + 1 + j = omega arith in
+    let t2 : boxes (g (i + 1 + j)) ≡ boxes (f (i + 1 + j)) ++ posts = subst (λ x. boxes (g x) ≡ boxes (f x) ++ posts) step t in
+    let others = boxes_more posts (i + 1) k j f g (omega arith) t2 (λ x n. h x (λ e. n (e ∙ step))) in
+    subst (λ b. Moves (b ++ posts) (boxes_from i (suc k) g)) (ap (λ b. b ++ boxes_from (i + 1) k f) (sym same))
+    (subst (λ b. Moves b (boxes_from i (suc k) g)) (sym (append_assoc (boxes (g i)) (boxes_from (i + 1) k f) posts)) (moves_behind (boxes (g i)) others))
+
+-- the same, of all nodes from the first
+pub flight_took : (m : Message) (count i : ℕ) (f g : ℕ → Node) → i < count → Took m (boxes (f i)) (boxes (g i)) → ((l : ℕ) → (l ≡ i → ⊥) → boxes (f l) ≡ boxes (g l)) → Took m (boxes_from 0 count f) (boxes_from 0 count g)
+flight_took m count i f g l t h =
+    let same : i ≡ 0 + i = omega arith in
+    boxes_took m 0 count i f g l (subst (λ k. Took m (boxes (f k)) (boxes (g k))) same t) (λ k n. h k (λ e. n (e ∙ same)))
+
+pub flight_more : (posts : List Message) (count i : ℕ) (f g : ℕ → Node) → i < count → boxes (g i) ≡ boxes (f i) ++ posts → ((l : ℕ) → (l ≡ i → ⊥) → boxes (f l) ≡ boxes (g l)) → Moves (boxes_from 0 count f ++ posts) (boxes_from 0 count g)
+flight_more posts count i f g l t h =
+    let same : i ≡ 0 + i = omega arith in
+    boxes_more posts 0 count i f g l (subst (λ k. boxes (g k) ≡ boxes (f k) ++ posts) same t) (λ k n. h k (λ e. n (e ∙ same)))
+
+pub flight_same : (count : ℕ) (f g : ℕ → Node) → ((l : ℕ) → l < count → boxes (f l) ≡ boxes (g l)) → boxes_from 0 count f ≡ boxes_from 0 count g
+flight_same count f g h = boxes_same 0 count f g (λ j l. h (0 + j) (omega arith))
+
+-- what is put behind a list is taken out of it again
+pub took_put : {A : Type 0} (x : A) (xs : List A) → Took x (xs ++ x ∷ []) xs
+took_put x [] = here
+took_put x (y ∷ xs) = there (took_put x xs)

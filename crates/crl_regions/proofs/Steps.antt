@@ -1,0 +1,312 @@
+-- What holds of all nodes holds after the outcome of one node.
+use Rattle.std.proofs.Common.{◌≡◌, ◌≢◌, ◌⊎◌, inl, inr, ℕ, zero, suc, ◌+◌, ◌<◌, ◌==◌, Bool, true, false, None, Some, Option, List, [], ◌∷◌, ◌++◌, replicate, refl, ap, sym, ◌∙◌, subst, append_assoc}
+use Rattle.std.specs.List.{AllByRecursion}
+use Rattle.std.proofs.lemmas.Bool.{eqb-true}
+use Rattle.crl_model.specs.declared.name.Name.{Name}
+use Rattle.crl_model.specs.declared.event.Event.{Event}
+use Rattle.crl_model.specs.declared.message.Told.{Told}
+use Rattle.crl_model.specs.declared.message.Told.TheVariants as told
+use Rattle.crl_model.specs.declared.message.Message.{Message}
+use Rattle.crl_model.specs.declared.message.Kind.{Kind}
+use Rattle.crl_model.specs.declared.message.Kind.TheVariants as kind
+use Rattle.crl_model.specs.Names.{name_eq, at_node}
+use Rattle.crl_protocol.specs.Places.{picks}
+use Rattle.crl_protocol.specs.Mail.{Mail}
+use Rattle.crl_protocol.specs.Home.{Home, new_home, bytes_after}
+use Rattle.crl_protocol.specs.Remote.{Remote, new_remote}
+use Rattle.crl_protocol.specs.Sections.{section_at}
+use Rattle.crl_protocol.specs.Node.{Node, Outcome, is_mine, home_of}
+use Rattle.crl_protocol.specs.World.{World, boxes_from, flight, committed, stepped}
+use Rattle.crl_protocol.proofs.Fitting.{same_name, Seen, seen, LiveFits, OwnFits, SizeIs, Fits}
+use Rattle.crl_protocol.proofs.Growing.{append_nil}
+use Rattle.crl_protocol.proofs.Placing.{all_append}
+use Rattle.crl_coherence.specs.Region.{Flying}
+use Rattle.crl_coherence.specs.Coherent.{IsCoherent, created}
+use Rattle.crl_coherence.proofs.Lists.{picks-append, same_or, took_nothing, picked_none}
+use Rattle.crl_coherence.proofs.Events.{runs_kept, created_kept}
+use Rattle.crl_regions.specs.View.{if_about, mail_in, other_end, flown, flying, side, sight, table_of}
+use Rattle.crl_regions.proofs.Moves.{Moves, still, moved, moves_picked, boxes, flight_more}
+use Rattle.crl_regions.proofs.Near.{Near, near_new}
+use Rattle.crl_regions.proofs.Acts.{expected, CountFits, FromNear, Comes, Acts, nothing, home_acts, side_acts, absent, made}
+use Rattle.crl_regions.proofs.Sections.{away}
+use Rattle.crl_regions.proofs.Kept.{Housed, Keeps}
+use Rattle.crl_regions.proofs.Fair.{HasTable, SizedTold, FairKind, Fair, AllFair, Sends}
+use Rattle.crl_regions.proofs.Carried.{of_node, node_here, node_there}
+use Rattle.crl_regions.proofs.Lift.{Lifted, Outcomes, lift}
+use Rattle.crl_regions.proofs.Whole.{Whole, table_at}
+
+-- Tables grow: one that is there stays there, with its size.
+abbrev pub Grows : (Name → Option Home) → (Name → Option Home) → Type 0
+Grows before after = (q : Name) (h : Home) → before q ≡ Some h → (k : Home) × (after q ≡ Some k) × (k.size ≡ h.size)
+
+told_grown : (t : Told) (q : Name) (before after : Name → Option Home) → Grows before after → SizedTold t (before q) → SizedTold t (after q)
+told_grown (told.Live size) q before after g s = let k = g q s.0 s.1 in (k.0, k.1, k.2 ∙ s.2)
+told_grown told.Unknown q before after g s = tt
+told_grown told.Deleted q before after g s = tt
+
+table_grown : (q : Name) (before after : Name → Option Home) → Grows before after → HasTable (before q) → HasTable (after q)
+table_grown q before after g t = let k = g q t.0 t.1 in (k.0, k.1)
+
+pub fair_grown : (count : ℕ) (before after : Name → Option Home) (from to : ℕ) (k : Kind) → Grows before after → FairKind count before from to k → FairKind count after from to k
+fair_grown count before after from to (kind.Ask name write have) g f = (f.0, f.1, f.2, table_grown name before after g f.3)
+fair_grown count before after from to (kind.Grant name version granted) g f = (f.0, f.1, f.2, table_grown name before after g f.3)
+fair_grown count before after from to (kind.Recall name version) g f = (f.0, f.1, f.2, table_grown name before after g f.3)
+fair_grown count before after from to (kind.Yield name version) g f = (f.0, f.1, f.2, table_grown name before after g f.3)
+fair_grown count before after from to (kind.Return name version bytes) g f = (f.0, f.1, f.2, table_grown name before after g f.3)
+fair_grown count before after from to (kind.Release name version bytes) g f = (f.0, f.1, f.2, table_grown name before after g f.3)
+fair_grown count before after from to (kind.InfoIs name t) g f = told_grown t name before after g f
+fair_grown count before after from to (kind.InfoAsk name) g f = tt
+fair_grown count before after from to (kind.DeleteAsk name) g f = tt
+fair_grown count before after from to (kind.DeleteIs name t) g f = tt
+fair_grown count before after from to (kind.Purge name) g f = tt
+fair_grown count before after from to (kind.Purged name) g f = tt
+fair_grown count before after from to (kind.Come round part) g f = tt
+fair_grown count before after from to (kind.Result round fold) g f = tt
+
+pub all_grown : (count : ℕ) (before after : Name → Option Home) (ms : List Message) → Grows before after → AllFair count before ms → AllFair count after ms
+all_grown count before after [] g f = tt
+all_grown count before after (m ∷ ms) g f = (fair_grown count before after m.sender m.addressee m.kind g f.0, all_grown count before after ms g f.1)
+
+pub inbox_grown : (count i : ℕ) (before after : Name → Option Home) (ms : List Message) → Grows before after → AllByRecursion (λ (m : Message). Fair count before m × (m.addressee ≡ i)) ms
+    → AllByRecursion (λ (m : Message). Fair count after m × (m.addressee ≡ i)) ms
+inbox_grown count i before after [] g f = tt
+inbox_grown count i before after (m ∷ ms) g f = ((fair_grown count before after m.sender m.addressee m.kind g f.0.0, f.0.1), inbox_grown count i before after ms g f.1)
+
+-- Of a region that isn't there no mail is under way.
+quiet_if : (tables : Name → Option Home) (name q : Name) (mail : Mail) → tables q ≡ None → HasTable (tables name) → if_about (name_eq name q) mail ≡ None
+quiet_if tables name q mail none t = go (name_eq name q) refl
+  where
+    go : (b : Bool) → name_eq name q ≡ b → if_about b mail ≡ None
+    go true e = absurd (let there : tables q ≡ Some t.0 = subst (λ x. tables x ≡ Some t.0) (same_name name q e) t.1 in cc)
+    go false e = refl
+
+quiet_kind : (count : ℕ) (tables : Name → Option Home) (q : Name) (from to : ℕ) (k : Kind) → tables q ≡ None → FairKind count tables from to k → mail_in q k ≡ None
+quiet_kind count tables q from to (kind.Ask name write have) none f = quiet_if tables name q _ none f.3
+quiet_kind count tables q from to (kind.Grant name version granted) none f = quiet_if tables name q _ none f.3
+quiet_kind count tables q from to (kind.Recall name version) none f = quiet_if tables name q _ none f.3
+quiet_kind count tables q from to (kind.Yield name version) none f = quiet_if tables name q _ none f.3
+quiet_kind count tables q from to (kind.Return name version bytes) none f = quiet_if tables name q _ none f.3
+quiet_kind count tables q from to (kind.Release name version bytes) none f = quiet_if tables name q _ none f.3
+quiet_kind count tables q from to (kind.InfoIs name t) none f = refl
+quiet_kind count tables q from to (kind.InfoAsk name) none f = refl
+quiet_kind count tables q from to (kind.DeleteAsk name) none f = refl
+quiet_kind count tables q from to (kind.DeleteIs name t) none f = refl
+quiet_kind count tables q from to (kind.Purge name) none f = refl
+quiet_kind count tables q from to (kind.Purged name) none f = refl
+quiet_kind count tables q from to (kind.Come round part) none f = refl
+quiet_kind count tables q from to (kind.Result round fold) none f = refl
+
+quiet_all : (count : ℕ) (tables : Name → Option Home) (q : Name) (ms : List Message) → tables q ≡ None → AllFair count tables ms → picks (flying q) ms ≡ []
+quiet_all count tables q [] none f = refl
+quiet_all count tables q (m ∷ ms) none f =
+    picked_none (flying q m) (picks (flying q) ms) (ap (λ o. flown (other_end q m) o) (quiet_kind count tables q m.sender m.addressee m.kind none f.0)) ∙ quiet_all count tables q ms none f.1
+
+inbox_fair : (count i : ℕ) (tables : Name → Option Home) (ms : List Message) → AllByRecursion (λ (m : Message). Fair count tables m × (m.addressee ≡ i)) ms → AllFair count tables ms
+inbox_fair count i tables [] f = tt
+inbox_fair count i tables (m ∷ ms) f = (f.0.0, inbox_fair count i tables ms f.1)
+
+boxes_fair : (count : ℕ) (tables : Name → Option Home) (i k : ℕ) (nodes : ℕ → Node) → ((j : ℕ) → AllFair count tables (boxes (nodes j))) → AllFair count tables (boxes_from i k nodes)
+boxes_fair count tables i zero nodes f = tt
+boxes_fair count tables i (suc k) nodes f = all_append (Fair count tables) (boxes (nodes i)) (boxes_from (i + 1) k nodes) (f i) (boxes_fair count tables (i + 1) k nodes f)
+
+pub nothing_flies : (w : World) (drafts : ℕ → Name → List ℕ) (arrays : Name → List ℕ) (q : Name) → Whole w drafts arrays → table_of q w ≡ None → picks (flying q) (flight w) ≡ []
+nothing_flies w drafts arrays q k none =
+    let tables : Name → Option Home = λ p. table_of p w in
+    quiet_all w.count tables q (flight w) none
+    (boxes_fair w.count tables 0 w.count w.nodes
+    (λ j. all_append (Fair w.count tables) (w.nodes j).inbox (w.nodes j).outbox (inbox_fair w.count j tables (w.nodes j).inbox (k.inbox j)) (k.outbox j)))
+
+moves_nothing : {A : Type 0} {xs ys : List A} → Moves xs ys → xs ≡ [] → ys ≡ []
+moves_nothing still e = e
+moves_nothing (moved x rest a b m) e = absurd (took_nothing a e)
+
+no_side : (w : World) (drafts : ℕ → Name → List ℕ) (arrays : Name → List ℕ) (q : Name) (j : ℕ) → Whole w drafts arrays → table_of q w ≡ None → (w.nodes j).remotes q ≡ None
+no_side w drafts arrays q j k none = go ((w.nodes j).remotes q) refl
+  where
+    go : (o : Option Remote) → (w.nodes j).remotes q ≡ o → (w.nodes j).remotes q ≡ None
+    go None e = e
+    go (Some r) e = absurd (let t = (k.sizes j q r e).1 in cc)
+
+-- The outcome o of node i, from n on, where the message that came is taken out of the inbox.
+pub record StepFits (w : World) (after : ℕ → Name → List ℕ) (i : ℕ) (e : Event) (inbox : List Message) (o : Outcome) (came : Name → Option Flying) (written : Name → Option (List ℕ)) : Type 0 where
+  pub few : i < w.count
+  pub fits : (j : ℕ) → Fits j ((stepped i e o w).world.nodes j) (after j)
+  pub acts : (q : Name) → Acts (λ p size. (h : Home) × (table_of p w ≡ Some h) × (h.size ≡ size)) q i (came q) (written q) (record (w.nodes i) { inbox = inbox }) o.node o.posts
+  pub keeps : Keeps (record (w.nodes i) { inbox = inbox }) o.node
+  pub rest : AllByRecursion (λ (m : Message). Fair w.count (λ q. table_of q w) m × (m.addressee ≡ i)) inbox
+  pub comes : (q : Name) → Comes (came q) (picks (flying q) (flight w)) (picks (flying q) (boxes_from 0 w.count (at_node w.nodes i (record (w.nodes i) { inbox = inbox }))))
+  pub near : (q : Name) → FromNear w.count (came q)
+  pub fair : (tables : Name → Option Home) → Sends i w.count (record (w.nodes i) { inbox = inbox }) tables → AllFair w.count tables o.posts
+
+own_live : (b : Bool) (v : Seen) → OwnFits b v → LiveFits v.stage v.home
+own_live true v own = own.live
+own_live false v own = subst (λ s. LiveFits s v.home) (sym own.unknown) tt
+
+pub whole_stepped : (w : World) (drafts later : ℕ → Name → List ℕ) (arrays : Name → List ℕ) (i : ℕ) (e : Event) (inbox : List Message) (o : Outcome) (came : Name → Option Flying) (written : Name → Option (List ℕ))
+    → Whole w drafts arrays → StepFits w later i e inbox o came written
+    → Whole (stepped i e o w).world later (λ q. bytes_after (written q) (arrays q))
+    × ((q : Name) (h : Home) → table_of q w ≡ Some h → Lifted q i (came q) w.nodes (stepped i e o w).world.nodes (flight w) (flight (stepped i e o w).world) h (arrays q) (bytes_after (written q) (arrays q)))
+whole_stepped w drafts later arrays i e inbox o came written k x = (
+  record {
+    fits = x.fits;
+    agrees = of_node w.nodes i m (λ j n. (q : Name) → expected (home_of n q) (n.remotes q) ≡ section_at q n.sections) (λ q. agrees_now q (x.acts q)) (λ j other. k.agrees j);
+    counts = of_node w.nodes i m (λ j n. (q : Name) → CountFits (section_at q n.sections)) (λ q. counts_now q (x.acts q)) (λ j other. k.counts j);
+    housed = of_node w.nodes i m (λ j n. Housed n) (x.keeps.2 (k.housed i)) (λ j other. k.housed j);
+    near = near_now;
+    sizes = of_node w.nodes i m (λ j n. (q : Name) (r : Remote) → n.remotes q ≡ Some r → (h : Home) × (table_of q v ≡ Some h) × (h.size ≡ r.size)) (λ q r f. known q r.size (sizes_now q (x.acts q) r f))
+        (λ j other q r f. known q r.size (k.sizes j q r f));
+    inbox = of_node w.nodes i m (λ j n. AllByRecursion (λ (y : Message). Fair w.count after y × (y.addressee ≡ j)) n.inbox)
+        (subst (λ ms. AllByRecursion (λ (y : Message). Fair w.count after y × (y.addressee ≡ i)) ms) (sym x.keeps.0) (inbox_grown w.count i before after inbox grows x.rest))
+        (λ j other. inbox_grown w.count j before after (w.nodes j).inbox grows (k.inbox j));
+    outbox = of_node w.nodes i m (λ j n. AllFair w.count after n.outbox)
+        (all_append (Fair w.count after) o.node.outbox o.posts (subst (λ ms. AllFair w.count after ms) (sym x.keeps.1) (all_grown w.count before after (w.nodes i).outbox grows (k.outbox i))) (x.fair after sends))
+        (λ j other. all_grown w.count before after (w.nodes j).outbox grows (k.outbox j));
+    coherent = coherent_now;
+  },
+  lifted,
+)
+  where
+    n : Node
+    n = record (w.nodes i) { inbox = inbox }
+
+    m : Node
+    m = committed w.events e o
+
+    v : World
+    v = (stepped i e o w).world
+
+    K : Name → ℕ → Type 0
+    K = λ p size. (h : Home) × (table_of p w ≡ Some h) × (h.size ≡ size)
+
+    before : Name → Option Home
+    before = λ q. table_of q w
+
+    after : Name → Option Home
+    after = λ q. table_of q v
+
+    outcomes : (q : Name) → Outcomes q i w.nodes v.nodes n o.node
+    outcomes q = record {
+      me = (k.fits i).me;
+      home_before = refl;
+      home_after = ap (λ (y : Node). home_of y q) (node_here w.nodes i m);
+      remote_before = refl;
+      remote_after = ap (λ (y : Node). y.remotes q) (node_here w.nodes i m);
+      home_other = λ j other. ap (λ (y : Node). home_of y q) (node_there w.nodes i m j other);
+      remote_other = λ j other. ap (λ (y : Node). y.remotes q) (node_there w.nodes i m j other);
+    }
+
+    sized : (q : Name) (h : Home) → table_of q w ≡ Some h → (r : Option Remote) → (w.nodes i).remotes q ≡ r → SizeIs r h.size
+    sized q h there None f = tt
+    sized q h there (Some r) f = let s = k.sizes i q r f in let same : s.0 ≡ h = (let both : Some s.0 ≡ Some h = sym s.1 ∙ there in cc) in sym s.2 ∙ ap (λ (y : Home). y.size) same
+
+    more : boxes (v.nodes i) ≡ boxes (at_node w.nodes i n i) ++ o.posts
+    more =
+        ap boxes (node_here w.nodes i m) ∙ ap (λ l. l ++ (o.node.outbox ++ o.posts)) x.keeps.0 ∙ ap (λ l. inbox ++ (l ++ o.posts)) x.keeps.1
+        ∙ sym (append_assoc inbox (w.nodes i).outbox o.posts) ∙ sym (ap (λ (y : Node). boxes y ++ o.posts) (node_here w.nodes i n))
+
+    moves : (q : Name) → Moves (picks (flying q) (boxes_from 0 w.count (at_node w.nodes i n)) ++ picks (flying q) o.posts) (picks (flying q) (flight v))
+    moves q =
+        subst (λ l. Moves l (picks (flying q) (flight v))) (picks-append (flying q) (boxes_from 0 w.count (at_node w.nodes i n)) o.posts)
+        (moves_picked (flying q) (flight_more o.posts w.count i (at_node w.nodes i n) v.nodes x.few more (λ l other. ap boxes (node_there w.nodes i n l other ∙ sym (node_there w.nodes i m l other)))))
+
+    lifted : (q : Name) (h : Home) → table_of q w ≡ Some h → Lifted q i (came q) w.nodes v.nodes (flight w) (flight v) h (arrays q) (bytes_after (written q) (arrays q))
+    lifted q h there =
+        lift K q i w.nodes v.nodes n o.node (flight w) (flight v) o.posts (picks (flying q) (boxes_from 0 w.count (at_node w.nodes i n))) (came q) (written q) h (arrays q)
+        (outcomes q) there (sized q h there ((w.nodes i).remotes q) refl) (x.comes q) (moves q) (x.acts q)
+
+    grows : Grows before after
+    grows q h there = let l = lifted q h there in (l.home, l.there, l.size)
+
+    known : (q : Name) (size : ℕ) → K q size → (h : Home) × (table_of q v ≡ Some h) × (h.size ≡ size)
+    known q size s = let g = grows q s.0 s.1 in (g.0, g.1, g.2 ∙ s.2)
+
+    sends : Sends i w.count n after
+    sends = record {
+      me = (k.fits i).me;
+      few = x.few;
+      near = λ name h f. let t = table_at w drafts arrays i name h k f in subst (λ y. Near y w.count h) (sym ((k.fits i).me ∙ t.0)) (k.near name h t.1).0;
+      home_there = λ name h f. grows name h (table_at w drafts arrays i name h k f).1;
+      side_there = λ name r f. let s = k.sizes i name r f in let g = grows name s.0 s.1 in ((g.0, g.1), away i (drafts i) (w.nodes i) name r f (k.fits i));
+      live = λ name. own_live (is_mine (w.nodes i) name) (seen (w.nodes i) (drafts i) name) ((k.fits i).each name).own;
+    }
+
+    at_home : (q : Name) → (q.home == i) ≡ true → home_of n q ≡ None → table_of q w ≡ None
+    at_home q here none = subst (λ j. home_of (w.nodes j) q ≡ None) (sym (eqb-true q.home i here)) none
+
+    agrees_now : (q : Name) → Acts K q i (came q) (written q) n o.node o.posts → expected (home_of m q) (m.remotes q) ≡ section_at q m.sections
+    agrees_now q (nothing a b f r p s) = ap (λ y. expected y (m.remotes q)) f ∙ ap (λ y. expected (home_of n q) y) r ∙ k.agrees i q ∙ sym s
+    agrees_now q (home_acts h t a b size r p mine count near happens) = ap (λ y. expected y (m.remotes q)) b ∙ mine
+    agrees_now q (side_acts next ms none f a p here count s happens) = ap (λ y. expected y (m.remotes q)) (f ∙ none) ∙ here
+    agrees_now q (absent a b f g r p s) = ap (λ y. expected y (m.remotes q)) (g ∙ sym f) ∙ ap (λ y. expected (home_of n q) y) r ∙ k.agrees i q ∙ sym s
+    agrees_now q (made size a b here f g r p s) =
+        ap (λ y. expected y (m.remotes q)) g ∙ sym (ap (λ y. expected y (n.remotes q)) f ∙ ap (λ y. expected None y) (no_side w drafts arrays q i k (at_home q here f))) ∙ k.agrees i q ∙ sym s
+
+    counts_now : (q : Name) → Acts K q i (came q) (written q) n o.node o.posts → CountFits (section_at q m.sections)
+    counts_now q (nothing a b f r p s) = subst (λ y. CountFits y) (sym s) (k.counts i q)
+    counts_now q (home_acts h t a b size r p mine count near happens) = count
+    counts_now q (side_acts next ms none f a p here count s happens) = count
+    counts_now q (absent a b f g r p s) = subst (λ y. CountFits y) (sym s) (k.counts i q)
+    counts_now q (made size a b here f g r p s) = subst (λ y. CountFits y) (sym s) (k.counts i q)
+
+    sizes_now : (q : Name) → Acts K q i (came q) (written q) n o.node o.posts → (r : Remote) → m.remotes q ≡ Some r → K q r.size
+    sizes_now q (nothing a b f r p s) y g = k.sizes i q y (sym r ∙ g)
+    sizes_now q (home_acts h t a b size r p mine count near happens) y g = k.sizes i q y (sym r ∙ g)
+    sizes_now q (side_acts next ms none f a p here count s happens) y g = s (λ z w. k.sizes i q z w) y g
+    sizes_now q (absent a b f u r p s) y g = k.sizes i q y (sym r ∙ g)
+    sizes_now q (made size a b here f u r p s) y g = k.sizes i q y (sym r ∙ g)
+
+    -- the region was there, or it is new
+    New : Name → Home → Type 0
+    New q h = (size : ℕ) × (h ≡ new_home n.nodes size) × (q.home ≡ i) × (came q ≡ None) × (written q ≡ Some (replicate size 0)) × (o.node.remotes q ≡ n.remotes q) × (picks (flying q) o.posts ≡ [])
+
+    stays_none : (q : Name) → q.home ≢ i → table_of q v ≡ table_of q w
+    stays_none q other = (outcomes q).home_other q.home other
+
+    made_new : (q : Name) (h : Home) → table_of q w ≡ None → table_of q v ≡ Some h → q.home ≡ i → Acts K q i (came q) (written q) n o.node o.posts → New q h
+    made_new q h none there here a = go a
+      where
+        was : home_of n q ≡ None
+        was = subst (λ j. home_of (w.nodes j) q ≡ None) here none
+
+        is_now : home_of o.node q ≡ Some h
+        is_now = sym (outcomes q).home_after ∙ subst (λ j. home_of (v.nodes j) q ≡ Some h) here there
+
+        go : Acts K q i (came q) (written q) n o.node o.posts → New q h
+        go (nothing a b f r p s) = absurd (let u = was in let y = is_now in cc)
+        go (home_acts h0 t a b size r p mine count near happens) = absurd (let u = was in let y = is_now in cc)
+        go (side_acts next ms z f a p here count s happens) = absurd (let u = was in let y = is_now in cc)
+        go (absent a b f g r p s) = absurd (let u = was in let y = is_now in cc)
+        go (made size a b c f g r p s) = (size, (let both : Some h ≡ Some (new_home n.nodes size) = sym is_now ∙ g in cc), here, a, b, r, p)
+
+    origin : (q : Name) (h : Home) → table_of q v ≡ Some h → (old : Option Home) → table_of q w ≡ old → ((g : Home) × (table_of q w ≡ Some g)) ⊎ (New q h × (table_of q w ≡ None))
+    origin q h there (Some g) f = inl (g, f)
+    origin q h there None f = elim (same_or q.home i) [
+      | inl here ↦ inr (made_new q h f there here (x.acts q), f)
+      | inr other ↦ absurd (let same = stays_none q other in cc)
+    ]
+
+    is_home : (q : Name) (h g : Home) (there : table_of q v ≡ Some h) (f : table_of q w ≡ Some g) → (lifted q g f).home ≡ h
+    is_home q h g there f = let both : Some (lifted q g f).home ≡ Some h = sym (lifted q g f).there ∙ there in cc
+
+    near_now : (q : Name) (h : Home) → table_of q v ≡ Some h → Near q.home w.count h × (q.home < w.count)
+    near_now q h there = elim (origin q h there (table_of q w) refl) [
+      | inl old ↦ (let l = lifted q old.0 old.1 in let was = k.near q old.0 old.1 in (subst (λ y. Near q.home w.count y) (is_home q h old.0 there old.1) (l.near w.count x.few (x.near q) was.0), was.1))
+      | inr new ↦ (subst (λ y. Near q.home w.count y) (sym new.0.1) (near_new q.home w.count n.nodes new.0.0), subst (λ j. j < w.count) (sym new.0.2) x.few)
+    ]
+
+    new_region : (q : Name) (h : Home) (new : New q h) → table_of q w ≡ None → created n.nodes new.0 (λ j. new.0) ≡ sight q h v.nodes (flight v) (bytes_after (written q) (arrays q))
+    new_region q h new none =
+        let sides : (j : ℕ) → new_remote new.0 ≡ side h.size ((v.nodes j).remotes q) =
+        λ j. sym (ap (λ y. side h.size y) (of_node w.nodes i m (λ l y. y.remotes q ≡ None) (new.5 ∙ no_side w drafts arrays q i k none) (λ l other. no_side w drafts arrays q l k none) j) ∙ ap (λ (y : Home). new_remote y.size) new.1) in
+        let empty : [] ≡ picks (flying q) (flight v) =
+        sym (moves_nothing (moves q) (ap (λ l. picks (flying q) (boxes_from 0 w.count (at_node w.nodes i n)) ++ l) new.6 ∙ append_nil _
+        ∙ subst (λ c. Comes c (picks (flying q) (flight w)) (picks (flying q) (boxes_from 0 w.count (at_node w.nodes i n)))) new.3 (x.comes q) ∙ nothing_flies w drafts arrays q k none)) in
+        let bytes : replicate new.0 0 ≡ bytes_after (written q) (arrays q) = sym (ap (λ y. bytes_after y (arrays q)) new.4) in
+        λ t. record { home = sym new.1 t; remotes = λ j. sides j t; flight = empty t; array = bytes t }
+
+    coherent_now : (q : Name) (h : Home) → table_of q v ≡ Some h → IsCoherent q.home (sight q h v.nodes (flight v) (bytes_after (written q) (arrays q)))
+    coherent_now q h there = elim (origin q h there (table_of q w) refl) [
+      | inl old ↦ (let l = lifted q old.0 old.1 in
+          subst (λ y. IsCoherent q.home (sight q y v.nodes (flight v) (bytes_after (written q) (arrays q)))) (is_home q h old.0 there old.1) (runs_kept q.home _ _ l.run (k.coherent q old.0 old.1)))
+      | inr new ↦ subst (λ g. IsCoherent q.home g) (new_region q h new.0 new.1) (created_kept q.home n.nodes new.0.0 (λ j. new.0.0))
+    ]
