@@ -119,12 +119,6 @@ remote_called name step None n = ignored n
 remote_called name step (Some r) n = moved name (step r) n
 
 -- DeleteAsk: a node deletes the region.
-abbrev pub delete_told_of : Stage → DeleteTold
-delete_told_of stage.Unknown = delete_told.Unknown
-delete_told_of stage.Live = delete_told.Done
-delete_told_of (stage.Going deleter) = delete_told.Deleted
-delete_told_of stage.Gone = delete_told.Deleted
-
 abbrev pub delete_refused : ℕ → Name → Refusal → DeleteTold → Node → Outcome
 delete_refused from name why answer n = record {
   node = n;
