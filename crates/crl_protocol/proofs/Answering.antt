@@ -1,5 +1,5 @@
 -- Where entries are decided: those of a message.
-use Rattle.std.proofs.Common.{◌≡◌, ℕ, ◌==◌, Bool, None, Some, Option, List, [], ◌∷◌, refl, if◌then◌else◌}
+use Rattle.std.proofs.Common.{◌≡◌, ℕ, ◌==◌, ◌&&◌, Bool, None, Some, Option, List, [], ◌∷◌, refl, if◌then◌else◌}
 use Rattle.std.specs.List.{AllByRecursion}
 use Rattle.std.proofs.lemmas.Bool.{cond_both}
 use Rattle.crl_model.specs.declared.name.Name.{Name}
@@ -16,10 +16,12 @@ use Rattle.crl_model.specs.declared.message.Told.{Told}
 use Rattle.crl_model.specs.declared.message.Told.TheVariants as told
 use Rattle.crl_model.specs.declared.message.DeleteTold.{DeleteTold}
 use Rattle.crl_model.specs.declared.message.Granted.{Granted}
-use Rattle.crl_model.specs.declared.message.Message.{Message}
 use Rattle.crl_model.specs.declared.message.Kind.{Kind}
 use Rattle.crl_model.specs.declared.message.Kind.TheVariants as kind
 use Rattle.crl_model.specs.Names.{name_eq}
+use Rattle.crl_pieces.specs.Pieces.{is_missing, is_complete, joined}
+use Rattle.crl_protocol.specs.Parcels.{Piece, with_load, Key, key_of, slots_or, at_key, fits_size}
+use Rattle.crl_protocol.specs.Receiving.{size_for, slots_with, gathers_piece, receives, received_as}
 use Rattle.crl_protocol.specs.Places.{Taken, take_out}
 use Rattle.crl_protocol.specs.Home.{Home, Served, home_asked, home_returned, home_released, takes_return, takes_release}
 use Rattle.crl_protocol.specs.Remote.{Remote, Moved, remote_granted, remote_recalled, remote_yields, takes_grant, asks_to_write}
@@ -183,11 +185,43 @@ of_message from (kind.Result round f) n = result_message round f n.activity n
 of_message from (kind.Yield name version) n = no_entries _ _ (remote_message name (remote_yields version) (n.remotes name) n)
 of_message from (kind.Release name version bytes) n = release_starts from name version bytes (home_of n name) n
 
-of_taken : (i : ℕ) (e : Event) (t : Option (Taken Message)) (w : World) → AllByRecursion (IsOfTaken (w.nodes i).me t) (handled_at i e t w).entries
-of_taken i e None w = tt
-of_taken i e (Some t) w = of_message t.taken.sender t.taken.kind (record (w.nodes i) { inbox = t.rest })
+-- entries of a message are those of its pieces
+of_load : (me from : ℕ) (part : List ℕ) (k : Kind) (es : List Entry) → OfMessage me from (with_load part k) es → OfMessage me from k es
+of_load me from part (kind.Grant name version g) es h = h
+of_load me from part (kind.Return name version bytes) es h = h
+of_load me from part (kind.Release name version bytes) es h = h
+of_load me from part (kind.InfoAsk name) es h = h
+of_load me from part (kind.InfoIs name t) es h = h
+of_load me from part (kind.Ask name write have) es h = h
+of_load me from part (kind.Recall name version) es h = h
+of_load me from part (kind.Yield name version) es h = h
+of_load me from part (kind.DeleteAsk name) es h = h
+of_load me from part (kind.DeleteIs name t) es h = h
+of_load me from part (kind.Purge name) es h = h
+of_load me from part (kind.Purged name) es h = h
+of_load me from part (kind.Come round p) es h = h
+of_load me from part (kind.Result round f) es h = h
 
-carried_quietly : (i : ℕ) (e : Event) (t : Option (Taken Message)) (w : World) → (carried i e t w).entries ≡ []
+of_gathered : (key : Key) (p : Piece) (slots : List (Option (List ℕ))) (n : Node) → OfMessage n.me p.message.sender p.message.kind (gathers_piece key p slots n).entries
+of_gathered key p slots n =
+    cond_both (is_complete slots) _ _ (λ (o : Outcome). OfMessage n.me p.message.sender p.message.kind o.entries)
+    (λ w. of_load n.me p.message.sender (joined slots) p.message.kind _ (of_message p.message.sender (with_load (joined slots) p.message.kind) (record n { parcels = at_key n.parcels key None }))) (λ w. tt)
+
+of_received : (key : Key) (p : Piece) (size : Option ℕ) (n : Node) → OfMessage n.me p.message.sender p.message.kind (receives key p size n).entries
+of_received key p None n = tt
+of_received key p (Some size) n =
+    cond_both (fits_size size p && is_missing p.index (slots_or p.pieces (n.parcels key))) _ _ (λ (o : Outcome). OfMessage n.me p.message.sender p.message.kind o.entries)
+    (λ w. of_gathered key p (slots_with p (n.parcels key)) n) (λ w. tt)
+
+of_piece : (o : Option Key) (p : Piece) (n : Node) → OfMessage n.me p.message.sender p.message.kind (received_as o p n).entries
+of_piece None p n = of_message p.message.sender p.message.kind n
+of_piece (Some key) p n = of_received key p (size_for key.load key.name n) n
+
+of_taken : (i : ℕ) (e : Event) (t : Option (Taken Piece)) (w : World) → AllByRecursion (IsOfTaken (w.nodes i).me t) (handled_at i e t w).entries
+of_taken i e None w = tt
+of_taken i e (Some t) w = of_piece (key_of t.taken.message) t.taken (record (w.nodes i) { inbox = t.rest })
+
+carried_quietly : (i : ℕ) (e : Event) (t : Option (Taken Piece)) (w : World) → (carried i e t w).entries ≡ []
 carried_quietly i e None w = refl
 carried_quietly i e (Some t) w = refl
 

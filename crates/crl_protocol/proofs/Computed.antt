@@ -5,3 +5,4 @@ pub mod Deletes
 pub mod Refusals
 pub mod Rounds
 pub mod Upgrades
+pub mod Pieces

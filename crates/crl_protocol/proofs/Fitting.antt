@@ -15,6 +15,7 @@ use Rattle.crl_model.specs.declared.message.Message.{Message}
 use Rattle.crl_model.specs.declared.message.Kind.{Kind}
 use Rattle.crl_model.specs.declared.message.Kind.TheVariants as kind
 use Rattle.crl_model.specs.Names.{name_eq, at_name}
+use Rattle.crl_protocol.specs.Parcels.{Piece}
 use Rattle.crl_protocol.specs.Home.{Home}
 use Rattle.crl_protocol.specs.Remote.{Copy, Remote, is_closed}
 use Rattle.crl_protocol.specs.Leases.{Mapping, Kept}
@@ -204,14 +205,17 @@ Leaves m = IsAway m.sender m.addressee m.kind
 abbrev pub Comes : ℕ → Message → Type 0
 Comes me m = IsAway m.sender me m.kind
 
+abbrev pub ComesIn : ℕ → Piece → Type 0
+ComesIn me p = Comes me p.message
+
 -- all of it, of node i and the drafts of its actor
 pub record Fits (i : ℕ) (n : Node) (drafts : Name → List ℕ) : Type 0 where
   pub me : n.me ≡ i
   pub each : (q : Name) → Holds n.me q n.activity (seen n drafts q)
   pub cache : (q : Name) (size : ℕ) → IsCached q size n.cache → SizeIs (n.remotes q) size
   pub fresh : FreshFits n.activity n.cache
-  pub inbox : AllByRecursion (Comes n.me) n.inbox
-  pub outbox : AllByRecursion Leaves n.outbox
+  pub inbox : AllByRecursion (ComesIn n.me) n.inbox
+  pub outbox : AllByRecursion (λ (p : Piece). Leaves p.message) n.outbox
 
 -- The activity doesn't concern the name: nothing there waits for it.
 pub record Apart (q : Name) (a : Activity) : Type 0 where

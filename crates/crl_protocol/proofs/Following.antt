@@ -6,7 +6,7 @@ use Rattle.crl_model.specs.declared.choice.Choice.{Choice}
 use Rattle.crl_model.specs.declared.choice.Choice.TheVariants as choice
 use Rattle.crl_model.specs.declared.event.Event.{Event}
 use Rattle.crl_model.specs.declared.event.Event.TheVariants as event
-use Rattle.crl_model.specs.declared.message.Message.{Message}
+use Rattle.crl_protocol.specs.Parcels.{Piece}
 use Rattle.crl_model.specs.declared.statement.Statement.{Statement}
 use Rattle.crl_model.specs.Names.{at_node}
 use Rattle.crl_protocol.specs.Node.{Activity, Free, Waiting, Ready}
@@ -44,14 +44,14 @@ next_all r i (s ∷ left) Free e h = ((h, e), tt)
 next_all r i left (Waiting awaited) e h = tt
 next_all r i left (Ready answer) e h = (and_from _ _ (lt-ltb i r.world.count h) (ap is_ready e), tt)
 
-handles_all : (r : Running) (i place : ℕ) (ms : List Message) → i < r.world.count → place + length ms ≡ length (r.world.nodes i).inbox
+handles_all : (r : Running) (i place : ℕ) (ms : List Piece) → i < r.world.count → place + length ms ≡ length (r.world.nodes i).inbox
     → AllByRecursion (IsChoice r) (handles_of i place ms)
 unfolding is_enabled
 handles_all r i place [] h e = tt
 handles_all r i place (m ∷ ms) h e =
     (and_from _ _ (lt-ltb i r.world.count h) (lt-ltb place (length (r.world.nodes i).inbox) (omega arith)), handles_all r i (place + 1) ms h (omega arith))
 
-carries_all : (r : Running) (i place : ℕ) (ms : List Message) → i < r.world.count → place + length ms ≡ length (r.world.nodes i).outbox
+carries_all : (r : Running) (i place : ℕ) (ms : List Piece) → i < r.world.count → place + length ms ≡ length (r.world.nodes i).outbox
     → AllByRecursion (IsChoice r) (carries_of i place ms)
 unfolding is_enabled
 carries_all r i place [] h e = tt

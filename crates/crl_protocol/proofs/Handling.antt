@@ -58,7 +58,7 @@ queue_more me name h g a none one q = (one q.0, of_two q.1)
     of_two (inl w) = inl (none w)
     of_two (inr w) = inr w
 
-waits_own : (me : ℕ) (name : Name) (h : Home) (s : Served) (a : Activity) → s.opened ≡ true → HomeGoes me h s → QueueFits me name (Some h) a → a ≡ Waiting (ForSection name)
+pub waits_own : (me : ℕ) (name : Name) (h : Home) (s : Served) (a : Activity) → s.opened ≡ true → HomeGoes me h s → QueueFits me name (Some h) a → a ≡ Waiting (ForSection name)
 waits_own me name h s a o g q = of_two q.1
   where
     of_two : NoOwn me h.queue ⊎ (a ≡ Waiting (ForSection name)) → a ≡ Waiting (ForSection name)
@@ -125,7 +125,7 @@ asks_some (granted_as.Shared bytes) r o e w none = let k = (and_parts (asks_to_r
 asks_some (granted_as.Exclusive bytes) r o e w none = let k = (and_parts (asks_to_write r.asking) _ w).0 in let j = ap asks_to_write (e ∙ none) in cc
 asks_some granted_as.Upgrade r o e w none = let k = (and_parts (asks_to_write r.asking) _ w).0 in let j = ap asks_to_write (e ∙ none) in cc
 
-waits_granted : (name : Name) (g : Granted) (r : Remote) (a : Activity) → takes_grant g r ≡ true → AskingFits name (Some r) a → a ≡ Waiting (ForSection name)
+pub waits_granted : (name : Name) (g : Granted) (r : Remote) (a : Activity) → takes_grant g r ≡ true → AskingFits name (Some r) a → a ≡ Waiting (ForSection name)
 waits_granted name g r a w (inl none) = absurd (asks_some g r r.asking refl w none)
 waits_granted name g r a w (inr e) = e
 

@@ -1,13 +1,18 @@
 -- What holds of the nodes and actors of a run holds after each event.
-use Rattle.std.proofs.Common.{◌≡◌, ℕ, zero, suc, ◌==◌, Bool, true, false, None, Some, Option, List, [], ◌∷◌, if◌then◌else◌, refl, sym, ◌∙◌, subst}
+use Rattle.std.proofs.Common.{◌≡◌, ℕ, zero, suc, ◌+◌, ◌==◌, ◌&&◌, Bool, true, false, None, Some, Option, List, [], ◌∷◌, length, if◌then◌else◌, refl, sym, ◌∙◌, subst}
 use Rattle.std.specs.List.{All, AllByRecursion}
-use Rattle.std.proofs.lemmas.Bool.{eqb-true, and_parts}
+use Rattle.std.proofs.lemmas.Bool.{cond_both, eqb-true, and_parts}
 use Rattle.std.proofs.lemmas.List.Elements.{recursion_from_All}
 use Rattle.crl_model.specs.declared.name.Name.{Name}
 use Rattle.crl_model.specs.declared.region.Stage.TheVariants as stage
 use Rattle.crl_model.specs.declared.event.Event.{Event}
 use Rattle.crl_model.specs.declared.event.Event.TheVariants as event
 use Rattle.crl_model.specs.declared.message.Message.{Message}
+use Rattle.crl_model.specs.declared.message.Kind.{Kind}
+use Rattle.crl_model.specs.declared.message.Kind.TheVariants as kind
+use Rattle.crl_pieces.specs.Pieces.{count, cut, fresh, Cell, left_from, is_missing, is_complete, joined}
+use Rattle.crl_protocol.specs.Parcels.{Piece, load_of, with_load, piece_of, pieces_of, pieces_in, Key, key_of, Gathered, slots_or, at_key, fits_size}
+use Rattle.crl_protocol.specs.Receiving.{size_for, slots_with, gathers_piece, receives, received_as, received}
 use Rattle.crl_model.specs.declared.statement.Statement.{Statement}
 use Rattle.crl_model.specs.Names.{at_node}
 use Rattle.crl_protocol.specs.Places.{Taken, behind, take_out}
@@ -16,7 +21,6 @@ use Rattle.crl_protocol.specs.Leases.{no_lease}
 use Rattle.crl_protocol.specs.Node.{Node, new_node, Answer, Made, Mapped, Reading, Writing, Done, Came, Refused, Wait, Activity, Free, Waiting, Ready, Outcome}
 use Rattle.crl_protocol.specs.Calls.{called}
 use Rattle.crl_protocol.specs.World.{committed, stepped, collected, handled_at, put_in, carried, note, step, is_enabled, is_free}
-use Rattle.crl_protocol.specs.Handlers.{handled}
 use Rattle.crl_protocol.specs.Chosen.{Actor, Running, block_of, running, given, going_on, goes_on}
 use Rattle.crl_protocol.specs.Laws.{IsStatement, AreStatements, node_of}
 use Rattle.crl_protocol.proofs.Fitting.{begins, seen, OwnFits, Holds, Comes, Leaves, IsAway, Fits}
@@ -83,10 +87,58 @@ sound_start count capacity blocks h = record {
   left = λ i. all_blocks blocks i (inner blocks (recursion_from_All (λ block. All IsStatement block) blocks h));
 }
 
+-- The pieces of messages that leave.
+abbrev LeavesIn : Piece → Type 0
+LeavesIn p = Leaves p.message
+
+pub away_load : (from to : ℕ) (part : List ℕ) (k : Kind) → IsAway from to k ≡ IsAway from to (with_load part k)
+away_load from to part (kind.Grant name version g) = refl
+away_load from to part (kind.Return name version bytes) = refl
+away_load from to part (kind.Release name version bytes) = refl
+away_load from to part (kind.InfoAsk name) = refl
+away_load from to part (kind.InfoIs name t) = refl
+away_load from to part (kind.Ask name write have) = refl
+away_load from to part (kind.Recall name version) = refl
+away_load from to part (kind.Yield name version) = refl
+away_load from to part (kind.DeleteAsk name) = refl
+away_load from to part (kind.DeleteIs name t) = refl
+away_load from to part (kind.Purge name) = refl
+away_load from to part (kind.Purged name) = refl
+away_load from to part (kind.Come round p) = refl
+away_load from to part (kind.Result round f) = refl
+
+left_leave : (m : Message) (n k : ℕ) (cells : List Cell) → Leaves m → AllByRecursion LeavesIn (left_from (piece_of m n) k cells)
+left_leave m n k [] h = tt
+left_leave m n k (c ∷ cells) h =
+    let rest = left_leave m n (k + 1) cells h in
+    cond_both c.came _ _ (AllByRecursion LeavesIn) (λ w. rest) (λ w. (subst (λ (x : Type 0). x) (away_load m.sender m.addressee c.part m.kind) h, rest))
+
+pieces_leave : (ms : List Message) → AllByRecursion Leaves ms → AllByRecursion LeavesIn (pieces_in ms)
+pieces_leave [] h = tt
+pieces_leave (m ∷ ms) h = all_append LeavesIn (pieces_of m) (pieces_in ms) (left_leave m (count (length (load_of m.kind))) 0 (fresh (cut (load_of m.kind))) h.0) (pieces_leave ms h.1)
+
+-- A piece comes.
+fits_parcels : (i : ℕ) (d : Name → List ℕ) (n : Node) (parcels : Gathered) → Fits i n d → Fits i (record n { parcels = parcels }) d
+fits_parcels i d n parcels f = record { me = f.me; each = f.each; cache = f.cache; fresh = f.fresh; inbox = f.inbox; outbox = f.outbox }
+
+good_piece : (i : ℕ) (d : Name → List ℕ) (n : Node) (o : Option Key) (p : Piece) → Comes n.me p.message → Fits i n d → Good i d (received_as o p n)
+good_piece i d n None p h f = good_message i d n p.message.sender p.message.kind h f
+good_piece i d n (Some key) p h f = go (size_for key.load key.name n)
+  where
+    gathers : (slots : List (Option (List ℕ))) → Good i d (gathers_piece key p slots n)
+    gathers slots =
+        cond_both (is_complete slots) _ _ (λ (x : Outcome). Good i d x)
+        (λ w. good_message i d (record n { parcels = at_key n.parcels key None }) p.message.sender (with_load (joined slots) p.message.kind) (subst (λ (x : Type 0). x) (away_load p.message.sender n.me (joined slots) p.message.kind) h)
+        (fits_parcels i d n (at_key n.parcels key None) f)) (λ w. good_only i d (record n { parcels = at_key n.parcels key (Some slots) }) (fits_parcels i d n (at_key n.parcels key (Some slots)) f))
+
+    go : (size : Option ℕ) → Good i d (receives key p size n)
+    go None = good_only i d n f
+    go (Some size) = cond_both (fits_size size p && is_missing p.index (slots_or p.pieces (n.parcels key))) _ _ (λ (x : Outcome). Good i d x) (λ w. gathers (slots_with p (n.parcels key))) (λ w. good_only i d n f)
+
 -- An outcome is committed, and its answer given.
 fits_committed : (i position : ℕ) (d : Name → List ℕ) (e : Event) (o : Outcome) → Good i d o → Fits i (committed position e o) (begins o.answer d)
 fits_committed i position d e o g =
-    let f = g.node in record { me = f.me; each = f.each; cache = f.cache; fresh = f.fresh; inbox = f.inbox; outbox = all_append Leaves o.node.outbox o.posts f.outbox g.posts }
+    let f = g.node in record { me = f.me; each = f.each; cache = f.cache; fresh = f.fresh; inbox = f.inbox; outbox = all_append LeavesIn o.node.outbox (pieces_in o.posts) f.outbox (pieces_leave o.posts g.posts) }
 
 given_drafts : (answer : Answer) (a : Actor) → (given answer a).drafts ≡ begins answer a.drafts
 given_drafts (Made name) a = refl
@@ -135,7 +187,7 @@ all_taken P zero (x ∷ xs) t e h =
     let same : record { taken = x; rest = xs } ≡ t = cc in subst (λ (v : Taken _). P v.taken × AllByRecursion P v.rest) same h
 all_taken P (suc place) (x ∷ xs) t e h = all_behind P x (take_out place xs) t e h.0 (λ u w. all_taken P place xs u w h.1)
 
-sound_handled : (r : Running) (i place : ℕ) (e f : Event) (o : Option (Taken Message)) → take_out place (r.world.nodes i).inbox ≡ o → Sound r
+sound_handled : (r : Running) (i place : ℕ) (e f : Event) (o : Option (Taken Piece)) → take_out place (r.world.nodes i).inbox ≡ o → Sound r
     → Sound (going_on i f (handled_at i e o r.world) r)
 sound_handled r i place e f None w s = record {
   fits = by_node i (λ b j. Fits j (r.world.nodes j) (if b then r.actors i else r.actors j).drafts) (s.fits i) s.fits;
@@ -144,10 +196,10 @@ sound_handled r i place e f None w s = record {
 sound_handled r i place e f (Some t) w s =
     let n = r.world.nodes i in
     let fits = s.fits i in
-    let parts = all_taken (Comes n.me) place n.inbox t w fits.inbox in
+    let parts = all_taken (λ (p : Piece). Comes n.me p.message) place n.inbox t w fits.inbox in
     let taken : Node = record n { inbox = t.rest } in
     let g : Fits i taken (r.actors i).drafts = record { me = fits.me; each = fits.each; cache = fits.cache; fresh = fits.fresh; inbox = parts.1; outbox = fits.outbox } in
-    sound_stepped r i e f (handled t.taken.sender t.taken.kind taken) (good_message i (r.actors i).drafts taken t.taken.sender t.taken.kind parts.0 g) s
+    sound_stepped r i e f (received t.taken taken) (good_piece i (r.actors i).drafts taken (key_of t.taken.message) t.taken parts.0 g) s
 
 good_collected : (i : ℕ) (d : Name → List ℕ) (n : Node) (a : Activity) → n.activity ≡ a → Fits i n d → Good i d (collected a n)
 good_collected i d n Free e f = good_only i d n f
@@ -157,14 +209,14 @@ good_collected i d n (Ready answer) e f = record {
   posts = tt;
 }
 
-sound_carried : (r : Running) (i place : ℕ) (e f : Event) (o : Option (Taken Message)) → take_out place (r.world.nodes i).outbox ≡ o → Sound r
+sound_carried : (r : Running) (i place : ℕ) (e f : Event) (o : Option (Taken Piece)) → take_out place (r.world.nodes i).outbox ≡ o → Sound r
     → Sound (going_on i f (carried i e o r.world) r)
 sound_carried r i place e f None w s = record {
   fits = by_node i (λ b j. Fits j (r.world.nodes j) (if b then r.actors i else r.actors j).drafts) (s.fits i) s.fits;
   left = left_given r i Done s;
 }
 sound_carried r i place e f (Some t) w s = record {
-  fits = by_node i (λ b j. Fits j (at_node between t.taken.addressee (put_in t.taken (between t.taken.addressee)) j) (if b then r.actors i else r.actors j).drafts) (arrived i) arrived;
+  fits = by_node i (λ b j. Fits j (at_node between t.taken.message.addressee (put_in t.taken (between t.taken.message.addressee)) j) (if b then r.actors i else r.actors j).drafts) (arrived i) arrived;
   left = left_given r i Done s;
 }
   where
@@ -174,8 +226,8 @@ sound_carried r i place e f (Some t) w s = record {
     between : ℕ → Node
     between = at_node r.world.nodes i sender
 
-    parts : Leaves t.taken × AllByRecursion Leaves t.rest
-    parts = all_taken Leaves place (r.world.nodes i).outbox t w (s.fits i).outbox
+    parts : LeavesIn t.taken × AllByRecursion LeavesIn t.rest
+    parts = all_taken LeavesIn place (r.world.nodes i).outbox t w (s.fits i).outbox
 
     sent : Fits i sender (r.actors i).drafts
     sent = let fits = s.fits i in record { me = fits.me; each = fits.each; cache = fits.cache; fresh = fits.fresh; inbox = fits.inbox; outbox = parts.1 }
@@ -183,19 +235,19 @@ sound_carried r i place e f (Some t) w s = record {
     left_there : (j : ℕ) → Fits j (between j) (r.actors j).drafts
     left_there = by_node i (λ b j. Fits j (if b then sender else r.world.nodes j) (r.actors j).drafts) sent s.fits
 
-    put : (j : ℕ) (n : Node) → t.taken.addressee ≡ j → Fits j n (r.actors j).drafts → Fits j (put_in t.taken n) (r.actors j).drafts
+    put : (j : ℕ) (n : Node) → t.taken.message.addressee ≡ j → Fits j n (r.actors j).drafts → Fits j (put_in t.taken n) (r.actors j).drafts
     put j n to fits = record {
       me = fits.me;
       each = fits.each;
       cache = fits.cache;
       fresh = fits.fresh;
-      inbox = all_append (Comes n.me) n.inbox (t.taken ∷ []) fits.inbox (subst (λ x. IsAway t.taken.sender x t.taken.kind) (to ∙ sym fits.me) parts.0, tt);
+      inbox = all_append (λ (p : Piece). Comes n.me p.message) n.inbox (t.taken ∷ []) fits.inbox (subst (λ x. IsAway t.taken.message.sender x t.taken.message.kind) (to ∙ sym fits.me) parts.0, tt);
       outbox = fits.outbox;
     }
 
-    arrived : (j : ℕ) → Fits j (at_node between t.taken.addressee (put_in t.taken (between t.taken.addressee)) j) (r.actors j).drafts
-    arrived = by_node t.taken.addressee (λ b j. Fits j (if b then put_in t.taken (between t.taken.addressee) else between j) (r.actors j).drafts)
-        (put t.taken.addressee (between t.taken.addressee) refl (left_there t.taken.addressee)) left_there
+    arrived : (j : ℕ) → Fits j (at_node between t.taken.message.addressee (put_in t.taken (between t.taken.message.addressee)) j) (r.actors j).drafts
+    arrived = by_node t.taken.message.addressee (λ b j. Fits j (if b then put_in t.taken (between t.taken.message.addressee) else between j) (r.actors j).drafts)
+        (put t.taken.message.addressee (between t.taken.message.addressee) refl (left_there t.taken.message.addressee)) left_there
 
 is_freed : (a : Activity) → is_free a ≡ true → a ≡ Free
 is_freed Free e = refl

@@ -5,7 +5,7 @@ use Rattle.crl_model.specs.declared.choice.Choice.{Choice}
 use Rattle.crl_model.specs.declared.choice.Choice.TheVariants as choice
 use Rattle.crl_model.specs.declared.event.Event.{Event}
 use Rattle.crl_model.specs.declared.event.Event.TheVariants as event
-use Rattle.crl_model.specs.declared.message.Message.{Message}
+use Rattle.crl_protocol.specs.Parcels.{Piece}
 use Rattle.crl_model.specs.declared.statement.Statement.{Statement}
 use Rattle.crl_protocol.specs.Node.{Activity, Free, Waiting, Ready}
 use Rattle.crl_protocol.specs.World.{is_enabled, is_ready}
@@ -35,13 +35,13 @@ among_carries r i c h a =
     (subst (λ cs. At c cs) (sym (carries_gather r 0 r.world.count))
     (at_gathered c _ 0 r.world.count i h (subst (λ j. At c (carries_of j 0 (r.world.nodes j).outbox)) (omega arith) a))))
 
-at_handle : (i place m : ℕ) (ms : List Message) → m < length ms → At (choice.Handle i (place + m)) (handles_of i place ms)
+at_handle : (i place m : ℕ) (ms : List Piece) → m < length ms → At (choice.Handle i (place + m)) (handles_of i place ms)
 at_handle i place m [] h = absurd (omega arith)
 at_handle i place zero (x ∷ ms) h = subst (λ p. At (choice.Handle i p) (choice.Handle i place ∷ handles_of i (place + 1) ms)) (omega arith) (at_head _ _)
 at_handle i place (suc m) (x ∷ ms) h =
     subst (λ p. At (choice.Handle i p) (choice.Handle i place ∷ handles_of i (place + 1) ms)) (omega arith) (at_tail _ _ _ (at_handle i (place + 1) m ms (omega arith)))
 
-at_carry : (i place m : ℕ) (ms : List Message) → m < length ms → At (choice.Carry i (place + m)) (carries_of i place ms)
+at_carry : (i place m : ℕ) (ms : List Piece) → m < length ms → At (choice.Carry i (place + m)) (carries_of i place ms)
 at_carry i place m [] h = absurd (omega arith)
 at_carry i place zero (x ∷ ms) h = subst (λ p. At (choice.Carry i p) (choice.Carry i place ∷ carries_of i (place + 1) ms)) (omega arith) (at_head _ _)
 at_carry i place (suc m) (x ∷ ms) h =

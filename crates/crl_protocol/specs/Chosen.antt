@@ -12,7 +12,7 @@ use Rattle.crl_model.specs.declared.choice.Choice.TheVariants as choice
 use Rattle.crl_model.specs.declared.entry.Entry.{Entry}
 use Rattle.crl_model.specs.declared.event.Event.{Event}
 use Rattle.crl_model.specs.declared.event.Event.TheVariants as event
-use Rattle.crl_model.specs.declared.message.Message.{Message}
+use Rattle.crl_protocol.specs.Parcels.{Piece}
 use Rattle.crl_model.specs.declared.statement.Statement.{Statement}
 use Rattle.crl_model.specs.declared.statement.Statement.TheVariants as statement
 use Rattle.crl_model.specs.Names.{at_node, at_name}
@@ -61,7 +61,7 @@ abbrev pub nexts_from : ℕ → ℕ → Running → List Choice
 nexts_from i zero r = []
 nexts_from i (suc k) r = next_of i (r.actors i).left (r.world.nodes i).activity ++ nexts_from (i + 1) k r
 
-abbrev pub handles_of : ℕ → ℕ → List Message → List Choice
+abbrev pub handles_of : ℕ → ℕ → List Piece → List Choice
 handles_of i place [] = []
 handles_of i place (m ∷ ms) = choice.Handle i place ∷ handles_of i (place + 1) ms
 
@@ -69,7 +69,7 @@ abbrev pub handles_from : ℕ → ℕ → Running → List Choice
 handles_from i zero r = []
 handles_from i (suc k) r = handles_of i 0 (r.world.nodes i).inbox ++ handles_from (i + 1) k r
 
-abbrev pub carries_of : ℕ → ℕ → List Message → List Choice
+abbrev pub carries_of : ℕ → ℕ → List Piece → List Choice
 carries_of i place [] = []
 carries_of i place (m ∷ ms) = choice.Carry i place ∷ carries_of i (place + 1) ms
 

@@ -4,7 +4,7 @@ unfoldable pub everything : Unit {0}
 unfolding
     Rattle.crl_protocol.specs.Sectioning.forgets Rattle.crl_protocol.specs.Sectioning.served Rattle.crl_protocol.specs.Sectioning.moved Rattle.crl_protocol.specs.Sectioning.left_home
     Rattle.crl_protocol.specs.Calls.call_taken Rattle.crl_protocol.specs.Chosen.takes Rattle.crl_protocol.specs.Gathering.gathers
-    Rattle.crl_protocol.specs.Handlers.handled Rattle.crl_protocol.specs.Home.home_asked
+    Rattle.crl_protocol.specs.Handlers.handled Rattle.crl_pieces.specs.Pieces.cut Rattle.crl_protocol.specs.Home.home_asked
     Rattle.crl_protocol.specs.Home.home_returned Rattle.crl_protocol.specs.Home.home_released
     Rattle.crl_protocol.specs.Home.home_starts Rattle.crl_protocol.specs.Home.home_ends_read
     Rattle.crl_protocol.specs.Home.home_ends_write Rattle.crl_protocol.specs.Leases.keeps

@@ -11,7 +11,7 @@ use Rattle.crl_protocol.specs.Home.{Home, is_empty}
 use Rattle.crl_protocol.specs.Remote.{Copy, Remote, is_closed}
 use Rattle.crl_protocol.specs.Sections.{section_at}
 use Rattle.crl_protocol.specs.Node.{Node, Activity, Free, Waiting, Ready, ForSection, ForMap, ForDelete, ForRound, home_of, lease_of}
-use Rattle.crl_protocol.specs.World.{World, flight, sent, is_free}
+use Rattle.crl_protocol.specs.World.{World, boxed, sent, is_free}
 use Rattle.crl_protocol.specs.Chosen.{Running}
 
 -- The bytes of a region where no message is under way: those of the exclusive copy, where there is one, else
@@ -104,7 +104,7 @@ is_finished i r = is_free (r.world.nodes i).activity && is_empty (r.actors i).le
 
 abbrev pub IsTrulyStuck : Running → Type 0
 IsTrulyStuck r =
-    (flight r.world ≡ []) × ((i : ℕ) → is_finished i r ≡ false → nat_lt i r.world.count ≡ true → (b : Blocked) × (blocked_at i r.world ≡ Some b))
+    (boxed r.world ≡ []) × ((i : ℕ) → is_finished i r ≡ false → nat_lt i r.world.count ≡ true → (b : Blocked) × (blocked_at i r.world ≡ Some b))
 
 -- What is printed of a run: its account, the regions or else what blocks each unfinished node, and the
 -- numbers of events and messages.

@@ -12,11 +12,11 @@ use Rattle.crl_model.specs.declared.entry.What.{What}
 use Rattle.crl_model.specs.declared.entry.What.TheVariants as what
 use Rattle.crl_model.specs.declared.event.Event.{Event}
 use Rattle.crl_model.specs.declared.event.Event.TheVariants as event
-use Rattle.crl_model.specs.declared.message.Message.{Message}
 use Rattle.crl_model.specs.declared.message.Kind.{Kind}
 use Rattle.crl_model.specs.declared.message.Kind.TheVariants as kind
 use Rattle.crl_model.specs.declared.statement.Statement.{Statement}
 use Rattle.crl_model.specs.declared.statement.Statement.TheVariants as statement
+use Rattle.crl_protocol.specs.Parcels.{Piece}
 use Rattle.crl_protocol.specs.Places.{Taken, take_out}
 use Rattle.crl_protocol.specs.Node.{Free}
 use Rattle.crl_protocol.specs.Verdict.{verdict, word_of}
@@ -24,9 +24,9 @@ use Rattle.crl_protocol.specs.World.{World, is_enabled}
 use Rattle.crl_protocol.specs.Chosen.{Running, goes_on, with_actor, changed, is_change, is_allowed, call_of}
 
 -- An event touches its node; a carriage touches the sender and the addressee.
-abbrev pub goes_to : ℕ → Option (Taken Message) → Bool
+abbrev pub goes_to : ℕ → Option (Taken Piece) → Bool
 goes_to m None = false
-goes_to m (Some t) = t.taken.addressee == m
+goes_to m (Some t) = t.taken.message.addressee == m
 
 abbrev pub touches : Event → World → ℕ → Bool
 touches (event.Call i c) w m = i == m
@@ -77,9 +77,9 @@ IsOfMessage me from (kind.Come round part) e = (e.node ≡ me) × IsResult e.wha
 IsOfMessage me from (kind.Result round fold) e = (e.node ≡ me) × IsResult e.what
 IsOfMessage me from _ e = ⊥
 
-abbrev pub IsOfTaken : ℕ → Option (Taken Message) → Entry → Type 0
+abbrev pub IsOfTaken : ℕ → Option (Taken Piece) → Entry → Type 0
 IsOfTaken me None e = ⊥
-IsOfTaken me (Some t) e = IsOfMessage me t.taken.sender t.taken.kind e
+IsOfTaken me (Some t) e = IsOfMessage me t.taken.message.sender t.taken.message.kind e
 
 abbrev pub IsDecided : Event → World → Entry → Type 0
 IsDecided (event.Call i c) w e = (e.node ≡ (w.nodes i).me) × IsOfCall c e.what

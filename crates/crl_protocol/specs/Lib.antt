@@ -9,7 +9,9 @@ pub mod Laws
 pub mod Leases
 pub mod Mail
 pub mod Node
+pub mod Parcels
 pub mod Places
+pub mod Receiving
 pub mod Remote
 pub mod Sectioning
 pub mod Sections

@@ -13,6 +13,7 @@ use Rattle.crl_model.specs.declared.entry.Entry.{Entry}
 use Rattle.crl_model.specs.declared.entry.What.{What}
 use Rattle.crl_model.specs.declared.entry.What.TheVariants as what
 use Rattle.crl_model.specs.Names.{at_node, at_name}
+use Rattle.crl_protocol.specs.Parcels.{Piece, Gathered}
 use Rattle.crl_protocol.specs.Places.{at, put}
 use Rattle.crl_protocol.specs.Mail.{Mail, Letter, about}
 use Rattle.crl_protocol.specs.Home.{Home}
@@ -72,8 +73,10 @@ pub record Node : Type 0 where
   pub gathering : Gathering
   pub rounds : ℕ
   pub activity : Activity
-  pub inbox : List Message
-  pub outbox : List Message
+  pub inbox : List Piece
+  pub outbox : List Piece
+  -- the pieces that came of messages of which some are missing
+  pub parcels : Gathered
   -- what it has recorded, its events, a message carried out of its outbox among them, and the number of
   -- messages that it sent
   pub records : List Recorded
@@ -96,6 +99,7 @@ new_node nodes capacity me = record {
   activity = Free;
   inbox = [];
   outbox = [];
+  parcels = λ key. None;
   records = [];
   notes = [];
   posted = 0;

@@ -8,14 +8,14 @@ use Rattle.crl_model.specs.declared.call.Refusal.{Refusal}
 use Rattle.crl_model.specs.declared.entry.Entry.{Entry}
 use Rattle.crl_model.specs.declared.event.Event.{Event}
 use Rattle.crl_model.specs.declared.event.Event.TheVariants as event
-use Rattle.crl_model.specs.declared.message.Message.{Message}
 use Rattle.crl_model.specs.Names.{at_node}
+use Rattle.crl_protocol.specs.Parcels.{Piece, pieces_in}
 use Rattle.crl_protocol.specs.Places.{Taken, take_out}
 use Rattle.crl_protocol.specs.Sections.{bytes_at}
 use Rattle.crl_protocol.specs.Node.{Node, new_node, Recorded, Answer, Done, Activity, Free, Waiting, Ready, Outcome, only}
 use Rattle.crl_protocol.specs.Verdict.{verdict}
 use Rattle.crl_protocol.specs.Calls.{called}
-use Rattle.crl_protocol.specs.Handlers.{handled}
+use Rattle.crl_protocol.specs.Receiving.{received}
 
 -- the nodes, and how many events there were
 pub record World : Type 0 where
@@ -54,9 +54,9 @@ recorded position entries = map (λ e. record { position = position; entry = e }
 
 abbrev pub committed : ℕ → Event → Outcome → Node
 committed position e o = note position e (record o.node {
-  outbox = o.node.outbox ++ o.posts;
+  outbox = o.node.outbox ++ pieces_in o.posts;
   records = o.node.records ++ recorded position o.entries;
-  posted = o.node.posted + length o.posts;
+  posted = o.node.posted + length (pieces_in o.posts);
 })
 
 abbrev pub stepped : ℕ → Event → Outcome → World → Stepped
@@ -77,18 +77,18 @@ collected Free n = only n Done
 collected (Waiting awaited) n = only n Done
 
 -- A message of the inbox is handled.
-abbrev pub handled_at : ℕ → Event → Option (Taken Message) → World → Stepped
+abbrev pub handled_at : ℕ → Event → Option (Taken Piece) → World → Stepped
 handled_at i e None w = stays w
-handled_at i e (Some t) w = stepped i e (handled t.taken.sender t.taken.kind (record (w.nodes i) { inbox = t.rest })) w
+handled_at i e (Some t) w = stepped i e (received t.taken (record (w.nodes i) { inbox = t.rest })) w
 
 -- A message goes from its sender's outbox into its addressee's inbox. The sender notes it.
-abbrev pub put_in : Message → Node → Node
-put_in m n = record n { inbox = n.inbox ++ m ∷ [] }
+abbrev pub put_in : Piece → Node → Node
+put_in p n = record n { inbox = n.inbox ++ p ∷ [] }
 
-abbrev pub carried_to : Message → World → World
-carried_to m w = with_node m.addressee (put_in m (w.nodes m.addressee)) w
+abbrev pub carried_to : Piece → World → World
+carried_to p w = with_node p.message.addressee (put_in p (w.nodes p.message.addressee)) w
 
-abbrev pub carried : ℕ → Event → Option (Taken Message) → World → Stepped
+abbrev pub carried : ℕ → Event → Option (Taken Piece) → World → Stepped
 carried i e None w = stays w
 carried i e (Some t) w = record {
   world = record (carried_to t.taken (with_node i (note w.events e (record (w.nodes i) { outbox = t.rest })) w)) { events = w.events + 1 };
@@ -151,13 +151,13 @@ world_of count capacity run = world_after (new_world count capacity) run
 abbrev pub account : ℕ → ℕ → List Event → List Entry
 account count capacity run = account_from (new_world count capacity) run
 
--- The messages under way: those in the boxes of all nodes, by node, the inbox first.
-abbrev pub boxes_from : ℕ → ℕ → (ℕ → Node) → List Message
+-- The pieces in the boxes of all nodes, by node, the inbox first.
+abbrev pub boxes_from : ℕ → ℕ → (ℕ → Node) → List Piece
 boxes_from i zero nodes = []
 boxes_from i (suc k) nodes = ((nodes i).inbox ++ (nodes i).outbox) ++ boxes_from (i + 1) k nodes
 
-abbrev pub flight : World → List Message
-flight w = boxes_from 0 w.count w.nodes
+abbrev pub boxed : World → List Piece
+boxed w = boxes_from 0 w.count w.nodes
 
 -- how many messages were sent
 abbrev pub sent_from : ℕ → ℕ → (ℕ → Node) → ℕ

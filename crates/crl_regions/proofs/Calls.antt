@@ -35,7 +35,7 @@ use Rattle.crl_regions.proofs.Sections.{Local, free_asks, away, here_is, closed_
 use Rattle.crl_regions.proofs.Ends.{acts_end_read, acts_end_write, acts_flush, forgets_acts}
 
 -- A create.
-acts_create : (K : Name → ℕ → Type 0) (i size : ℕ) (n : Node) → n.me ≡ i → (q : Name) → let o = creates size n in Acts K q i None (left_if (name_eq (next_name n) q) None (replicate size 0)) n o.node o.posts
+pub acts_create : (K : Name → ℕ → Type 0) (i size : ℕ) (n : Node) → n.me ≡ i → (q : Name) → let o = creates size n in Acts K q i None (left_if (name_eq (next_name n) q) None (replicate size 0)) n o.node o.posts
 acts_create K i size n me =
     by_name (next_name n) (λ b q. let o = creates size n in Acts K q i None (left_if b None (replicate size 0)) n o.node o.posts)
     (made size refl refl (eq-eqb n.me i me) (home_next n) (home_end n (creates size n).node (new_home n.nodes size) refl refl (next_name n) ∙ cond-true (name_eq (next_name n) (next_name n)) _ _ (name_self (next_name n))) refl refl refl)
@@ -95,14 +95,14 @@ pub unmapped_closed : (i : ℕ) (d : Name → List ℕ) (n : Node) (name : Name)
 unmapped_closed i d n name e l = no_record (n.sections.records name) (subst (λ m. RecordFits (n.sections.records name) m) e (l.fits.each name).sections)
 
 -- what the cache gives up is what is put in, or was there
-abbrev FromCache : Kept → List Kept → Keeps → Type 0
+abbrev pub FromCache : Kept → List Kept → Keeps → Type 0
 FromCache new cache k = (name : Name) → k.evicted ≡ Some name → (new.name ≡ name) ⊎ ((size : ℕ) × IsCached name size cache)
 
 out_of : (new : Kept) (cache : List Kept) → FromCache new cache (push_out new cache)
 out_of new [] name e = inl (cc)
 out_of new (oldest ∷ cache) name e = let same : oldest.name ≡ name = cc in inr (oldest.size, inl (same, refl))
 
-evicted_from : (capacity : ℕ) (new : Kept) (cache : List Kept) → FromCache new cache (keeps capacity new cache)
+pub evicted_from : (capacity : ℕ) (new : Kept) (cache : List Kept) → FromCache new cache (keeps capacity new cache)
 unfolding keeps
 evicted_from capacity new cache =
     cond_both (capacity == 0) _ _ (FromCache new cache) (λ w name e. inl (cc))
@@ -185,7 +185,7 @@ left_refused : (b : Bool) (why : Refusal) (after : List ℕ) → left_if b (Some
 left_refused true why after = refl
 left_refused false why after = refl
 
-left_none : (q : Name) (n : Node) (why : Refusal) (c : Call) → left_in q n (Some why) c ≡ None
+pub left_none : (q : Name) (n : Node) (why : Refusal) (c : Call) → left_in q n (Some why) c ≡ None
 left_none q n why (call.Create size) = left_refused (name_eq (next_name n) q) why (replicate size 0)
 left_none q n why (call.Delete name) = refl
 left_none q n why (call.Map name) = refl

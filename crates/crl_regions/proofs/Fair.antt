@@ -92,7 +92,7 @@ letters_fair : (count : ℕ) (tables : Name → Option Home) (n : Node) (name : 
 letters_fair count tables n name [] e t h = tt
 letters_fair count tables n name (l ∷ posts) e t h = (letter_fair count tables n.me l.to name l.mail e t h.0.0 h.0.1.0 h.0.1.1, letters_fair count tables n name posts e t h.1)
 
-home_fair : (i count : ℕ) (tables : Name → Option Home) (n : Node) (name : Name) (h : Home) (s : Served) → home_of n name ≡ Some h → Sends i count n tables → NearServed n.me count s
+pub home_fair : (i count : ℕ) (tables : Name → Option Home) (n : Node) (name : Name) (h : Home) (s : Served) → home_of n name ≡ Some h → Sends i count n tables → NearServed n.me count s
     → AllFair count tables (letters n name s.posts)
 home_fair i count tables n name h s e f near =
     let t = f.home_there name h e in letters_fair count tables n name s.posts (eqb-true n.me name.home (home_is n name h e)) (t.0, t.1) near.posts
@@ -107,7 +107,7 @@ OfSide _ = ⊥
 abbrev AllSide : List Mail → Type 0
 AllSide posts = AllByRecursion OfSide posts
 
-abbrev Posts : Moved → Type 0
+abbrev pub Posts : Moved → Type 0
 Posts s = AllSide s.posts
 
 mail_fair : (count : ℕ) (tables : Name → Option Home) (me : ℕ) (name : Name) (m : Mail) → (me == name.home) ≡ false → me < count → HasTable (tables name) → OfSide m
@@ -119,16 +119,16 @@ mail_fair count tables me name (Grant version granted) e few t o = absurd o
 mail_fair count tables me name (Recall version) e few t o = absurd o
 mail_fair count tables me name (Yield version) e few t o = absurd o
 
-mails_fair : (count : ℕ) (tables : Name → Option Home) (n : Node) (name : Name) (posts : List Mail) → (n.me == name.home) ≡ false → n.me < count → HasTable (tables name) → AllSide posts
+pub mails_fair : (count : ℕ) (tables : Name → Option Home) (n : Node) (name : Name) (posts : List Mail) → (n.me == name.home) ≡ false → n.me < count → HasTable (tables name) → AllSide posts
     → AllFair count tables (mails n name posts)
 mails_fair count tables n name [] e few t h = tt
 mails_fair count tables n name (m ∷ posts) e few t h = (mail_fair count tables n.me name m e few t h.0, mails_fair count tables n name posts e few t h.1)
 
-side_fair : (i count : ℕ) (tables : Name → Option Home) (n : Node) (name : Name) (r : Remote) (s : Moved) → n.remotes name ≡ Some r → Sends i count n tables → Posts s → AllFair count tables (mails n name s.posts)
+pub side_fair : (i count : ℕ) (tables : Name → Option Home) (n : Node) (name : Name) (r : Remote) (s : Moved) → n.remotes name ≡ Some r → Sends i count n tables → Posts s → AllFair count tables (mails n name s.posts)
 side_fair i count tables n name r s e f p =
     let t = f.side_there name r e in mails_fair count tables n name s.posts (ap (λ k. k == name.home) f.me ∙ t.1) (subst (λ k. k < count) (sym f.me) f.few) t.0 p
 
-start_posts : (write : Bool) (copy : Option Copy) (r : Remote) → Posts (starts_over write copy r)
+pub start_posts : (write : Bool) (copy : Option Copy) (r : Remote) → Posts (starts_over write copy r)
 start_posts write None r = (tt, tt)
 start_posts false (Some copy) r = tt
 start_posts true (Some copy) r = cond_both copy.exclusive _ _ Posts (λ w. tt) (λ w. (tt, tt))
@@ -141,7 +141,7 @@ recall_in section.Closed copy r = (tt, tt)
 recall_in (section.Reading count) copy r = tt
 recall_in section.Writing copy r = tt
 
-recall_posts : (version : ℕ) (copy : Option Copy) (r : Remote) → Posts (recalled_over version copy r)
+pub recall_posts : (version : ℕ) (copy : Option Copy) (r : Remote) → Posts (recalled_over version copy r)
 recall_posts version None r = tt
 recall_posts version (Some copy) r = cond_both (version == copy.version) _ _ Posts (λ w. recall_in r.here copy r) (λ w. tt)
 
@@ -150,7 +150,7 @@ yield_in section.Closed copy r = (tt, tt)
 yield_in (section.Reading count) copy r = (tt, tt)
 yield_in section.Writing copy r = tt
 
-yield_posts : (version : ℕ) (copy : Option Copy) (r : Remote) → Posts (yields_over version copy r)
+pub yield_posts : (version : ℕ) (copy : Option Copy) (r : Remote) → Posts (yields_over version copy r)
 yield_posts version None r = tt
 yield_posts version (Some copy) r = cond_both ((version == copy.version) && copy.exclusive) _ _ Posts (λ w. yield_in r.here copy r) (λ w. tt)
 
@@ -162,12 +162,12 @@ lower_posts : (copy : Option Copy) (r : Remote) → Posts (lowers_over copy r)
 lower_posts None r = tt
 lower_posts (Some copy) r = (tt, tt)
 
-read_posts : (r : Remote) → Posts (remote_ends_read r)
+pub read_posts : (r : Remote) → Posts (remote_ends_read r)
 unfolding remote_ends_read
 read_posts r =
     let after : Remote = record r { here = one_less r.here } in cond_both (is_closed after.here && after.leaving) _ _ Posts (λ w. leave_posts after.copy after) (λ w. tt)
 
-write_posts : (bytes : List ℕ) (r : Remote) → Posts (remote_ends_write bytes r)
+pub write_posts : (bytes : List ℕ) (r : Remote) → Posts (remote_ends_write bytes r)
 unfolding remote_ends_write
 write_posts bytes r = cond_both r.leaving _ _ Posts (λ w. leave_posts _ _) (λ w. cond_both r.lowering _ _ Posts (λ v. lower_posts _ _) (λ v. tt))
 
@@ -175,19 +175,19 @@ flush_over : (copy : Option Copy) (r : Remote) → Posts (flushes_over copy r)
 flush_over None r = tt
 flush_over (Some copy) r = (tt, tt)
 
-flush_posts : (r : Remote) → Posts (remote_flushes r)
+pub flush_posts : (r : Remote) → Posts (remote_flushes r)
 unfolding remote_flushes
 flush_posts r = flush_over r.copy r
 
 -- Outcomes.
-abbrev Sent : ℕ → (Name → Option Home) → Outcome → Type 0
+abbrev pub Sent : ℕ → (Name → Option Home) → Outcome → Type 0
 Sent count tables o = AllFair count tables o.posts
 
-purges_fair : (count : ℕ) (tables : Name → Option Home) (n : Node) (name : Name) (ms : List ℕ) → AllFair count tables (map (λ m. message n m (kind.Purge name)) ms)
+pub purges_fair : (count : ℕ) (tables : Name → Option Home) (n : Node) (name : Name) (ms : List ℕ) → AllFair count tables (map (λ m. message n m (kind.Purge name)) ms)
 purges_fair count tables n name [] = tt
 purges_fair count tables n name (m ∷ ms) = (tt, purges_fair count tables n name ms)
 
-results_fair : (count : ℕ) (tables : Name → Option Home) (n : Node) (m k round : ℕ) (fold : Fold) → AllFair count tables (results_from n m k round fold)
+pub results_fair : (count : ℕ) (tables : Name → Option Home) (n : Node) (m k round : ℕ) (fold : Fold) → AllFair count tables (results_from n m k round fold)
 results_fair count tables n m zero round fold = tt
 results_fair count tables n m (suc k) round fold = (tt, results_fair count tables n (m + 1) k round fold)
 
@@ -321,7 +321,7 @@ unfolding moved
 fair_called i count tables n name step None e p f = tt
 fair_called i count tables n name step (Some r) e p f = side_fair i count tables n name r (step r) e f (p r)
 
-told_sized : (s : Stage) (o : Option Home) (t : Option Home) → LiveFits s o → ((h : Home) → o ≡ Some h → (k : Home) × (t ≡ Some k) × (k.size ≡ h.size)) → SizedTold (told_of s (size_of o)) t
+pub told_sized : (s : Stage) (o : Option Home) (t : Option Home) → LiveFits s o → ((h : Home) → o ≡ Some h → (k : Home) × (t ≡ Some k) × (k.size ≡ h.size)) → SizedTold (told_of s (size_of o)) t
 told_sized stage.Unknown o t l f = tt
 told_sized stage.Live None t l f = absurd l
 told_sized stage.Live (Some h) t l f = f h refl

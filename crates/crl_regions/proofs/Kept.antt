@@ -33,7 +33,7 @@ abbrev pub Housed : Node → Type 0
 Housed n = Houses n.me n.maps n.remotes n.cache
 
 abbrev pub Keeps : Node → Node → Type 0
-Keeps n m = (m.inbox ≡ n.inbox) × (m.outbox ≡ n.outbox) × (Housed n → Housed m)
+Keeps n m = (m.inbox ≡ n.inbox) × (m.outbox ≡ n.outbox) × (m.parcels ≡ n.parcels) × (Housed n → Housed m)
 
 keeps_if : (n : Node) (b : Bool) (x y : Outcome) → Keeps n x.node → Keeps n y.node → Keeps n (if b then x else y).node
 keeps_if n b x y f g = cond_both b x y (λ (o : Outcome). Keeps n o.node) (λ w. f) (λ w. g)
@@ -47,61 +47,61 @@ keeps_either n b x y f g = cond_both b x y (Keeps n) (λ w. f) (λ w. g)
 -- sections
 keeps_start : (n : Node) (write : Bool) (name : Name) (o : Option Home) → Keeps n (starts_home write name o n).node
 unfolding section_opens
-keeps_start n write name (Some h) = keeps_if n (home_starts n.me write h).opened _ _ (refl, refl, λ h. h) (refl, refl, λ h. h)
+keeps_start n write name (Some h) = keeps_if n (home_starts n.me write h).opened _ _ (refl, refl, refl, λ h. h) (refl, refl, refl, λ h. h)
 keeps_start n write name None = go (n.remotes name) refl
   where
     go : (o : Option Remote) → n.remotes name ≡ o → Keeps n (starts_remote write name o n).node
-    go None e = (refl, refl, λ h. h)
+    go None e = (refl, refl, refl, λ h. h)
     go (Some r) e =
         let s = remote_starts write r in
-        keeps_if n s.opened _ _ (refl, refl, λ h. houses_some name r s.remote n.me n.maps n.remotes n.cache e h) (refl, refl, λ h. houses_some name r s.remote n.me n.maps n.remotes n.cache e h)
+        keeps_if n s.opened _ _ (refl, refl, refl, λ h. houses_some name r s.remote n.me n.maps n.remotes n.cache e h) (refl, refl, refl, λ h. houses_some name r s.remote n.me n.maps n.remotes n.cache e h)
 
 keeps_ends : (n : Node) (name : Name) (ends_here : Home → Served) (ends : Remote → Moved) (o : Option Home) → Keeps n (ends_home name ends_here ends o (closes name n)).node
 unfolding left_home moved
-keeps_ends n name ends_here ends (Some h) = (refl, refl, λ h. h)
+keeps_ends n name ends_here ends (Some h) = (refl, refl, refl, λ h. h)
 keeps_ends n name ends_here ends None = go (n.remotes name) refl
   where
     go : (o : Option Remote) → n.remotes name ≡ o → Keeps n (ends_remote name ends o (closes name n)).node
-    go None e = (refl, refl, λ h. h)
-    go (Some r) e = (refl, refl, λ h. houses_some name r (ends r).remote n.me n.maps n.remotes n.cache e h)
+    go None e = (refl, refl, refl, λ h. h)
+    go (Some r) e = (refl, refl, refl, λ h. houses_some name r (ends r).remote n.me n.maps n.remotes n.cache e h)
 
 keeps_flush : (n : Node) (name : Name) (o : Option Remote) → n.remotes name ≡ o → Keeps n (flushes_remote name o n).node
 unfolding moved
-keeps_flush n name None e = (refl, refl, λ h. h)
-keeps_flush n name (Some r) e = (refl, refl, λ h. houses_some name r (remote_flushes r).remote n.me n.maps n.remotes n.cache e h)
+keeps_flush n name None e = (refl, refl, refl, λ h. h)
+keeps_flush n name (Some r) e = (refl, refl, refl, λ h. houses_some name r (remote_flushes r).remote n.me n.maps n.remotes n.cache e h)
 
-keeps_forgets : (n m : Node) (name : Name) → (m.inbox ≡ n.inbox) × (m.outbox ≡ n.outbox) × (Housed n → HousesBut name m.me m.maps m.remotes m.cache) → Keeps n (forgets name m).node
+keeps_forgets : (n m : Node) (name : Name) → (m.inbox ≡ n.inbox) × (m.outbox ≡ n.outbox) × (m.parcels ≡ n.parcels) × (Housed n → HousesBut name m.me m.maps m.remotes m.cache) → Keeps n (forgets name m).node
 unfolding forgets
 keeps_forgets n m name k = go (m.remotes name) refl
   where
     go : (o : Option Remote) → m.remotes name ≡ o → Keeps n (forgets_over name o m).node
-    go None e = (k.0, k.1, λ h. but_none name m.me m.maps m.remotes m.cache e (k.2 h))
-    go (Some r) e = (k.0, k.1, λ h. but_forgotten name m.me m.maps m.remotes m.cache (k.2 h))
+    go None e = (k.0, k.1, k.2, λ h. but_none name m.me m.maps m.remotes m.cache e (k.3 h))
+    go (Some r) e = (k.0, k.1, k.2, λ h. but_forgotten name m.me m.maps m.remotes m.cache (k.3 h))
 
 -- calls
 keeps_cached : (n : Node) (name : Name) (o : Option ℕ) → Keeps n (maps_cached name o n).node
-keeps_cached n name None = (refl, refl, λ h. h)
-keeps_cached n name (Some size) = (refl, refl, λ h. houses_cached name _ n.me n.maps n.remotes n.cache h)
+keeps_cached n name None = (refl, refl, refl, λ h. h)
+keeps_cached n name (Some size) = (refl, refl, refl, λ h. houses_cached name _ n.me n.maps n.remotes n.cache h)
 
 keeps_map : (n : Node) (name : Name) (o : Option Mapping) → n.maps name ≡ o → Keeps n (maps_over name o n).node
-keeps_map n name (Some m) e = (refl, refl, λ h. houses_more name m _ n.me n.maps n.remotes n.cache e h)
+keeps_map n name (Some m) e = (refl, refl, refl, λ h. houses_more name m _ n.me n.maps n.remotes n.cache e h)
 keeps_map n name None e =
-    keeps_when n (is_mine n name) _ _ (λ mine. (refl, refl, λ h. houses_own name _ n.me n.maps n.remotes n.cache mine h)) (λ w. keeps_cached n name (cached_size name n.cache))
+    keeps_when n (is_mine n name) _ _ (λ mine. (refl, refl, refl, λ h. houses_own name _ n.me n.maps n.remotes n.cache mine h)) (λ w. keeps_cached n name (cached_size name n.cache))
 
-keeps_evicts : (n m : Node) (o : Option Name) → (m.inbox ≡ n.inbox) × (m.outbox ≡ n.outbox) × (Housed n → LeftBut o m.me m.maps m.remotes m.cache)
+keeps_evicts : (n m : Node) (o : Option Name) → (m.inbox ≡ n.inbox) × (m.outbox ≡ n.outbox) × (m.parcels ≡ n.parcels) × (Housed n → LeftBut o m.me m.maps m.remotes m.cache)
     → Keeps n (forgets_evicted o m).node
 keeps_evicts n m None k = k
 keeps_evicts n m (Some name) k = keeps_forgets n m name k
 
 keeps_unmap : (n : Node) (name : Name) (o : Option Mapping) → n.maps name ≡ o → (is_mine n name ≡ true → n.remotes name ≡ None) → Keeps n (unmaps_over name o n).node
-keeps_unmap n name None e own = (refl, refl, λ h. h)
+keeps_unmap n name None e own = (refl, refl, refl, λ h. h)
 keeps_unmap n name (Some m) e own =
     keeps_if n (m.count == 1) _ _
-    (keeps_when n (is_mine n name) _ _ (λ mine. (refl, refl, λ h. but_none name n.me _ n.remotes n.cache (own mine) (but_unmapped name n.me n.maps n.remotes n.cache h)))
-    (λ away. keeps_if n m.doomed _ _ (keeps_forgets n _ name (refl, refl, λ h. but_unmapped name n.me n.maps n.remotes n.cache h))
+    (keeps_when n (is_mine n name) _ _ (λ mine. (refl, refl, refl, λ h. but_none name n.me _ n.remotes n.cache (own mine) (but_unmapped name n.me n.maps n.remotes n.cache h)))
+    (λ away. keeps_if n m.doomed _ _ (keeps_forgets n _ name (refl, refl, refl, λ h. but_unmapped name n.me n.maps n.remotes n.cache h))
     (keeps_evicts n _ (keeps n.capacity (record { name = name; size = m.size }) n.cache).evicted
-    (refl, refl, λ h. kept_left name m.size n.capacity n.me n.maps n.remotes n.cache away (λ z c. let w = h.cached name z c in cc) h))))
-    (refl, refl, λ h. houses_more name m _ n.me n.maps n.remotes n.cache e h)
+    (refl, refl, refl, λ h. kept_left name m.size n.capacity n.me n.maps n.remotes n.cache away (λ z c. let w = h.cached name z c in cc) h))))
+    (refl, refl, refl, λ h. houses_more name m _ n.me n.maps n.remotes n.cache e h)
 
 keeps_gathered : (n m : Node) (round : ℕ) (k : _) (o : Option Fold) → Keeps n m → Keeps n (gathered_own round k o m).node
 keeps_gathered n m round k None f = f
@@ -112,36 +112,36 @@ OwnNothing n = (name : Name) → is_mine n name ≡ true → n.remotes name ≡ 
 
 keeps_taken : (n : Node) (c : Call) → OwnNothing n → Keeps n (call_taken c n).node
 unfolding call_taken
-keeps_taken n (call.Create size) own = (refl, refl, λ h. h)
+keeps_taken n (call.Create size) own = (refl, refl, refl, λ h. h)
 keeps_taken n (call.Delete name) own =
-    keeps_if n (is_mine n name) _ _ (keeps_either n (is_gone (lease_begins n.nodes n.me (lease_of n name)).stage) _ _ (refl, refl, λ h. h) (refl, refl, λ h. h))
-    (refl, refl, λ h. h)
+    keeps_if n (is_mine n name) _ _ (keeps_either n (is_gone (lease_begins n.nodes n.me (lease_of n name)).stage) _ _ (refl, refl, refl, λ h. h) (refl, refl, refl, λ h. h))
+    (refl, refl, refl, λ h. h)
 keeps_taken n (call.Map name) own = keeps_map n name (n.maps name) refl
 keeps_taken n (call.Unmap name) own = keeps_unmap n name (n.maps name) refl (own name)
 keeps_taken n (call.StartRead name) own = keeps_start n false name (home_of n name)
 keeps_taken n (call.EndRead name) own = keeps_ends n name (home_ends_read n.me) remote_ends_read (home_of n name)
 keeps_taken n (call.StartWrite name) own = keeps_start n true name (home_of n name)
 keeps_taken n (call.EndWrite name after) own = keeps_ends n name (home_ends_write n.me after) (remote_ends_write after) (home_of n name)
-keeps_taken n (call.Put name offset len) own = (refl, refl, λ h. h)
-keeps_taken n (call.Add name offset) own = (refl, refl, λ h. h)
-keeps_taken n (call.Flush name) own = keeps_if n (is_mine n name) _ _ (refl, refl, λ h. h) (keeps_flush n name (n.remotes name) refl)
+keeps_taken n (call.Put name offset len) own = (refl, refl, refl, λ h. h)
+keeps_taken n (call.Add name offset) own = (refl, refl, refl, λ h. h)
+keeps_taken n (call.Flush name) own = keeps_if n (is_mine n name) _ _ (refl, refl, refl, λ h. h) (keeps_flush n name (n.remotes name) refl)
 keeps_taken n (call.Come part) own =
-    keeps_if n (n.me == 0) _ _ (keeps_gathered n _ (n.rounds + 1) (kind_of part) (gathers n.nodes 0 part n.gathering).fold (refl, refl, λ h. h)) (refl, refl, λ h. h)
+    keeps_if n (n.me == 0) _ _ (keeps_gathered n _ (n.rounds + 1) (kind_of part) (gathers n.nodes 0 part n.gathering).fold (refl, refl, refl, λ h. h)) (refl, refl, refl, λ h. h)
 
 keeps_refused : (n : Node) (why : Refusal) (c : Call) → Keeps n (call_refused why c n).node
 unfolding call_refused
-keeps_refused n why (call.Create size) = keeps_either n (used n == COUNT_LIMIT) _ _ (refl, refl, λ h. h) (refl, refl, λ h. h)
-keeps_refused n why (call.Delete name) = (refl, refl, λ h. h)
-keeps_refused n why (call.Map name) = (refl, refl, λ h. h)
-keeps_refused n why (call.Unmap name) = (refl, refl, λ h. h)
-keeps_refused n why (call.StartRead name) = (refl, refl, λ h. h)
-keeps_refused n why (call.EndRead name) = (refl, refl, λ h. h)
-keeps_refused n why (call.StartWrite name) = (refl, refl, λ h. h)
-keeps_refused n why (call.EndWrite name after) = (refl, refl, λ h. h)
-keeps_refused n why (call.Put name offset len) = (refl, refl, λ h. h)
-keeps_refused n why (call.Add name offset) = (refl, refl, λ h. h)
-keeps_refused n why (call.Flush name) = (refl, refl, λ h. h)
-keeps_refused n why (call.Come part) = (refl, refl, λ h. h)
+keeps_refused n why (call.Create size) = keeps_either n (used n == COUNT_LIMIT) _ _ (refl, refl, refl, λ h. h) (refl, refl, refl, λ h. h)
+keeps_refused n why (call.Delete name) = (refl, refl, refl, λ h. h)
+keeps_refused n why (call.Map name) = (refl, refl, refl, λ h. h)
+keeps_refused n why (call.Unmap name) = (refl, refl, refl, λ h. h)
+keeps_refused n why (call.StartRead name) = (refl, refl, refl, λ h. h)
+keeps_refused n why (call.EndRead name) = (refl, refl, refl, λ h. h)
+keeps_refused n why (call.StartWrite name) = (refl, refl, refl, λ h. h)
+keeps_refused n why (call.EndWrite name after) = (refl, refl, refl, λ h. h)
+keeps_refused n why (call.Put name offset len) = (refl, refl, refl, λ h. h)
+keeps_refused n why (call.Add name offset) = (refl, refl, refl, λ h. h)
+keeps_refused n why (call.Flush name) = (refl, refl, refl, λ h. h)
+keeps_refused n why (call.Come part) = (refl, refl, refl, λ h. h)
 
 keeps_as : (n : Node) (c : Call) (o : Option Refusal) → OwnNothing n → Keeps n (called_as o c n).node
 keeps_as n c None own = keeps_taken n c own
@@ -151,79 +151,79 @@ pub keeps_call : (n : Node) (c : Call) → OwnNothing n → Keeps n (called c n)
 keeps_call n c own = keeps_as n c (verdict n c) own
 
 pub keeps_collected : (n : Node) (a : Activity) → Keeps n (collected a n).node
-keeps_collected n Free = (refl, refl, λ h. h)
-keeps_collected n (Waiting awaited) = (refl, refl, λ h. h)
-keeps_collected n (Ready answer) = (refl, refl, λ h. h)
+keeps_collected n Free = (refl, refl, refl, λ h. h)
+keeps_collected n (Waiting awaited) = (refl, refl, refl, λ h. h)
+keeps_collected n (Ready answer) = (refl, refl, refl, λ h. h)
 
 -- messages
 keeps_served : (n : Node) (name : Name) (s : Served) → Keeps n (served name s n).node
 unfolding served section_opens
-keeps_served n name s = keeps_if n s.opened _ _ (refl, refl, λ h. h) (refl, refl, λ h. h)
+keeps_served n name s = keeps_if n s.opened _ _ (refl, refl, refl, λ h. h) (refl, refl, refl, λ h. h)
 
 keeps_asked : (n : Node) (from : ℕ) (name : Name) (write : Bool) (have : ℕ) (o : Option Home) → Keeps n (asked from name write have o n).node
-keeps_asked n from name write have None = (refl, refl, λ h. h)
-keeps_asked n from name write have (Some h) = keeps_if n (is_queued_in from n.homes) _ _ (refl, refl, λ h. h) (keeps_served n name _)
+keeps_asked n from name write have None = (refl, refl, refl, λ h. h)
+keeps_asked n from name write have (Some h) = keeps_if n (is_queued_in from n.homes) _ _ (refl, refl, refl, λ h. h) (keeps_served n name _)
 
 keeps_returned : (n : Node) (from : ℕ) (name : Name) (version : ℕ) (bytes : Option (List ℕ)) (o : Option Home) → Keeps n (returned from name version bytes o n).node
-keeps_returned n from name version bytes None = (refl, refl, λ h. h)
-keeps_returned n from name version bytes (Some h) = keeps_if n (takes_return from version bytes h) _ _ (keeps_served n name _) (refl, refl, λ h. h)
+keeps_returned n from name version bytes None = (refl, refl, refl, λ h. h)
+keeps_returned n from name version bytes (Some h) = keeps_if n (takes_return from version bytes h) _ _ (keeps_served n name _) (refl, refl, refl, λ h. h)
 
 keeps_released : (n : Node) (from : ℕ) (name : Name) (version : ℕ) (bytes : List ℕ) (o : Option Home) → Keeps n (released from name version bytes o n).node
-keeps_released n from name version bytes None = (refl, refl, λ h. h)
-keeps_released n from name version bytes (Some h) = keeps_if n (takes_release bytes h) _ _ (keeps_served n name _) (refl, refl, λ h. h)
+keeps_released n from name version bytes None = (refl, refl, refl, λ h. h)
+keeps_released n from name version bytes (Some h) = keeps_if n (takes_release bytes h) _ _ (keeps_served n name _) (refl, refl, refl, λ h. h)
 
 keeps_granted : (n : Node) (name : Name) (version : ℕ) (what : Granted) (o : Option Remote) → n.remotes name ≡ o → Keeps n (granted name version what o n).node
 unfolding section_opens
-keeps_granted n name version what None e = (refl, refl, λ h. h)
-keeps_granted n name version what (Some r) e = keeps_if n (takes_grant what r) _ _ (refl, refl, λ h. houses_some name r (remote_granted version what r) n.me n.maps n.remotes n.cache e h) (refl, refl, λ h. h)
+keeps_granted n name version what None e = (refl, refl, refl, λ h. h)
+keeps_granted n name version what (Some r) e = keeps_if n (takes_grant what r) _ _ (refl, refl, refl, λ h. houses_some name r (remote_granted version what r) n.me n.maps n.remotes n.cache e h) (refl, refl, refl, λ h. h)
 
 keeps_called : (n : Node) (name : Name) (step : Remote → Moved) (o : Option Remote) → n.remotes name ≡ o → Keeps n (remote_called name step o n).node
 unfolding moved
-keeps_called n name step None e = (refl, refl, λ h. h)
-keeps_called n name step (Some r) e = (refl, refl, λ h. houses_some name r (step r).remote n.me n.maps n.remotes n.cache e h)
+keeps_called n name step None e = (refl, refl, refl, λ h. h)
+keeps_called n name step (Some r) e = (refl, refl, refl, λ h. houses_some name r (step r).remote n.me n.maps n.remotes n.cache e h)
 
 keeps_told : (n : Node) (name : Name) (doomed : Bool) (t : Told) → ((size : ℕ) → IsCached name size n.cache → ⊥) → Keeps n (info_told name doomed t n)
-keeps_told n name doomed (told.Live size) fresh = (refl, refl, λ h. houses_new name _ _ n.me n.maps n.remotes n.cache fresh h)
-keeps_told n name doomed told.Unknown fresh = (refl, refl, λ h. h)
-keeps_told n name doomed told.Deleted fresh = (refl, refl, λ h. h)
+keeps_told n name doomed (told.Live size) fresh = (refl, refl, refl, λ h. houses_new name _ _ n.me n.maps n.remotes n.cache fresh h)
+keeps_told n name doomed told.Unknown fresh = (refl, refl, refl, λ h. h)
+keeps_told n name doomed told.Deleted fresh = (refl, refl, refl, λ h. h)
 
 keeps_info : (n : Node) (name : Name) (t : Told) (a : Activity) → FreshFits a n.cache → Keeps n (info_is name t a n).node
-keeps_info n name t Free fresh = (refl, refl, λ h. h)
-keeps_info n name t (Ready answer) fresh = (refl, refl, λ h. h)
-keeps_info n name t (Waiting (ForSection waited)) fresh = (refl, refl, λ h. h)
-keeps_info n name t (Waiting (ForDelete waited)) fresh = (refl, refl, λ h. h)
-keeps_info n name t (Waiting (ForRound round k)) fresh = (refl, refl, λ h. h)
+keeps_info n name t Free fresh = (refl, refl, refl, λ h. h)
+keeps_info n name t (Ready answer) fresh = (refl, refl, refl, λ h. h)
+keeps_info n name t (Waiting (ForSection waited)) fresh = (refl, refl, refl, λ h. h)
+keeps_info n name t (Waiting (ForDelete waited)) fresh = (refl, refl, refl, λ h. h)
+keeps_info n name t (Waiting (ForRound round k)) fresh = (refl, refl, refl, λ h. h)
 keeps_info n name t (Waiting (ForMap waited doomed)) fresh =
-    keeps_when n (name_eq waited name) _ _ (λ w. keeps_told n name doomed t (λ size c. fresh size (subst (λ p. IsCached p size n.cache) (sym (same_name waited name w)) c))) (λ w. (refl, refl, λ h. h))
+    keeps_when n (name_eq waited name) _ _ (λ w. keeps_told n name doomed t (λ size c. fresh size (subst (λ p. IsCached p size n.cache) (sym (same_name waited name w)) c))) (λ w. (refl, refl, refl, λ h. h))
 
 keeps_delete_asked : (n : Node) (from : ℕ) (name : Name) (s : Stage) → Keeps n (delete_asked from name s n).node
-keeps_delete_asked n from name stage.Unknown = (refl, refl, λ h. h)
-keeps_delete_asked n from name stage.Live = (refl, refl, λ h. h)
-keeps_delete_asked n from name (stage.Going deleter) = (refl, refl, λ h. h)
-keeps_delete_asked n from name stage.Gone = (refl, refl, λ h. h)
+keeps_delete_asked n from name stage.Unknown = (refl, refl, refl, λ h. h)
+keeps_delete_asked n from name stage.Live = (refl, refl, refl, λ h. h)
+keeps_delete_asked n from name (stage.Going deleter) = (refl, refl, refl, λ h. h)
+keeps_delete_asked n from name stage.Gone = (refl, refl, refl, λ h. h)
 
 keeps_delete_is : (n : Node) (name : Name) (t : _) (a : Activity) → Keeps n (delete_is name t a n).node
-keeps_delete_is n name t Free = (refl, refl, λ h. h)
-keeps_delete_is n name t (Ready answer) = (refl, refl, λ h. h)
-keeps_delete_is n name t (Waiting (ForSection waited)) = (refl, refl, λ h. h)
-keeps_delete_is n name t (Waiting (ForMap waited p)) = (refl, refl, λ h. h)
-keeps_delete_is n name t (Waiting (ForRound round k)) = (refl, refl, λ h. h)
-keeps_delete_is n name t (Waiting (ForDelete waited)) = keeps_if n (name_eq waited name) _ _ (refl, refl, λ h. h) (refl, refl, λ h. h)
+keeps_delete_is n name t Free = (refl, refl, refl, λ h. h)
+keeps_delete_is n name t (Ready answer) = (refl, refl, refl, λ h. h)
+keeps_delete_is n name t (Waiting (ForSection waited)) = (refl, refl, refl, λ h. h)
+keeps_delete_is n name t (Waiting (ForMap waited p)) = (refl, refl, refl, λ h. h)
+keeps_delete_is n name t (Waiting (ForRound round k)) = (refl, refl, refl, λ h. h)
+keeps_delete_is n name t (Waiting (ForDelete waited)) = keeps_if n (name_eq waited name) _ _ (refl, refl, refl, λ h. h) (refl, refl, refl, λ h. h)
 
 keeps_purged_over : (n : Node) (name : Name) (m : Option Mapping) → n.maps name ≡ m → Keeps n (purged_over name m n).node
-keeps_purged_over n name (Some m) e = (refl, refl, λ h. houses_more name m _ n.me n.maps n.remotes n.cache e h)
+keeps_purged_over n name (Some m) e = (refl, refl, refl, λ h. houses_more name m _ n.me n.maps n.remotes n.cache e h)
 keeps_purged_over n name None e = go (cached_size name n.cache)
   where
     go : (o : Option ℕ) → Keeps n (purged_cached name o n).node
-    go None = (refl, refl, λ h. h)
-    go (Some size) = keeps_forgets n _ name (refl, refl, λ h. but_dropped name n.me n.maps n.remotes n.cache h)
+    go None = (refl, refl, refl, λ h. h)
+    go (Some size) = keeps_forgets n _ name (refl, refl, refl, λ h. but_dropped name n.me n.maps n.remotes n.cache h)
 
 keeps_purged_by : (n : Node) (name : Name) (s : Stage) (lease : Lease) → Keeps n (purged_by name s lease n).node
-keeps_purged_by n name stage.Unknown lease = (refl, refl, λ h. h)
-keeps_purged_by n name stage.Live lease = (refl, refl, λ h. h)
-keeps_purged_by n name stage.Gone lease = (refl, refl, λ h. h)
+keeps_purged_by n name stage.Unknown lease = (refl, refl, refl, λ h. h)
+keeps_purged_by n name stage.Live lease = (refl, refl, refl, λ h. h)
+keeps_purged_by n name stage.Gone lease = (refl, refl, refl, λ h. h)
 keeps_purged_by n name (stage.Going deleter) lease =
-    keeps_if n (is_gone lease.stage) _ _ (keeps_either n (deleter == n.me) _ _ (refl, refl, λ h. h) (refl, refl, λ h. h)) (refl, refl, λ h. h)
+    keeps_if n (is_gone lease.stage) _ _ (keeps_either n (deleter == n.me) _ _ (refl, refl, refl, λ h. h) (refl, refl, refl, λ h. h)) (refl, refl, refl, λ h. h)
 
 keeps_own : (n m : Node) (fold : Fold) (a : Activity) → Keeps n m → Keeps n (own_result fold a m).node
 keeps_own n m fold Free k = k
@@ -238,16 +238,16 @@ keeps_gathered_from n m round None k = k
 keeps_gathered_from n m round (Some fold) k = keeps_own n m fold m.activity k
 
 keeps_result : (n : Node) (round : ℕ) (fold : Fold) (a : Activity) → Keeps n (result round fold a n).node
-keeps_result n round fold Free = (refl, refl, λ h. h)
-keeps_result n round fold (Ready answer) = (refl, refl, λ h. h)
-keeps_result n round fold (Waiting (ForSection waited)) = (refl, refl, λ h. h)
-keeps_result n round fold (Waiting (ForMap waited p)) = (refl, refl, λ h. h)
-keeps_result n round fold (Waiting (ForDelete waited)) = (refl, refl, λ h. h)
-keeps_result n round fold (Waiting (ForRound waited k)) = keeps_if n (waited == round) _ _ (refl, refl, λ h. h) (refl, refl, λ h. h)
+keeps_result n round fold Free = (refl, refl, refl, λ h. h)
+keeps_result n round fold (Ready answer) = (refl, refl, refl, λ h. h)
+keeps_result n round fold (Waiting (ForSection waited)) = (refl, refl, refl, λ h. h)
+keeps_result n round fold (Waiting (ForMap waited p)) = (refl, refl, refl, λ h. h)
+keeps_result n round fold (Waiting (ForDelete waited)) = (refl, refl, refl, λ h. h)
+keeps_result n round fold (Waiting (ForRound waited k)) = keeps_if n (waited == round) _ _ (refl, refl, refl, λ h. h) (refl, refl, refl, λ h. h)
 
 pub keeps_message : (n : Node) (from : ℕ) (k : Kind) → FreshFits n.activity n.cache → Keeps n (handled from k n).node
 unfolding handled
-keeps_message n from (kind.InfoAsk name) fresh = keeps_either n (is_mine n name) _ _ (refl, refl, λ h. h) (refl, refl, λ h. h)
+keeps_message n from (kind.InfoAsk name) fresh = keeps_either n (is_mine n name) _ _ (refl, refl, refl, λ h. h) (refl, refl, refl, λ h. h)
 keeps_message n from (kind.InfoIs name t) fresh = keeps_info n name t n.activity fresh
 keeps_message n from (kind.Ask name write have) fresh = keeps_asked n from name write have (home_of n name)
 keeps_message n from (kind.Grant name version what) fresh = keeps_granted n name version what (n.remotes name) refl
@@ -257,9 +257,9 @@ keeps_message n from (kind.DeleteAsk name) fresh = keeps_delete_asked n from nam
 keeps_message n from (kind.DeleteIs name t) fresh = keeps_delete_is n name t n.activity
 keeps_message n from (kind.Purge name) fresh = keeps_purged_over n name (n.maps name) refl
 keeps_message n from (kind.Purged name) fresh =
-    keeps_if n ((lease_of n name).missing from) _ _ (keeps_purged_by n name (lease_of n name).stage (lease_purged n.nodes from (lease_of n name))) (refl, refl, λ h. h)
+    keeps_if n ((lease_of n name).missing from) _ _ (keeps_purged_by n name (lease_of n name).stage (lease_purged n.nodes from (lease_of n name))) (refl, refl, refl, λ h. h)
 keeps_message n from (kind.Come round part) fresh =
-    keeps_if n (awaits from n.gathering) _ _ (keeps_gathered_from n _ n.gathering.round (gathers n.nodes from part n.gathering).fold (refl, refl, λ h. h)) (refl, refl, λ h. h)
+    keeps_if n (awaits from n.gathering) _ _ (keeps_gathered_from n _ n.gathering.round (gathers n.nodes from part n.gathering).fold (refl, refl, refl, λ h. h)) (refl, refl, refl, λ h. h)
 keeps_message n from (kind.Result round fold) fresh = keeps_result n round fold n.activity
 keeps_message n from (kind.Yield name version) fresh = keeps_called n name _ (n.remotes name) refl
 keeps_message n from (kind.Release name version bytes) fresh = keeps_released n from name version bytes (home_of n name)

@@ -13,7 +13,8 @@ use Rattle.crl_protocol.proofs.Growing.{append_nil}
 use Rattle.crl_coherence.specs.Region.{Flying, Region, Happens, elsewhere, Run, next}
 use Rattle.crl_coherence.proofs.Lists.{same_or}
 use Rattle.crl_regions.specs.View.{flying, side, sight}
-use Rattle.crl_regions.proofs.Moves.{Moves, run_moves}
+use Rattle.crl_flight.specs.Flight.{Moves}
+use Rattle.crl_regions.proofs.Moves.{run_moves}
 use Rattle.crl_regions.proofs.Near.{Near}
 use Rattle.crl_regions.proofs.Acts.{FromNear, Comes, Acts, nothing, home_acts, side_acts, absent, made, home_is}
 

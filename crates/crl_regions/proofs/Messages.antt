@@ -240,7 +240,7 @@ acts_granted K i d from n name version what goes l takes (Some r) e q =
     (λ w. absurd (cc))
 
 -- a node learns the size of a region that it maps
-acts_info_told : (K : Name → ℕ → Type 0) (i : ℕ) (d : Name → List ℕ) (n : Node) (name : Name) (doomed : Bool) (t : Told) → (i == name.home) ≡ false → n.remotes name ≡ None → Local i d n → KnownTold K name t
+pub acts_info_told : (K : Name → ℕ → Type 0) (i : ℕ) (d : Name → List ℕ) (n : Node) (name : Name) (doomed : Bool) (t : Told) → (i == name.home) ≡ false → n.remotes name ≡ None → Local i d n → KnownTold K name t
     → (q : Name) → Acts K q i None None n (info_told name doomed t n) []
 acts_info_told K i d n name doomed (told.Live size) other_home e l tells q =
     by_name name (λ b q. Acts K q i None None n (info_told name doomed (told.Live size) n) [])
@@ -308,7 +308,7 @@ acts_delete_is K i n name t (Waiting (ForDelete waited)) q = acts_if K q i None 
 acts_delete_is K i n name t (Waiting (ForRound round k)) q = nothing refl refl refl refl refl refl
 
 -- A purge. What isn't mapped has no section open, and nothing waits for one.
-left_unmapped : (i : ℕ) (d : Name → List ℕ) (n : Node) (name : Name) → n.maps name ≡ None → Local i d n → IsLeft i name n
+pub left_unmapped : (i : ℕ) (d : Name → List ℕ) (n : Node) (name : Name) → n.maps name ≡ None → Local i d n → IsLeft i name n
 left_unmapped i d n name e l r at_r =
     (away i d n name r at_r l.fits, here_is i d n name r at_r l ∙ unmapped_closed i d n name e l, either (asking_of i d n name r at_r l.fits), unmapped_closed i d n name e l)
   where

@@ -1,17 +1,13 @@
 -- Messages of a list that stand at other places, and the messages of all nodes where one node's change.
 use Rattle.std.proofs.Common.{◌≡◌, ℕ, zero, suc, ◌+◌, ◌<◌, None, Some, Option, List, [], ◌∷◌, ◌++◌, refl, ap, sym, ◌∙◌, subst, append_assoc, arith}
-use Rattle.crl_model.specs.declared.message.Message.{Message}
+use Rattle.crl_protocol.specs.Parcels.{Piece}
 use Rattle.crl_protocol.specs.Places.{picks, Took, here, there, Taken, behind, take_out}
 use Rattle.crl_protocol.specs.Node.{Node}
 use Rattle.crl_protocol.specs.World.{boxes_from}
 use Rattle.crl_protocol.proofs.Growing.{append_nil}
+use Rattle.crl_flight.specs.Flight.{Moves, still, moved}
 use Rattle.crl_coherence.specs.Region.{Flying, Region, carry, Run, done, next}
 use Rattle.crl_coherence.proofs.Lists.{took_some, took_none}
-
--- the same elements in another order, by taking one out and putting it in again
-pub data Moves {A : Type 0} : List A → List A → Type 0 where
-  still : {xs : List A} → Moves xs xs
-  moved : {xs ys zs : List A} (x : A) (rest : List A) → Took x xs rest → Took x ys rest → Moves ys zs → Moves xs zs
 
 pub moves_then : {A : Type 0} {xs ys zs : List A} → Moves xs ys → Moves ys zs → Moves xs zs
 moves_then still n = n
@@ -76,7 +72,7 @@ took_right [] t = t
 took_right (z ∷ zs) t = there (took_right zs t)
 
 -- The boxes of all nodes.
-abbrev pub boxes : Node → List Message
+abbrev pub boxes : Node → List Piece
 boxes n = n.inbox ++ n.outbox
 
 boxes_same : (i k : ℕ) (f g : ℕ → Node) → ((j : ℕ) → i + j < i + k → boxes (f (i + j)) ≡ boxes (g (i + j))) → boxes_from i k f ≡ boxes_from i k g
@@ -87,7 +83,7 @@ boxes_same i (suc k) f g h =
     ap (λ b. b ++ boxes_from (i + 1) k f) first ∙ ap (λ b. boxes (g i) ++ b) others
 
 -- what is said of the boxes of one node is said of all boxes, where the others stay
-pub boxes_took : (m : Message) (i k j : ℕ) (f g : ℕ → Node) → j < k → Took m (boxes (f (i + j))) (boxes (g (i + j))) → ((l : ℕ) → (l ≡ i + j → ⊥) → boxes (f l) ≡ boxes (g l))
+pub boxes_took : (m : Piece) (i k j : ℕ) (f g : ℕ → Node) → j < k → Took m (boxes (f (i + j))) (boxes (g (i + j))) → ((l : ℕ) → (l ≡ i + j → ⊥) → boxes (f l) ≡ boxes (g l))
     → Took m (boxes_from i k f) (boxes_from i k g)
 boxes_took m i zero j f g l t h = absurd (omega arith)
 boxes_took m i (suc k) zero f g l t h =
@@ -102,7 +98,7 @@ boxes_took m i (suc k) (suc j) f g l t h =
     subst (λ b. Took m (boxes (f i) ++ boxes_from (i + 1) k f) (b ++ boxes_from (i + 1) k g)) same (took_right (boxes (f i)) others)
 
 -- more messages behind those of one node
-pub boxes_more : (posts : List Message) (i k j : ℕ) (f g : ℕ → Node) → j < k → boxes (g (i + j)) ≡ boxes (f (i + j)) ++ posts → ((l : ℕ) → (l ≡ i + j → ⊥) → boxes (f l) ≡ boxes (g l))
+pub boxes_more : (posts : List Piece) (i k j : ℕ) (f g : ℕ → Node) → j < k → boxes (g (i + j)) ≡ boxes (f (i + j)) ++ posts → ((l : ℕ) → (l ≡ i + j → ⊥) → boxes (f l) ≡ boxes (g l))
     → Moves (boxes_from i k f ++ posts) (boxes_from i k g)
 boxes_more posts i zero j f g l t h = absurd (omega arith)
 boxes_more posts i (suc k) zero f g l t h =
@@ -121,12 +117,12 @@ boxes_more posts i (suc k) (suc j) f g l t h =
     (subst (λ b. Moves b (boxes_from i (suc k) g)) (sym (append_assoc (boxes (g i)) (boxes_from (i + 1) k f) posts)) (moves_behind (boxes (g i)) others))
 
 -- the same, of all nodes from the first
-pub flight_took : (m : Message) (count i : ℕ) (f g : ℕ → Node) → i < count → Took m (boxes (f i)) (boxes (g i)) → ((l : ℕ) → (l ≡ i → ⊥) → boxes (f l) ≡ boxes (g l)) → Took m (boxes_from 0 count f) (boxes_from 0 count g)
+pub flight_took : (m : Piece) (count i : ℕ) (f g : ℕ → Node) → i < count → Took m (boxes (f i)) (boxes (g i)) → ((l : ℕ) → (l ≡ i → ⊥) → boxes (f l) ≡ boxes (g l)) → Took m (boxes_from 0 count f) (boxes_from 0 count g)
 flight_took m count i f g l t h =
     let same : i ≡ 0 + i = omega arith in
     boxes_took m 0 count i f g l (subst (λ k. Took m (boxes (f k)) (boxes (g k))) same t) (λ k n. h k (λ e. n (e ∙ same)))
 
-pub flight_more : (posts : List Message) (count i : ℕ) (f g : ℕ → Node) → i < count → boxes (g i) ≡ boxes (f i) ++ posts → ((l : ℕ) → (l ≡ i → ⊥) → boxes (f l) ≡ boxes (g l)) → Moves (boxes_from 0 count f ++ posts) (boxes_from 0 count g)
+pub flight_more : (posts : List Piece) (count i : ℕ) (f g : ℕ → Node) → i < count → boxes (g i) ≡ boxes (f i) ++ posts → ((l : ℕ) → (l ≡ i → ⊥) → boxes (f l) ≡ boxes (g l)) → Moves (boxes_from 0 count f ++ posts) (boxes_from 0 count g)
 flight_more posts count i f g l t h =
     let same : i ≡ 0 + i = omega arith in
     boxes_more posts 0 count i f g l (subst (λ k. boxes (g k) ≡ boxes (f k) ++ posts) same t) (λ k n. h k (λ e. n (e ∙ same)))

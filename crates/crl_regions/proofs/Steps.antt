@@ -1,5 +1,5 @@
 -- What holds of all nodes holds after the outcome of one node.
-use Rattle.std.proofs.Common.{◌≡◌, ◌≢◌, ◌⊎◌, inl, inr, ℕ, zero, suc, ◌+◌, ◌<◌, ◌==◌, Bool, true, false, None, Some, Option, List, [], ◌∷◌, ◌++◌, replicate, refl, ap, sym, ◌∙◌, subst, append_assoc}
+use Rattle.std.proofs.Common.{◌≡◌, ◌≢◌, ◌⊎◌, inl, inr, ℕ, ◌<◌, ◌==◌, Bool, true, false, None, Some, Option, List, [], ◌∷◌, ◌++◌, map, replicate, refl, ap, sym, ◌∙◌, subst, append_assoc}
 use Rattle.std.specs.List.{AllByRecursion}
 use Rattle.std.proofs.lemmas.Bool.{eqb-true}
 use Rattle.crl_model.specs.declared.name.Name.{Name}
@@ -16,16 +16,21 @@ use Rattle.crl_protocol.specs.Home.{Home, new_home, bytes_after}
 use Rattle.crl_protocol.specs.Remote.{Remote, new_remote}
 use Rattle.crl_protocol.specs.Sections.{section_at}
 use Rattle.crl_protocol.specs.Node.{Node, Outcome, is_mine, home_of}
-use Rattle.crl_protocol.specs.World.{World, boxes_from, flight, committed, stepped}
+use Rattle.crl_protocol.specs.World.{World, boxes_from, boxed, committed, stepped}
 use Rattle.crl_protocol.proofs.Fitting.{same_name, Seen, seen, LiveFits, OwnFits, SizeIs, Fits}
 use Rattle.crl_protocol.proofs.Growing.{append_nil}
 use Rattle.crl_protocol.proofs.Placing.{all_append}
+use Rattle.crl_protocol.specs.Parcels.{Piece, Key, Gathered, pieces_in}
+use Rattle.crl_flight.specs.Flight.{Under, posted, IsFlight, messages_of}
+use Rattle.crl_flight.proofs.Orders.{moves_then, moves_before}
+use Rattle.crl_flight.proofs.Flying.{posts_fly, messages_posted, flight_as}
 use Rattle.crl_coherence.specs.Region.{Flying}
 use Rattle.crl_coherence.specs.Coherent.{IsCoherent, created}
 use Rattle.crl_coherence.proofs.Lists.{picks-append, same_or, took_nothing, picked_none}
 use Rattle.crl_coherence.proofs.Events.{runs_kept, created_kept}
 use Rattle.crl_regions.specs.View.{if_about, mail_in, other_end, flown, flying, side, sight, table_of}
-use Rattle.crl_regions.proofs.Moves.{Moves, still, moved, moves_picked, boxes, flight_more}
+use Rattle.crl_flight.specs.Flight.{Moves, still, moved}
+use Rattle.crl_regions.proofs.Moves.{moves_past, boxes, flight_more}
 use Rattle.crl_regions.proofs.Near.{Near, near_new}
 use Rattle.crl_regions.proofs.Acts.{expected, CountFits, FromNear, Comes, Acts, nothing, home_acts, side_acts, absent, made}
 use Rattle.crl_regions.proofs.Sections.{away}
@@ -67,11 +72,6 @@ pub all_grown : (count : ℕ) (before after : Name → Option Home) (ms : List M
 all_grown count before after [] g f = tt
 all_grown count before after (m ∷ ms) g f = (fair_grown count before after m.sender m.addressee m.kind g f.0, all_grown count before after ms g f.1)
 
-pub inbox_grown : (count i : ℕ) (before after : Name → Option Home) (ms : List Message) → Grows before after → AllByRecursion (λ (m : Message). Fair count before m × (m.addressee ≡ i)) ms
-    → AllByRecursion (λ (m : Message). Fair count after m × (m.addressee ≡ i)) ms
-inbox_grown count i before after [] g f = tt
-inbox_grown count i before after (m ∷ ms) g f = ((fair_grown count before after m.sender m.addressee m.kind g f.0.0, f.0.1), inbox_grown count i before after ms g f.1)
-
 -- Of a region that isn't there no mail is under way.
 quiet_if : (tables : Name → Option Home) (name q : Name) (mail : Mail) → tables q ≡ None → HasTable (tables name) → if_about (name_eq name q) mail ≡ None
 quiet_if tables name q mail none t = go (name_eq name q) refl
@@ -101,79 +101,71 @@ quiet_all count tables q [] none f = refl
 quiet_all count tables q (m ∷ ms) none f =
     picked_none (flying q m) (picks (flying q) ms) (ap (λ o. flown (other_end q m) o) (quiet_kind count tables q m.sender m.addressee m.kind none f.0)) ∙ quiet_all count tables q ms none f.1
 
-inbox_fair : (count i : ℕ) (tables : Name → Option Home) (ms : List Message) → AllByRecursion (λ (m : Message). Fair count tables m × (m.addressee ≡ i)) ms → AllFair count tables ms
-inbox_fair count i tables [] f = tt
-inbox_fair count i tables (m ∷ ms) f = (f.0.0, inbox_fair count i tables ms f.1)
-
-boxes_fair : (count : ℕ) (tables : Name → Option Home) (i k : ℕ) (nodes : ℕ → Node) → ((j : ℕ) → AllFair count tables (boxes (nodes j))) → AllFair count tables (boxes_from i k nodes)
-boxes_fair count tables i zero nodes f = tt
-boxes_fair count tables i (suc k) nodes f = all_append (Fair count tables) (boxes (nodes i)) (boxes_from (i + 1) k nodes) (f i) (boxes_fair count tables (i + 1) k nodes f)
-
-pub nothing_flies : (w : World) (drafts : ℕ → Name → List ℕ) (arrays : Name → List ℕ) (q : Name) → Whole w drafts arrays → table_of q w ≡ None → picks (flying q) (flight w) ≡ []
-nothing_flies w drafts arrays q k none =
-    let tables : Name → Option Home = λ p. table_of p w in
-    quiet_all w.count tables q (flight w) none
-    (boxes_fair w.count tables 0 w.count w.nodes
-    (λ j. all_append (Fair w.count tables) (w.nodes j).inbox (w.nodes j).outbox (inbox_fair w.count j tables (w.nodes j).inbox (k.inbox j)) (k.outbox j)))
+pub nothing_flies : (w : World) (drafts : ℕ → Name → List ℕ) (arrays : Name → List ℕ) (us : List Under) (lost : List Piece) (q : Name) → Whole w drafts arrays us lost → table_of q w ≡ None → picks (flying q) (messages_of us) ≡ []
+nothing_flies w drafts arrays us lost q k none = quiet_all w.count (λ p. table_of p w) q (messages_of us) none k.fair
 
 moves_nothing : {A : Type 0} {xs ys : List A} → Moves xs ys → xs ≡ [] → ys ≡ []
 moves_nothing still e = e
 moves_nothing (moved x rest a b m) e = absurd (took_nothing a e)
 
-no_side : (w : World) (drafts : ℕ → Name → List ℕ) (arrays : Name → List ℕ) (q : Name) (j : ℕ) → Whole w drafts arrays → table_of q w ≡ None → (w.nodes j).remotes q ≡ None
-no_side w drafts arrays q j k none = go ((w.nodes j).remotes q) refl
+no_side : (w : World) (drafts : ℕ → Name → List ℕ) (arrays : Name → List ℕ) (us : List Under) (lost : List Piece) (q : Name) (j : ℕ) → Whole w drafts arrays us lost → table_of q w ≡ None → (w.nodes j).remotes q ≡ None
+no_side w drafts arrays us lost q j k none = go ((w.nodes j).remotes q) refl
   where
     go : (o : Option Remote) → (w.nodes j).remotes q ≡ o → (w.nodes j).remotes q ≡ None
     go None e = e
     go (Some r) e = absurd (let t = (k.sizes j q r e).1 in cc)
 
 -- The outcome o of node i, from n on, where the message that came is taken out of the inbox.
-pub record StepFits (w : World) (after : ℕ → Name → List ℕ) (i : ℕ) (e : Event) (inbox : List Message) (o : Outcome) (came : Name → Option Flying) (written : Name → Option (List ℕ)) : Type 0 where
+pub record StepFits (w : World) (after : ℕ → Name → List ℕ) (i : ℕ) (e : Event) (inbox : List Piece) (parcels : Gathered) (us left : List Under) (lost : List Piece) (o : Outcome) (came : Name → Option Flying) (written : Name → Option (List ℕ)) : Type 0 where
   pub few : i < w.count
   pub fits : (j : ℕ) → Fits j ((stepped i e o w).world.nodes j) (after j)
-  pub acts : (q : Name) → Acts (λ p size. (h : Home) × (table_of p w ≡ Some h) × (h.size ≡ size)) q i (came q) (written q) (record (w.nodes i) { inbox = inbox }) o.node o.posts
-  pub keeps : Keeps (record (w.nodes i) { inbox = inbox }) o.node
-  pub rest : AllByRecursion (λ (m : Message). Fair w.count (λ q. table_of q w) m × (m.addressee ≡ i)) inbox
-  pub comes : (q : Name) → Comes (came q) (picks (flying q) (flight w)) (picks (flying q) (boxes_from 0 w.count (at_node w.nodes i (record (w.nodes i) { inbox = inbox }))))
+  pub acts : (q : Name) → Acts (λ p size. (h : Home) × (table_of p w ≡ Some h) × (h.size ≡ size)) q i (came q) (written q) (record (w.nodes i) { inbox = inbox; parcels = parcels }) o.node o.posts
+  pub keeps : Keeps (record (w.nodes i) { inbox = inbox; parcels = parcels }) o.node
+  pub rest : AllByRecursion (λ (p : Piece). p.message.addressee ≡ i) inbox
+  pub left_fair : AllFair w.count (λ q. table_of q w) (messages_of left)
+  pub flies : IsFlight left (boxes_from 0 w.count (at_node w.nodes i (record (w.nodes i) { inbox = inbox; parcels = parcels })) ++ lost) (λ j. (at_node w.nodes i (record (w.nodes i) { inbox = inbox; parcels = parcels }) j).parcels)
+  pub comes : (q : Name) → Comes (came q) (picks (flying q) (messages_of us)) (picks (flying q) (messages_of left))
   pub near : (q : Name) → FromNear w.count (came q)
-  pub fair : (tables : Name → Option Home) → Sends i w.count (record (w.nodes i) { inbox = inbox }) tables → AllFair w.count tables o.posts
+  pub fair : (tables : Name → Option Home) → Sends i w.count (record (w.nodes i) { inbox = inbox; parcels = parcels }) tables → AllFair w.count tables o.posts
 
 own_live : (b : Bool) (v : Seen) → OwnFits b v → LiveFits v.stage v.home
 own_live true v own = own.live
 own_live false v own = subst (λ s. LiveFits s v.home) (sym own.unknown) tt
 
-pub whole_stepped : (w : World) (drafts later : ℕ → Name → List ℕ) (arrays : Name → List ℕ) (i : ℕ) (e : Event) (inbox : List Message) (o : Outcome) (came : Name → Option Flying) (written : Name → Option (List ℕ))
-    → Whole w drafts arrays → StepFits w later i e inbox o came written
-    → Whole (stepped i e o w).world later (λ q. bytes_after (written q) (arrays q))
-    × ((q : Name) (h : Home) → table_of q w ≡ Some h → Lifted q i (came q) w.nodes (stepped i e o w).world.nodes (flight w) (flight (stepped i e o w).world) h (arrays q) (bytes_after (written q) (arrays q)))
-whole_stepped w drafts later arrays i e inbox o came written k x = (
+pub whole_stepped : (w : World) (drafts later : ℕ → Name → List ℕ) (arrays : Name → List ℕ) (i : ℕ) (e : Event) (inbox : List Piece) (parcels : Gathered) (us left : List Under) (lost : List Piece) (o : Outcome) (came : Name → Option Flying) (written : Name → Option (List ℕ))
+    → Whole w drafts arrays us lost → StepFits w later i e inbox parcels us left lost o came written
+    → Whole (stepped i e o w).world later (λ q. bytes_after (written q) (arrays q)) (left ++ map posted o.posts) lost
+    × ((q : Name) (h : Home) → table_of q w ≡ Some h → Lifted q i (came q) w.nodes (stepped i e o w).world.nodes (messages_of us) (messages_of (left ++ map posted o.posts)) h (arrays q) (bytes_after (written q) (arrays q)))
+whole_stepped w drafts later arrays i e inbox parcels us left lost o came written k x = (
   record {
     fits = x.fits;
     agrees = of_node w.nodes i m (λ j n. (q : Name) → expected (home_of n q) (n.remotes q) ≡ section_at q n.sections) (λ q. agrees_now q (x.acts q)) (λ j other. k.agrees j);
     counts = of_node w.nodes i m (λ j n. (q : Name) → CountFits (section_at q n.sections)) (λ q. counts_now q (x.acts q)) (λ j other. k.counts j);
-    housed = of_node w.nodes i m (λ j n. Housed n) (x.keeps.2 (k.housed i)) (λ j other. k.housed j);
+    housed = of_node w.nodes i m (λ j n. Housed n) (x.keeps.3 (k.housed i)) (λ j other. k.housed j);
     near = near_now;
     sizes = of_node w.nodes i m (λ j n. (q : Name) (r : Remote) → n.remotes q ≡ Some r → (h : Home) × (table_of q v ≡ Some h) × (h.size ≡ r.size)) (λ q r f. known q r.size (sizes_now q (x.acts q) r f))
         (λ j other q r f. known q r.size (k.sizes j q r f));
-    inbox = of_node w.nodes i m (λ j n. AllByRecursion (λ (y : Message). Fair w.count after y × (y.addressee ≡ j)) n.inbox)
-        (subst (λ ms. AllByRecursion (λ (y : Message). Fair w.count after y × (y.addressee ≡ i)) ms) (sym x.keeps.0) (inbox_grown w.count i before after inbox grows x.rest))
-        (λ j other. inbox_grown w.count j before after (w.nodes j).inbox grows (k.inbox j));
-    outbox = of_node w.nodes i m (λ j n. AllFair w.count after n.outbox)
-        (all_append (Fair w.count after) o.node.outbox o.posts (subst (λ ms. AllFair w.count after ms) (sym x.keeps.1) (all_grown w.count before after (w.nodes i).outbox grows (k.outbox i))) (x.fair after sends))
-        (λ j other. all_grown w.count before after (w.nodes j).outbox grows (k.outbox j));
+    inbox = of_node w.nodes i m (λ j n. AllByRecursion (λ (y : Piece). y.message.addressee ≡ j) n.inbox)
+        (subst (λ ms. AllByRecursion (λ (y : Piece). y.message.addressee ≡ i) ms) (sym x.keeps.0) x.rest) (λ j other. k.inbox j);
+    fair = subst (λ ms. AllFair w.count after ms) (sym (messages_posted left o.posts)) (all_append (Fair w.count after) (messages_of left) o.posts (all_grown w.count before after (messages_of left) grows x.left_fair) (x.fair after sends));
+    strays = k.strays;
+    flies = flight_as now (boxed v ++ lost) (λ j. (at_node w.nodes i n j).parcels) (λ j. (v.nodes j).parcels) gathered (posts_fly left (boxes_from 0 w.count (at_node w.nodes i n) ++ lost) (boxed v ++ lost) (λ j. (at_node w.nodes i n j).parcels) o.posts x.flies grown);
     coherent = coherent_now;
   },
   lifted,
 )
   where
     n : Node
-    n = record (w.nodes i) { inbox = inbox }
+    n = record (w.nodes i) { inbox = inbox; parcels = parcels }
 
     m : Node
     m = committed w.events e o
 
     v : World
     v = (stepped i e o w).world
+
+    now : List Under
+    now = left ++ map posted o.posts
 
     K : Name → ℕ → Type 0
     K = λ p size. (h : Home) × (table_of p w ≡ Some h) × (h.size ≡ size)
@@ -199,19 +191,29 @@ whole_stepped w drafts later arrays i e inbox o came written k x = (
     sized q h there None f = tt
     sized q h there (Some r) f = let s = k.sizes i q r f in let same : s.0 ≡ h = (let both : Some s.0 ≡ Some h = sym s.1 ∙ there in cc) in sym s.2 ∙ ap (λ (y : Home). y.size) same
 
-    more : boxes (v.nodes i) ≡ boxes (at_node w.nodes i n i) ++ o.posts
+    more : boxes (v.nodes i) ≡ boxes (at_node w.nodes i n i) ++ pieces_in o.posts
     more =
-        ap boxes (node_here w.nodes i m) ∙ ap (λ l. l ++ (o.node.outbox ++ o.posts)) x.keeps.0 ∙ ap (λ l. inbox ++ (l ++ o.posts)) x.keeps.1
-        ∙ sym (append_assoc inbox (w.nodes i).outbox o.posts) ∙ sym (ap (λ (y : Node). boxes y ++ o.posts) (node_here w.nodes i n))
+        ap boxes (node_here w.nodes i m) ∙ ap (λ l. l ++ (o.node.outbox ++ pieces_in o.posts)) x.keeps.0 ∙ ap (λ l. inbox ++ (l ++ pieces_in o.posts)) x.keeps.1
+        ∙ sym (append_assoc inbox (w.nodes i).outbox (pieces_in o.posts)) ∙ sym (ap (λ (y : Node). boxes y ++ pieces_in o.posts) (node_here w.nodes i n))
 
-    moves : (q : Name) → Moves (picks (flying q) (boxes_from 0 w.count (at_node w.nodes i n)) ++ picks (flying q) o.posts) (picks (flying q) (flight v))
+    grown : Moves ((boxes_from 0 w.count (at_node w.nodes i n) ++ lost) ++ pieces_in o.posts) (boxed v ++ lost)
+    grown =
+        let b = boxes_from 0 w.count (at_node w.nodes i n) in let ps = pieces_in o.posts in
+        subst (λ l. Moves l (boxed v ++ lost)) (sym (append_assoc b lost ps))
+        (moves_then (moves_past b lost ps) (subst (λ l. Moves l (boxed v ++ lost)) (append_assoc b ps lost)
+        (moves_before lost (flight_more ps w.count i (at_node w.nodes i n) v.nodes x.few more (λ l other. ap boxes (node_there w.nodes i n l other ∙ sym (node_there w.nodes i m l other)))))))
+
+    gathered : (j : ℕ) (key : Key) → (v.nodes j).parcels key ≡ (at_node w.nodes i n j).parcels key
+    gathered j key = of_node w.nodes i m (λ l (y : Node). y.parcels key ≡ (at_node w.nodes i n l).parcels key) (ap (λ (g : Gathered). g key) x.keeps.2 ∙ sym (ap (λ (y : Node). y.parcels key) (node_here w.nodes i n)))
+        (λ l other. sym (ap (λ (y : Node). y.parcels key) (node_there w.nodes i n l other))) j
+
+    moves : (q : Name) → Moves (picks (flying q) (messages_of left) ++ picks (flying q) o.posts) (picks (flying q) (messages_of now))
     moves q =
-        subst (λ l. Moves l (picks (flying q) (flight v))) (picks-append (flying q) (boxes_from 0 w.count (at_node w.nodes i n)) o.posts)
-        (moves_picked (flying q) (flight_more o.posts w.count i (at_node w.nodes i n) v.nodes x.few more (λ l other. ap boxes (node_there w.nodes i n l other ∙ sym (node_there w.nodes i m l other)))))
+        subst (λ l. Moves (picks (flying q) (messages_of left) ++ picks (flying q) o.posts) l) (sym (picks-append (flying q) (messages_of left) o.posts) ∙ ap (λ l. picks (flying q) l) (sym (messages_posted left o.posts))) still
 
-    lifted : (q : Name) (h : Home) → table_of q w ≡ Some h → Lifted q i (came q) w.nodes v.nodes (flight w) (flight v) h (arrays q) (bytes_after (written q) (arrays q))
+    lifted : (q : Name) (h : Home) → table_of q w ≡ Some h → Lifted q i (came q) w.nodes v.nodes (messages_of us) (messages_of now) h (arrays q) (bytes_after (written q) (arrays q))
     lifted q h there =
-        lift K q i w.nodes v.nodes n o.node (flight w) (flight v) o.posts (picks (flying q) (boxes_from 0 w.count (at_node w.nodes i n))) (came q) (written q) h (arrays q)
+        lift K q i w.nodes v.nodes n o.node (messages_of us) (messages_of now) o.posts (picks (flying q) (messages_of left)) (came q) (written q) h (arrays q)
         (outcomes q) there (sized q h there ((w.nodes i).remotes q) refl) (x.comes q) (moves q) (x.acts q)
 
     grows : Grows before after
@@ -224,8 +226,8 @@ whole_stepped w drafts later arrays i e inbox o came written k x = (
     sends = record {
       me = (k.fits i).me;
       few = x.few;
-      near = λ name h f. let t = table_at w drafts arrays i name h k f in subst (λ y. Near y w.count h) (sym ((k.fits i).me ∙ t.0)) (k.near name h t.1).0;
-      home_there = λ name h f. grows name h (table_at w drafts arrays i name h k f).1;
+      near = λ name h f. let t = table_at w drafts arrays us lost i name h k f in subst (λ y. Near y w.count h) (sym ((k.fits i).me ∙ t.0)) (k.near name h t.1).0;
+      home_there = λ name h f. grows name h (table_at w drafts arrays us lost i name h k f).1;
       side_there = λ name r f. let s = k.sizes i name r f in let g = grows name s.0 s.1 in ((g.0, g.1), away i (drafts i) (w.nodes i) name r f (k.fits i));
       live = λ name. own_live (is_mine (w.nodes i) name) (seen (w.nodes i) (drafts i) name) ((k.fits i).each name).own;
     }
@@ -239,7 +241,7 @@ whole_stepped w drafts later arrays i e inbox o came written k x = (
     agrees_now q (side_acts next ms none f a p here count s happens) = ap (λ y. expected y (m.remotes q)) (f ∙ none) ∙ here
     agrees_now q (absent a b f g r p s) = ap (λ y. expected y (m.remotes q)) (g ∙ sym f) ∙ ap (λ y. expected (home_of n q) y) r ∙ k.agrees i q ∙ sym s
     agrees_now q (made size a b here f g r p s) =
-        ap (λ y. expected y (m.remotes q)) g ∙ sym (ap (λ y. expected y (n.remotes q)) f ∙ ap (λ y. expected None y) (no_side w drafts arrays q i k (at_home q here f))) ∙ k.agrees i q ∙ sym s
+        ap (λ y. expected y (m.remotes q)) g ∙ sym (ap (λ y. expected y (n.remotes q)) f ∙ ap (λ y. expected None y) (no_side w drafts arrays us lost q i k (at_home q here f))) ∙ k.agrees i q ∙ sym s
 
     counts_now : (q : Name) → Acts K q i (came q) (written q) n o.node o.posts → CountFits (section_at q m.sections)
     counts_now q (nothing a b f r p s) = subst (λ y. CountFits y) (sym s) (k.counts i q)
@@ -294,19 +296,19 @@ whole_stepped w drafts later arrays i e inbox o came written k x = (
       | inr new ↦ (subst (λ y. Near q.home w.count y) (sym new.0.1) (near_new q.home w.count n.nodes new.0.0), subst (λ j. j < w.count) (sym new.0.2) x.few)
     ]
 
-    new_region : (q : Name) (h : Home) (new : New q h) → table_of q w ≡ None → created n.nodes new.0 (λ j. new.0) ≡ sight q h v.nodes (flight v) (bytes_after (written q) (arrays q))
+    new_region : (q : Name) (h : Home) (new : New q h) → table_of q w ≡ None → created n.nodes new.0 (λ j. new.0) ≡ sight q h v.nodes (messages_of now) (bytes_after (written q) (arrays q))
     new_region q h new none =
         let sides : (j : ℕ) → new_remote new.0 ≡ side h.size ((v.nodes j).remotes q) =
-        λ j. sym (ap (λ y. side h.size y) (of_node w.nodes i m (λ l y. y.remotes q ≡ None) (new.5 ∙ no_side w drafts arrays q i k none) (λ l other. no_side w drafts arrays q l k none) j) ∙ ap (λ (y : Home). new_remote y.size) new.1) in
-        let empty : [] ≡ picks (flying q) (flight v) =
-        sym (moves_nothing (moves q) (ap (λ l. picks (flying q) (boxes_from 0 w.count (at_node w.nodes i n)) ++ l) new.6 ∙ append_nil _
-        ∙ subst (λ c. Comes c (picks (flying q) (flight w)) (picks (flying q) (boxes_from 0 w.count (at_node w.nodes i n)))) new.3 (x.comes q) ∙ nothing_flies w drafts arrays q k none)) in
+        λ j. sym (ap (λ y. side h.size y) (of_node w.nodes i m (λ l y. y.remotes q ≡ None) (new.5 ∙ no_side w drafts arrays us lost q i k none) (λ l other. no_side w drafts arrays us lost q l k none) j) ∙ ap (λ (y : Home). new_remote y.size) new.1) in
+        let empty : [] ≡ picks (flying q) (messages_of now) =
+        sym (moves_nothing (moves q) (ap (λ l. picks (flying q) (messages_of left) ++ l) new.6 ∙ append_nil _
+        ∙ subst (λ c. Comes c (picks (flying q) (messages_of us)) (picks (flying q) (messages_of left))) new.3 (x.comes q) ∙ nothing_flies w drafts arrays us lost q k none)) in
         let bytes : replicate new.0 0 ≡ bytes_after (written q) (arrays q) = sym (ap (λ y. bytes_after y (arrays q)) new.4) in
         λ t. record { home = sym new.1 t; remotes = λ j. sides j t; flight = empty t; array = bytes t }
 
-    coherent_now : (q : Name) (h : Home) → table_of q v ≡ Some h → IsCoherent q.home (sight q h v.nodes (flight v) (bytes_after (written q) (arrays q)))
+    coherent_now : (q : Name) (h : Home) → table_of q v ≡ Some h → IsCoherent q.home (sight q h v.nodes (messages_of now) (bytes_after (written q) (arrays q)))
     coherent_now q h there = elim (origin q h there (table_of q w) refl) [
       | inl old ↦ (let l = lifted q old.0 old.1 in
-          subst (λ y. IsCoherent q.home (sight q y v.nodes (flight v) (bytes_after (written q) (arrays q)))) (is_home q h old.0 there old.1) (runs_kept q.home _ _ l.run (k.coherent q old.0 old.1)))
+          subst (λ y. IsCoherent q.home (sight q y v.nodes (messages_of now) (bytes_after (written q) (arrays q)))) (is_home q h old.0 there old.1) (runs_kept q.home _ _ l.run (k.coherent q old.0 old.1)))
       | inr new ↦ subst (λ g. IsCoherent q.home g) (new_region q h new.0 new.1) (created_kept q.home n.nodes new.0.0 (λ j. new.0.0))
     ]

@@ -1,5 +1,5 @@
 -- What a region looks like in a world of all nodes.
-use Rattle.std.specs.Prelude.{ℕ, ◌==◌, Bool, true, if◌then◌else◌, List, [], ◌∷◌, replicate}
+use Rattle.std.specs.Prelude.{ℕ, ◌==◌, Bool, true, if◌then◌else◌, List, [], ◌∷◌, ◌++◌, ◌≤◌, replicate}
 use Rattle.std.specs.declared.option.Option.{Option}
 use Rattle.std.specs.declared.option.Option.TheVariants.{None, Some}
 use Rattle.crl_model.specs.declared.name.Name.{Name}
@@ -12,13 +12,16 @@ use Rattle.crl_model.specs.declared.message.Message.{Message}
 use Rattle.crl_model.specs.declared.message.Kind.{Kind}
 use Rattle.crl_model.specs.declared.message.Kind.TheVariants as kind
 use Rattle.crl_model.specs.Names.{name_eq}
+use Rattle.std.specs.List.{AllByRecursion}
+use Rattle.crl_protocol.specs.Parcels.{Piece}
+use Rattle.crl_flight.specs.Flight.{Under, IsFlight}
 use Rattle.crl_protocol.specs.Places.{picks}
 use Rattle.crl_protocol.specs.Mail.{Mail, Ask, Grant, Recall, Yield, Return, Release}
 use Rattle.crl_protocol.specs.Home.{Home, new_home, bytes_after}
 use Rattle.crl_protocol.specs.Remote.{Remote, new_remote}
 use Rattle.crl_protocol.specs.Node.{Node, next_name, home_of}
 use Rattle.crl_protocol.specs.Verdict.{verdict}
-use Rattle.crl_protocol.specs.World.{World, new_world, flight, step}
+use Rattle.crl_protocol.specs.World.{World, new_world, boxed, step}
 use Rattle.crl_coherence.specs.Region.{Flying, Region}
 
 -- the mail of a message that is about this region's copies
@@ -50,6 +53,17 @@ abbrev pub side : ℕ → Option Remote → Remote
 side size None = new_remote size
 side size (Some r) = r
 
+-- These messages are under way in a world, with their pieces that came: each piece of each of them is in a box, or is
+-- gathered at its addressee, once, and nothing else is there. A piece that was carried to a number that is no node of the
+-- world is lost.
+abbrev pub AreLost : ℕ → List Piece → Type 0
+AreLost count lost = AllByRecursion (λ (p : Piece). count ≤ p.message.addressee) lost
+
+pub record UnderWay (w : World) (us : List Under) : Type 0 where
+  pub lost : List Piece
+  pub strays : AreLost w.count lost
+  pub flies : IsFlight us (boxed w ++ lost) (λ i. (w.nodes i).parcels)
+
 -- the region with this record at its home, among all nodes with these messages under way
 abbrev pub sight : Name → Home → (ℕ → Node) → List Message → List ℕ → Region
 sight q h nodes messages array = record {
@@ -67,9 +81,9 @@ abbrev pub table_or_blank : Option Home → Home
 table_or_blank None = new_home 0 0
 table_or_blank (Some h) = h
 
--- A region that is there, as a world has it, and its bytes in the single machine's array.
-abbrev pub view : Name → List ℕ → World → Region
-view q array w = sight q (table_or_blank (table_of q w)) w.nodes (flight w) array
+-- A region that is there, as a world has it while these messages are under way, and its bytes in the single machine's array.
+abbrev pub view : Name → List ℕ → List Message → World → Region
+view q array messages w = sight q (table_or_blank (table_of q w)) w.nodes messages array
 
 -- The bytes that an event leaves of the region in the array: zeros where it is created, and those of a write
 -- section of it that ends.

@@ -2,25 +2,28 @@
 //! each region is coherent. There is no code here but empty functions, whose contracts are the theorems.
 #![tactic(auto)]
 
-ghost use Rattle.std.specs.Prelude.{◌≡◌, ℕ, List, true};
+ghost use Rattle.std.specs.Prelude.{◌≡◌, ℕ, List, [], true};
 ghost use Rattle.std.specs.declared.option.Option.TheVariants.{Some};
 ghost use Rattle.crl_model.specs.declared.name.Name.{Name};
 ghost use Rattle.crl_model.specs.declared.event.Event.{Event};
 ghost use Rattle.crl_protocol.specs.Home.{Home};
-ghost use Rattle.crl_protocol.specs.World.{is_enabled, step, new_world, world_of, IsRunFrom};
+ghost use Rattle.crl_protocol.specs.Places.{picks};
+ghost use Rattle.crl_protocol.specs.World.{boxed, is_enabled, step, new_world, world_of, IsRunFrom};
+ghost use Rattle.crl_flight.specs.Flight.{Under, messages_of};
 ghost use Rattle.crl_coherence.specs.Region.{Run};
 ghost use Rattle.crl_coherence.specs.Coherent.{IsCoherent};
-ghost use Rattle.crl_regions.specs.View.{table_of, view, array_of, array_after};
+ghost use Rattle.crl_regions.specs.View.{UnderWay, flying, table_of, view, array_of, array_after};
 
-/// An event that may come after a run, and a region that is there: it is there afterwards too, and as it is seen it
-/// goes from the one to the other by a run of its own events. Its array is what `array_after` says: the bytes that a
-/// write section of it leaves which ends, zeros where it is created, and else as before.
+/// An event that may come after a run: with what is under way before it and after it, each region that is there is
+/// there afterwards too, and as it is seen it goes from the one to the other by a run of its own events. Its array is
+/// what `array_after` says.
 pub fn events_are_the_regions()
-    ensures { (count capacity : ℕ) (run : List Event) (e : Event) → IsRunFrom (new_world count capacity) run → is_enabled e (world_of count capacity run) ≡ true → (name : Name) (h : Home) → table_of name (world_of count capacity run) ≡ Some h → (k : Home) × (table_of name (step e (world_of count capacity run)).world ≡ Some k) × Run name.home (view name (array_of name count capacity run) (world_of count capacity run)) (view name (array_after name e (world_of count capacity run) (array_of name count capacity run)) (step e (world_of count capacity run)).world) }
+    ensures { (count capacity : ℕ) (run : List Event) (e : Event) → IsRunFrom (new_world count capacity) run → is_enabled e (world_of count capacity run) ≡ true → (us vs : List Under) × UnderWay (world_of count capacity run) us × UnderWay (step e (world_of count capacity run)).world vs × ((name : Name) (h : Home) → table_of name (world_of count capacity run) ≡ Some h → (k : Home) × (table_of name (step e (world_of count capacity run)).world ≡ Some k) × Run name.home (view name (array_of name count capacity run) (messages_of us) (world_of count capacity run)) (view name (array_after name e (world_of count capacity run) (array_of name count capacity run)) (messages_of vs) (step e (world_of count capacity run)).world)) }
 {}
 
-/// After each run of any number of nodes, each region that is there is coherent, with the bytes that the run's creates
-/// and ends of write sections leave in the array.
+/// After each run of any number of nodes, with what is under way then, each region that is there is coherent, with the
+/// bytes that the run's creates and ends of write sections leave in the array. Where no piece is in a box, no mail
+/// about copies is under way.
 pub fn regions_are_coherent()
-    ensures { (count capacity : ℕ) (run : List Event) → IsRunFrom (new_world count capacity) run → (name : Name) (h : Home) → table_of name (world_of count capacity run) ≡ Some h → IsCoherent name.home (view name (array_of name count capacity run) (world_of count capacity run)) }
+    ensures { (count capacity : ℕ) (run : List Event) → IsRunFrom (new_world count capacity) run → (us : List Under) × UnderWay (world_of count capacity run) us × ((name : Name) (h : Home) → table_of name (world_of count capacity run) ≡ Some h → IsCoherent name.home (view name (array_of name count capacity run) (messages_of us) (world_of count capacity run))) × (boxed (world_of count capacity run) ≡ [] → (name : Name) → picks (flying name) (messages_of us) ≡ []) }
 {}

@@ -1,0 +1,13 @@
+//! Bytes that travel in pieces: cut, gathered in any order, and joined.
+#![tactic(auto)]
+
+ghost use Rattle.std.specs.Prelude.{◌≡◌, ℕ, List, length, true};
+ghost use Rattle.crl_pieces.specs.Pieces.{count, cut, join, slots, fresh, joined, is_complete, Cell, Came};
+
+/// Joined, the pieces of bytes are the bytes; there are as many as their number of bytes gives. In whatever order they
+/// come, what was gathered is the whole where none is missing.
+pub fn pieces_join()
+    ensures joins { (bytes : List ℕ) → join (cut bytes) ≡ bytes }
+    ensures number { (bytes : List ℕ) → length (cut bytes) ≡ count (length bytes) }
+    ensures any_order { (bytes : List ℕ) (order : List ℕ) (after : List Cell) → Came (fresh (cut bytes)) order after → is_complete (slots after) ≡ true → joined (slots after) ≡ bytes }
+{}
