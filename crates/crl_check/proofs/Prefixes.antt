@@ -2,8 +2,8 @@
 use Rattle.std.proofs.Common.{◌≡◌, ℕ, ◌+◌, ◌<◌, List, [], ◌∷◌, ◌++◌, take, drop, length, get_or, sym, ap, ◌∙◌, arith, length-take-le, take-append-drop}
 use Rattle.std.proofs.lemmas.List.{take_more, drop_more}
 use Rattle.crl_model.specs.declared.entry.Entry.{Entry}
-use Rattle.crl_model.specs.SingleMachine.{State, IsLegal, after, IsHistory, after_all}
-use Rattle.crl_model.proofs.Histories.{history_push, after_push}
+use Rattle.crl_machine.specs.SingleMachine.{State, IsLegal, after, IsHistory, after_all}
+use Rattle.crl_machine.proofs.Laws.{history_push, after_push}
 use Rattle.crl_check.specs.Histories.{IsFirstIllegal}
 
 -- the first i entries are legal, and this is the state after them

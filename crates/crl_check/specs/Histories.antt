@@ -1,7 +1,7 @@
 -- The first entry of a list that is no legal step.
 use Rattle.std.specs.Prelude.{◌≡◌, ℕ, List, ◌∷◌, ◌++◌, length}
 use Rattle.crl_model.specs.declared.entry.Entry.{Entry}
-use Rattle.crl_model.specs.SingleMachine.{State, IsLegal, IsHistory, after_all}
+use Rattle.crl_machine.specs.SingleMachine.{State, IsLegal, IsHistory, after_all}
 
 -- the entries before it are a legal history, and it is no legal step after them
 pub record IsFirstIllegal (s : State) (entries : List Entry) (i : ℕ) : Type 0 where

@@ -6,13 +6,13 @@ use Rattle.std.specs.declared.option.Option.{Option}
 use Rattle.std.specs.declared.option.Option.TheVariants.{None, Some}
 use Rattle.crl_model.specs.declared.TheConstants.{REGION_LIMIT}
 use Rattle.crl_model.specs.declared.name.Name.{Name}
-use Rattle.crl_model.specs.declared.region.Stage.{Stage}
-use Rattle.crl_model.specs.declared.region.Stage.TheVariants as stage
+use Rattle.crl_model.specs.declared.stage.Stage.{Stage}
+use Rattle.crl_model.specs.declared.stage.Stage.TheVariants as stage
 use Rattle.crl_model.specs.declared.call.Call.TheVariants as call
 use Rattle.crl_model.specs.declared.call.Refusal.{Refusal}
 use Rattle.crl_model.specs.declared.call.Refusal.TheVariants as why
 use Rattle.crl_model.specs.Stages.{is_there, is_deleted}
-use Rattle.crl_model.specs.SingleMachine.{State, IsFree, IsUnwritten, IsUnused, IsRefusedSerial}
+use Rattle.crl_machine.specs.SingleMachine.{State, IsFree, IsUnwritten, IsUnused, IsRefusedSerial}
 use Rattle.crl_model.specs.declared.statement.Statement.{Statement}
 use Rattle.crl_model.specs.declared.statement.Statement.TheVariants.{Call, Put, Add}
 use Rattle.crl_cli.specs.Refusals.{is_last, is_bad_size, is_unknown, is_open, create_refusal, map_refusal, unmap_refusal, read_refusal, end_read_refusal, write_refusal, end_write_refusal, put_refusal, refusal_of, refused_serial}

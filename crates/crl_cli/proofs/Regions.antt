@@ -1,7 +1,7 @@
 -- The lines of regions, one by one.
 use Rattle.std.proofs.Common.{◌≡◌, ℕ, zero, suc, ◌+◌, List, ◌++◌, refl, sym, ap, ◌∙◌, arith, append_assoc, append-nil}
 use Rattle.crl_model.specs.declared.name.Name.{Name}
-use Rattle.crl_model.specs.SingleMachine.{State}
+use Rattle.crl_machine.specs.SingleMachine.{State}
 use Rattle.crl_cli.specs.Report.{region_line, serials_text, homes_text}
 
 serials_more : (s : State) (home serial n m : ℕ) → n ≡ m + 1 → serials_text s home serial n ≡ region_line s (record { home = home; serial = serial }) ++ serials_text s home (serial + 1) m

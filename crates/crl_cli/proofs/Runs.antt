@@ -7,8 +7,8 @@ use Rattle.crl_model.specs.declared.call.Call.TheVariants as call
 use Rattle.crl_model.specs.declared.call.Refusal.{Refusal}
 use Rattle.crl_model.specs.declared.entry.What.{What}
 use Rattle.crl_model.specs.declared.entry.Entry.{Entry}
-use Rattle.crl_model.specs.SingleMachine.{State, start, IsLegal, IsHistory, after_all}
-use Rattle.crl_model.proofs.Histories.{history_push, after_push}
+use Rattle.crl_machine.specs.SingleMachine.{State, start, IsLegal, IsHistory, after_all}
+use Rattle.crl_machine.proofs.Laws.{history_push, after_push}
 use Rattle.crl_model.specs.declared.statement.Statement.{Statement}
 use Rattle.crl_model.specs.declared.statement.Statement.TheVariants.{Call, Put, Add}
 use Rattle.crl_cli.specs.Refusals.{refusal_of}

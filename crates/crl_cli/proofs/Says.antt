@@ -1,6 +1,6 @@
 -- What is said of the bytes that were read, from what is said of their parts.
 use Rattle.std.proofs.Common.{◌≡◌, ◌≤◌, ◌<◌, ◌+◌, ◌∙◌, ℕ, suc, List, ◌∷◌, length, ap, arith, length-append, Ok, Err}
-use Rattle.crl_model.specs.SingleMachine.{State}
+use Rattle.crl_machine.specs.SingleMachine.{State}
 use Rattle.crl_check.specs.Histories.{IsFirstIllegal}
 use Rattle.std.specs.Prelude.{IfOk, Result, None, Some}
 use Rattle.crl_script.specs.Program.{Program}

@@ -6,7 +6,7 @@ use Rattle.std.specs.Prelude.{is_some, IsSome, unwrap_or}
 use Rattle.std.specs.declared.option.Option.{Option}
 use Rattle.std.specs.declared.option.Option.TheVariants.{None, Some}
 use Rattle.crl_model.specs.declared.name.Name.{Name}
-use Rattle.crl_model.specs.declared.region.Stage.TheVariants as stage
+use Rattle.crl_model.specs.declared.stage.Stage.TheVariants as stage
 use Rattle.crl_model.specs.declared.call.Call.TheVariants as call
 use Rattle.crl_model.specs.declared.call.CallKind.{CallKind}
 use Rattle.crl_model.specs.declared.call.Refusal.{Refusal}
@@ -17,8 +17,8 @@ use Rattle.crl_model.specs.declared.entry.Place.TheVariants.{Region}
 use Rattle.crl_model.specs.Names.{name_eq, at_name}
 use Rattle.crl_model.specs.Patches.{put_at}
 use Rattle.crl_model.specs.Stages.{is_there, is_deleted}
-use Rattle.crl_model.specs.SingleMachine.{State, start, change, used_after, told_after}
-use Rattle.crl_model.proofs.Order.{same_name}
+use Rattle.crl_machine.specs.SingleMachine.{State, start, change, used_after, told_after}
+use Rattle.crl_model.proofs.Laws.{same_name}
 use Rattle.crl_model.specs.declared.statement.Statement.{Statement}
 use Rattle.crl_model.specs.declared.statement.Statement.TheVariants.{Call, Put, Add}
 use Rattle.crl_cli.specs.Refusals.{kind_of, name_of}

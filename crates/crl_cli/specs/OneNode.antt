@@ -11,7 +11,7 @@ use Rattle.crl_model.specs.declared.entry.What.TheVariants as what
 use Rattle.crl_model.specs.declared.entry.Entry.{Entry}
 use Rattle.crl_model.specs.Names.{at_name}
 use Rattle.crl_model.specs.Patches.{put_at}
-use Rattle.crl_model.specs.SingleMachine.{State, after}
+use Rattle.crl_machine.specs.SingleMachine.{State, after}
 use Rattle.crl_model.specs.declared.statement.Statement.{Statement}
 use Rattle.crl_model.specs.declared.statement.Statement.TheVariants.{Call, Put, Add}
 use Rattle.crl_cli.specs.Refusals.{refusal_of, refused}

@@ -4,7 +4,7 @@ use Rattle.std.specs.declared.option.Option.{Option}
 use Rattle.std.specs.declared.option.Option.TheVariants.{None, Some}
 use Rattle.std.specs.Io.KnownBytes.{Consumes, IsAtEnd}
 use Rattle.crl_model.specs.declared.entry.Entry.{Entry}
-use Rattle.crl_model.specs.SingleMachine.{start, IsHistory, after_all}
+use Rattle.crl_machine.specs.SingleMachine.{start, IsHistory, after_all}
 use Rattle.crl_outside.specs.Faults.{Rose}
 use Rattle.crl_model.specs.declared.statement.Statement.{Statement}
 use Rattle.crl_script.specs.Program.{Program, Fault}

@@ -3,7 +3,7 @@ use Rattle.std.specs.Prelude.{ℕ, zero, suc, ◌+◌, List, [], ◌++◌, if◌
 use Rattle.crl_model.specs.declared.name.Name.{Name}
 use Rattle.crl_model.specs.declared.entry.Entry.{Entry}
 use Rattle.crl_model.specs.Stages.{is_there}
-use Rattle.crl_model.specs.SingleMachine.{State}
+use Rattle.crl_machine.specs.SingleMachine.{State}
 use Rattle.crl_account.specs.Text.{account_text, region_text, counts_text}
 
 -- the line of the region of this name, if it is there

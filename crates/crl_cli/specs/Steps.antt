@@ -8,7 +8,7 @@ use Rattle.crl_model.specs.declared.call.Refusal.{Refusal}
 use Rattle.crl_model.specs.declared.entry.What.{What}
 use Rattle.crl_model.specs.declared.entry.Entry.{Entry}
 use Rattle.crl_model.specs.Stages.{is_there, is_deleted}
-use Rattle.crl_model.specs.SingleMachine.{State, IsLegal, IsHistory, after, after_all}
+use Rattle.crl_machine.specs.SingleMachine.{State, IsLegal, IsHistory, after, after_all}
 use Rattle.crl_model.specs.declared.statement.Statement.{Statement}
 use Rattle.crl_model.specs.declared.statement.Statement.TheVariants.{Call, Put}
 use Rattle.crl_cli.specs.Refusals.{refused}

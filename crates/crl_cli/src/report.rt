@@ -1,11 +1,11 @@
 //! The text of a run.
 ghost use Rattle.std.specs.Prelude.{◌≡◌, ◌+◌, ◌<◌, ◌≤◌, ◌++◌, length, IfOk, OnOk};
-ghost use Rattle.crl_model.specs.Seen.{state};
+ghost use Rattle.crl_machine.specs.Seen.{state};
 ghost use Rattle.crl_cli.specs.Report.{report_text, regions_text, serials_text, region_line};
 
 use crl_account::{write_account, write_counts, write_region};
 use crl_model::entry::Entry;
-use crl_model::machine::Machine;
+use crl_machine::machine::Machine;
 use crl_model::name::Name;
 use crl_model::{NodeNo, OutOfMemory};
 use std::alloc::Global;

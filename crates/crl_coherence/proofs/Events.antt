@@ -4,10 +4,10 @@ use Rattle.std.specs.declared.option.Option.{Option}
 use Rattle.std.specs.declared.option.Option.TheVariants.{None, Some}
 use Rattle.crl_model.specs.declared.directory.Listing.{Listing}
 use Rattle.std.proofs.lemmas.List.{length-replicate}
-use Rattle.crl_protocol.specs.Places.{at, picks, Took}
+use Rattle.crl_protocol.specs.Places.{at, find_all, Took}
 use Rattle.crl_protocol.specs.Remote.{new_remote}
 use Rattle.crl_coherence.specs.Region.{Flying, Region, flies, Happens, ask_comes, return_comes, release_comes, home_start, home_end_read, home_end_write, grant_comes, recall_comes, yield_comes, start, end_read, end_write, flush, forget, appears, carry, elsewhere, Run, done, next}
-use Rattle.crl_coherence.specs.Kept.{IsKept, pair_of, queued_of, Owns, of_node, released_in}
+use Rattle.crl_coherence.specs.Pairs.{PairHolds, pair_of, queued_of, Owns, of_node, released_in}
 use Rattle.crl_coherence.specs.Coherent.{IsCoherent, created}
 use Rattle.crl_coherence.proofs.Lists.{same_or}
 use Rattle.crl_coherence.proofs.Mails.{mails, pair_at, kept_to, kept_from, kept_at, took_mail, took_mail_other}
@@ -38,13 +38,13 @@ carry_event me g f rest after took put k = record {
     before v n (inl u) = inl u
     before v n (inr i) = inr (reordered_has v (picks_reordered (of_node n released_in) f after g.flight rest put took) i)
 
-    carried : (n : ℕ) → IsKept g.home.last g.array (pair_at n (at n g.home.listed) (picks (queued_of n) g.home.queue) (mails n g.flight) (g.remotes n))
-        → IsKept g.home.last g.array (pair_at n (at n g.home.listed) (picks (queued_of n) g.home.queue) (mails n after) (g.remotes n))
+    carried : (n : ℕ) → PairHolds g.home.last g.array (pair_at n (at n g.home.listed) (find_all (queued_of n) g.home.queue) (mails n g.flight) (g.remotes n))
+        → PairHolds g.home.last g.array (pair_at n (at n g.home.listed) (find_all (queued_of n) g.home.queue) (mails n after) (g.remotes n))
     carried n h = elim (same_or f.node n) [
       | inl e ↦ (let t : Took (flies n f.mail) g.flight rest = subst (λ x. Took (flies x f.mail) g.flight rest) e took in
           let u : Took (flies n f.mail) after rest = subst (λ x. Took (flies x f.mail) after rest) e put in
-          carried_kept g.home.last n g.array (at n g.home.listed) (picks (queued_of n) g.home.queue) (g.remotes n) f.mail (mails n g.flight) (mails n after) (mails n rest) (took_mail n f.mail g.flight rest t) (took_mail n f.mail after rest u) h)
-      | inr ne ↦ kept_at g.home.last n g.array {q = picks (queued_of n) g.home.queue} refl refl (took_mail_other n f.node f.mail g.flight rest took ne ∙ sym (took_mail_other n f.node f.mail after rest put ne)) refl h
+          carried_kept g.home.last n g.array (at n g.home.listed) (find_all (queued_of n) g.home.queue) (g.remotes n) f.mail (mails n g.flight) (mails n after) (mails n rest) (took_mail n f.mail g.flight rest t) (took_mail n f.mail after rest u) h)
+      | inr ne ↦ kept_at g.home.last n g.array {q = find_all (queued_of n) g.home.queue} refl refl (took_mail_other n f.node f.mail g.flight rest took ne ∙ sym (took_mail_other n f.node f.mail after rest put ne)) refl h
     ]
 
 pub happens_kept : (me : ℕ) (g h : Region) → Happens me g h → IsCoherent me g → IsCoherent me h
@@ -76,7 +76,7 @@ blank_at n zero = refl
 blank_at zero (suc k) = refl
 blank_at (suc n) (suc k) = blank_at n k
 
-blank_pair : (size n : ℕ) (sizes : ℕ → ℕ) → IsKept 0 (replicate size 0) (pair_of [] [] (λ m. new_remote (sizes m)) [] n)
+blank_pair : (size n : ℕ) (sizes : ℕ → ℕ) → PairHolds 0 (replicate size 0) (pair_of [] [] (λ m. new_remote (sizes m)) [] n)
 blank_pair size n sizes = record {
   places = tt;
   kind = tt;
@@ -99,9 +99,9 @@ blank_pair size n sizes = record {
   due = tt;
 }
 
-created_pair : (size nodes n : ℕ) (sizes : ℕ → ℕ) → IsKept 0 (replicate size 0) (pair_of (replicate nodes None) [] (λ m. new_remote (sizes m)) [] n)
+created_pair : (size nodes n : ℕ) (sizes : ℕ → ℕ) → PairHolds 0 (replicate size 0) (pair_of (replicate nodes None) [] (λ m. new_remote (sizes m)) [] n)
 created_pair size nodes n sizes =
-    subst (λ o. IsKept 0 (replicate size 0) (record (pair_of [] [] (λ m. new_remote (sizes m)) [] n) { listed = o })) (sym (blank_at n nodes)) (blank_pair size n sizes)
+    subst (λ o. PairHolds 0 (replicate size 0) (record (pair_of [] [] (λ m. new_remote (sizes m)) [] n) { listed = o })) (sym (blank_at n nodes)) (blank_pair size n sizes)
 
 nothing_listed : (n nodes : ℕ) (l : Listing) → at n (replicate nodes None) ≡ Some l → ⊥
 nothing_listed n nodes l e = let b = blank_at n nodes in cc

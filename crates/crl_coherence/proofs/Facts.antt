@@ -7,31 +7,31 @@ use Rattle.crl_model.specs.declared.directory.Section.TheVariants.{Closed, Readi
 use Rattle.crl_model.specs.declared.directory.Listing.{Listing}
 use Rattle.crl_model.specs.declared.message.Granted.{Granted}
 use Rattle.crl_model.specs.declared.message.Granted.TheVariants.{Shared, Exclusive, Upgrade}
-use Rattle.crl_protocol.specs.Remote.{Copy, granted_copy, takes_grant}
+use Rattle.crl_protocol.specs.Remote.{Copy, copy_after_grant, grant_fits}
 use Rattle.crl_protocol.specs.Sections.{is_writing}
-use Rattle.crl_coherence.specs.Kept.{Given, Back, Pair, IsKept, MarkFits, RecallFits}
+use Rattle.crl_coherence.specs.Pairs.{Given, Back, HomeAndNode, PairHolds, MarkFits, RecallFits}
 use Rattle.crl_coherence.proofs.Lists.{NoTwo}
 
 -- of each kind of message at most one is under way
-pub grants_one : (last : ℕ) (array : List ℕ) (p : Pair) → IsKept last array p → NoTwo p.grants
+pub grants_one : (last : ℕ) (array : List ℕ) (p : HomeAndNode) → PairHolds last array p → NoTwo p.grants
 grants_one last array p h y z ws e = let k = h.ask in let o = h.places in grind arith
 
-pub returns_one : (last : ℕ) (array : List ℕ) (p : Pair) → IsKept last array p → NoTwo p.returns
+pub returns_one : (last : ℕ) (array : List ℕ) (p : HomeAndNode) → PairHolds last array p → NoTwo p.returns
 returns_one last array p h y z ws e = let o = h.places in grind arith
 
-pub pending_one : (last : ℕ) (array : List ℕ) (p : Pair) → IsKept last array p → NoTwo p.pending
+pub pending_one : (last : ℕ) (array : List ℕ) (p : HomeAndNode) → PairHolds last array p → NoTwo p.pending
 pending_one last array p h y z ws e = let k = h.ask in grind arith
 
 -- the marks of what is listed
-pub marks_of : (last : ℕ) (array : List ℕ) (p : Pair) (l : Listing) → p.listed ≡ Some l → IsKept last array p → MarkFits last array l p.recalls p.yields p.returns p.releases p.remote
+pub marks_of : (last : ℕ) (array : List ℕ) (p : HomeAndNode) (l : Listing) → p.listed ≡ Some l → PairHolds last array p → MarkFits last array l p.recalls p.yields p.returns p.releases p.remote
 marks_of last array p l e h = subst (λ o. RecallFits last array o p.recalls p.yields p.returns p.releases p.remote) e h.recall
 
 -- a listed version is between 1 and the last that was granted
-pub listed_version : (last : ℕ) (array : List ℕ) (p : Pair) (l : Listing) → p.listed ≡ Some l → IsKept last array p → (1 ≤ l.version) × (l.version ≤ last)
+pub listed_version : (last : ℕ) (array : List ℕ) (p : HomeAndNode) (l : Listing) → p.listed ≡ Some l → PairHolds last array p → (1 ≤ l.version) × (l.version ≤ last)
 listed_version last array p l e h = let m = marks_of last array p l e h in (m.least, m.most)
 
 -- a node with an open section has a listed copy
-pub reader_listed : (last : ℕ) (array : List ℕ) (p : Pair) → p.remote.here ≢ Closed → IsKept last array p → (l : Listing) × (p.listed ≡ Some l)
+pub reader_listed : (last : ℕ) (array : List ℕ) (p : HomeAndNode) → p.remote.here ≢ Closed → PairHolds last array p → (l : Listing) × (p.listed ≡ Some l)
 reader_listed last array p is_open h = go p.listed refl
   where
     go : (o : Option Listing) → p.listed ≡ o → (l : Listing) × (p.listed ≡ Some l)
@@ -39,7 +39,7 @@ reader_listed last array p is_open h = go p.listed refl
     go (Some l) e = (l, e)
 
 -- a node that writes has an exclusive one
-pub writer_listed : (last : ℕ) (array : List ℕ) (p : Pair) → p.remote.here ≡ Writing → IsKept last array p → (l : Listing) × (p.listed ≡ Some l) × (l.exclusive ≡ true)
+pub writer_listed : (last : ℕ) (array : List ℕ) (p : HomeAndNode) → p.remote.here ≡ Writing → PairHolds last array p → (l : Listing) × (p.listed ≡ Some l) × (l.exclusive ≡ true)
 writer_listed last array p w h = go p.listed refl
   where
     go : (o : Option Listing) → p.listed ≡ o → (l : Listing) × (p.listed ≡ Some l) × (l.exclusive ≡ true)
@@ -47,7 +47,7 @@ writer_listed last array p w h = go p.listed refl
     go (Some l) e = (l, e, (let s = h.section in let k = h.ask in let o = h.places in grind arith))
 
 -- a node that doesn't wait has its copy listed, and its bytes are the array's
-pub copy_listed : (last : ℕ) (array : List ℕ) (p : Pair) (c : Copy) → p.remote.copy ≡ Some c → p.remote.asking ≡ None → IsKept last array p
+pub copy_listed : (last : ℕ) (array : List ℕ) (p : HomeAndNode) (c : Copy) → p.remote.copy ≡ Some c → p.remote.asking ≡ None → PairHolds last array p
     → (l : Listing) × (p.listed ≡ Some l) × (c.exclusive ≡ true → l.exclusive ≡ true) × (c.bytes ≡ array)
 copy_listed last array p c e idle h = go p.listed refl
   where
@@ -56,7 +56,7 @@ copy_listed last array p c e idle h = go p.listed refl
     go (Some l) f = (l, f, (λ x. let k = h.ask in let o = h.places in grind arith), (let k = h.ask in let o = h.places in grind arith))
 
 -- what is listed where a grant is under way
-pub grant_listed : (last : ℕ) (array : List ℕ) (p : Pair) (g : Given) → p.grants ≡ g ∷ [] → IsKept last array p
+pub grant_listed : (last : ℕ) (array : List ℕ) (p : HomeAndNode) (g : Given) → p.grants ≡ g ∷ [] → PairHolds last array p
     → (l : Listing) × (w : Bool) × (p.listed ≡ Some l) × (p.remote.asking ≡ Some w) × (p.remote.here ≡ Closed) × (w ≡ true → l.exclusive ≡ true)
 grant_listed last array p g e h = go p.listed p.remote.asking refl refl
   where
@@ -67,10 +67,10 @@ grant_listed last array p g e h = go p.listed p.remote.asking refl refl
     go (Some l) (Some w) f k = (l, w, f, k, (let s = h.section in grind arith), (λ x. let a = h.ask in let o = h.places in grind arith))
 
 -- the copy that a grant leaves has the array's bytes
-pub grant_shows : (last : ℕ) (array : List ℕ) (p : Pair) (g : Given) → p.grants ≡ g ∷ [] → IsKept last array p → (c : Copy) × (granted_copy g.version g.what p.remote.copy ≡ Some c) × (c.bytes ≡ array)
+pub grant_shows : (last : ℕ) (array : List ℕ) (p : HomeAndNode) (g : Given) → p.grants ≡ g ∷ [] → PairHolds last array p → (c : Copy) × (copy_after_grant g.version g.what p.remote.copy ≡ Some c) × (c.bytes ≡ array)
 grant_shows last array p g e h = go p.listed p.remote.copy g.what refl refl refl
   where
-    go : (o : Option Listing) (d : Option Copy) (w : Granted) → p.listed ≡ o → p.remote.copy ≡ d → g.what ≡ w → (c : Copy) × (granted_copy g.version w d ≡ Some c) × (c.bytes ≡ array)
+    go : (o : Option Listing) (d : Option Copy) (w : Granted) → p.listed ≡ o → p.remote.copy ≡ d → g.what ≡ w → (c : Copy) × (copy_after_grant g.version w d ≡ Some c) × (c.bytes ≡ array)
     go None d w f k x = let o = h.places in grind arith
     go (Some l) d (Shared bytes) f k x = (record { exclusive = false; version = g.version; bytes = bytes }, refl, (let o = h.places in grind arith))
     go (Some l) d (Exclusive bytes) f k x = (record { exclusive = true; version = g.version; bytes = bytes }, refl, (let o = h.places in grind arith))
@@ -78,10 +78,10 @@ grant_shows last array p g e h = go p.listed p.remote.copy g.what refl refl refl
     go (Some l) (Some c) Upgrade f k x = (record { exclusive = true; version = g.version; bytes = c.bytes }, refl, (let o = h.places in grind arith))
 
 -- a grant is what was asked for
-pub grant_fits : (last : ℕ) (array : List ℕ) (p : Pair) (g : Given) → p.grants ≡ g ∷ [] → IsKept last array p → takes_grant g.what p.remote ≡ true
-grant_fits last array p g e h = go p.listed p.remote.copy g.what refl refl refl
+pub grant_is_fit : (last : ℕ) (array : List ℕ) (p : HomeAndNode) (g : Given) → p.grants ≡ g ∷ [] → PairHolds last array p → grant_fits g.what p.remote ≡ true
+grant_is_fit last array p g e h = go p.listed p.remote.copy g.what refl refl refl
   where
-    go : (o : Option Listing) (d : Option Copy) (w : Granted) → p.listed ≡ o → p.remote.copy ≡ d → g.what ≡ w → takes_grant w p.remote ≡ true
+    go : (o : Option Listing) (d : Option Copy) (w : Granted) → p.listed ≡ o → p.remote.copy ≡ d → g.what ≡ w → grant_fits w p.remote ≡ true
     go None d w f k x = let o = h.places in grind arith
     go (Some l) d (Shared bytes) f k x = let o = h.places in let a = h.ask in let s = h.asks_size in grind arith
     go (Some l) d (Exclusive bytes) f k x = let o = h.places in let a = h.ask in let s = h.asks_size in grind arith
@@ -89,7 +89,7 @@ grant_fits last array p g e h = go p.listed p.remote.copy g.what refl refl refl
     go (Some l) (Some c) Upgrade f k x = let o = h.places in let a = h.ask in grind arith
 
 -- what is listed where a return is under way
-pub return_listed : (last : ℕ) (array : List ℕ) (p : Pair) (b : Back) → p.returns ≡ b ∷ [] → IsKept last array p
+pub return_listed : (last : ℕ) (array : List ℕ) (p : HomeAndNode) (b : Back) → p.returns ≡ b ∷ [] → PairHolds last array p
     → (l : Listing) × (p.listed ≡ Some l) × (l.version ≡ b.version) × ((b.bytes ≡ Some array) ⊎ (b.bytes ≡ None) × (l.exclusive ≡ false))
 return_listed last array p b e h = go p.listed refl
   where

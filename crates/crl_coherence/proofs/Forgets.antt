@@ -7,7 +7,7 @@ use Rattle.crl_model.specs.declared.directory.Section.TheVariants.{Closed}
 use Rattle.crl_model.specs.Names.{at_node}
 use Rattle.crl_protocol.specs.Remote.{Copy, Remote, new_remote, remote_flushes, flushes_over}
 use Rattle.crl_coherence.specs.Region.{Region, at_remote, IsBlank}
-use Rattle.crl_coherence.specs.Kept.{Pair, IsKept, LeavingFits, GivenFits, pair_of}
+use Rattle.crl_coherence.specs.Pairs.{HomeAndNode, PairHolds, LeavingFits, GivenFits, pair_of}
 use Rattle.crl_coherence.specs.Coherent.{IsCoherent}
 use Rattle.crl_coherence.proofs.RemoteEvents.{flush_event, appears_event}
 
@@ -16,7 +16,7 @@ unmarked : (o : Option Listing) (r : Remote) → r.here ≡ Closed → LeavingFi
 unmarked None r closed h = h
 unmarked (Some l) r closed h = (grind arith, grind arith)
 
-blank_after : (last : ℕ) (array : List ℕ) (p : Pair) → p.remote.here ≡ Closed → p.remote.asking ≡ None → IsKept last array p → IsBlank (remote_flushes p.remote).remote
+blank_after : (last : ℕ) (array : List ℕ) (p : HomeAndNode) → p.remote.here ≡ Closed → p.remote.asking ≡ None → PairHolds last array p → IsBlank (remote_flushes p.remote).remote
 unfolding remote_flushes
 blank_after last array p closed free h = go p.remote.copy refl h.given
   where

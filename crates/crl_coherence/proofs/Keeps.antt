@@ -7,8 +7,8 @@ use Rattle.crl_model.specs.declared.directory.Listing.{Listing}
 use Rattle.crl_model.specs.Names.{at_node}
 use Rattle.crl_protocol.specs.Places.{at, put, Took}
 use Rattle.crl_protocol.specs.Mail.{Return, Release}
-use Rattle.crl_protocol.specs.Home.{Home, bytes_after, is_lowered, lowered, serve, home_returned, home_released, home_ends_write}
-use Rattle.crl_protocol.specs.Remote.{Copy, Remote, written, leaves_over, lowers_over, quiet, remote_ends_write}
+use Rattle.crl_protocol.specs.Home.{Home, bytes_after, is_to_lower, shared_listing, serve, home_takes_return, home_takes_release, home_ends_write}
+use Rattle.crl_protocol.specs.Remote.{Copy, Remote, with_written, leaves_over, lowers_over, sends_nothing, remote_ends_write}
 use Rattle.crl_coherence.specs.Region.{Flying, Region, flies, IsIdle, at_home, at_remote, Happens, ask_comes, return_comes, release_comes, home_start, home_end_read, home_end_write, grant_comes, recall_comes, yield_comes, start, end_read, end_write, flush, forget, appears, carry, elsewhere}
 use Rattle.crl_coherence.specs.Coherent.{IsCoherent, MineFits, section_at}
 use Rattle.crl_coherence.proofs.Lists.{same_or}
@@ -20,22 +20,22 @@ use Rattle.crl_coherence.proofs.OwnEvents.{idle_none}
 
 -- what a return or a release opens at the home
 pub return_opens : (me : ℕ) (g : Region) (n version : ℕ) (bytes : Option (List ℕ)) (rest : List Flying) → IsCoherent me g → n ≢ me → Took (flies n (Return version bytes)) g.flight rest
-    → (home_returned me n bytes g.home).opened ≡ true → ServeOpens me g.array g.home.mine g.remotes (home_returned me n bytes g.home)
-unfolding home_returned
+    → (home_takes_return me n bytes g.home).opened ≡ true → ServeOpens me g.array g.home.mine g.remotes (home_takes_return me n bytes g.home)
+unfolding home_takes_return
 return_opens me g n version bytes rest k other took o =
     serve_opens me g.array (record g.home { bytes = bytes_after bytes g.home.bytes; listed = put n None g.home.listed }) g.home.queue g.remotes rest (return_loose me g n version bytes rest other took k) o
 
 pub release_opens : (me : ℕ) (g : Region) (n version : ℕ) (bytes : List ℕ) (rest : List Flying) → IsCoherent me g → n ≢ me → Took (flies n (Release version bytes)) g.flight rest
-    → (home_released me n version bytes g.home).opened ≡ true → ServeOpens me g.array g.home.mine g.remotes (home_released me n version bytes g.home)
-unfolding home_released
-release_opens me g n version bytes rest k other took o = go (is_lowered version (at n g.home.listed)) refl o
+    → (home_takes_release me n version bytes g.home).opened ≡ true → ServeOpens me g.array g.home.mine g.remotes (home_takes_release me n version bytes g.home)
+unfolding home_takes_release
+release_opens me g n version bytes rest k other took o = go (is_to_lower version (at n g.home.listed)) refl o
   where
-    go : (b : Bool) → is_lowered version (at n g.home.listed) ≡ b
-        → (if b then serve me (record g.home { bytes = bytes; listed = put n (Some (lowered version)) g.home.listed }) g.home.queue else record { home = g.home; posts = []; opened = false }).opened ≡ true
-        → ServeOpens me g.array g.home.mine g.remotes (if b then serve me (record g.home { bytes = bytes; listed = put n (Some (lowered version)) g.home.listed }) g.home.queue else record { home = g.home; posts = []; opened = false })
+    go : (b : Bool) → is_to_lower version (at n g.home.listed) ≡ b
+        → (if b then serve me (record g.home { bytes = bytes; listed = put n (Some (shared_listing version)) g.home.listed }) g.home.queue else record { home = g.home; posts = []; opened = false }).opened ≡ true
+        → ServeOpens me g.array g.home.mine g.remotes (if b then serve me (record g.home { bytes = bytes; listed = put n (Some (shared_listing version)) g.home.listed }) g.home.queue else record { home = g.home; posts = []; opened = false })
     go false e f = cc
     go true e f =
-        serve_opens me g.array (record g.home { bytes = bytes; listed = put n (Some (lowered version)) g.home.listed }) g.home.queue g.remotes rest (lowered_loose me g n version bytes rest other took k e) f
+        serve_opens me g.array (record g.home { bytes = bytes; listed = put n (Some (shared_listing version)) g.home.listed }) g.home.queue g.remotes rest (lowered_loose me g n version bytes rest other took k e) f
 
 -- a write section that ends is open no more
 leaves_shut : (c : Option Copy) (r : Remote) → (leaves_over c r).remote.here ≡ r.here
@@ -50,11 +50,11 @@ write_shut : (bytes : List ℕ) (r : Remote) → (remote_ends_write bytes r).rem
 unfolding remote_ends_write
 write_shut bytes r = go r.leaving r.lowering
   where
-    go : (b c : Bool) → (if b then leaves_over (written bytes r.copy) (record r { here = Closed; copy = written bytes r.copy })
-        else if c then lowers_over (written bytes r.copy) (record r { here = Closed; copy = written bytes r.copy })
-        else quiet (record r { here = Closed; copy = written bytes r.copy })).remote.here ≡ Closed
-    go true c = leaves_shut (written bytes r.copy) (record r { here = Closed; copy = written bytes r.copy })
-    go false true = lowers_shut (written bytes r.copy) (record r { here = Closed; copy = written bytes r.copy })
+    go : (b c : Bool) → (if b then leaves_over (with_written bytes r.copy) (record r { here = Closed; copy = with_written bytes r.copy })
+        else if c then lowers_over (with_written bytes r.copy) (record r { here = Closed; copy = with_written bytes r.copy })
+        else sends_nothing (record r { here = Closed; copy = with_written bytes r.copy })).remote.here ≡ Closed
+    go true c = leaves_shut (with_written bytes r.copy) (record r { here = Closed; copy = with_written bytes r.copy })
+    go false true = lowers_shut (with_written bytes r.copy) (record r { here = Closed; copy = with_written bytes r.copy })
     go false false = refl
 
 own_write_shut : (me : ℕ) (bytes : List ℕ) (h : Home) → IsIdle me h.queue → (home_ends_write me bytes h).home.mine ≡ Closed

@@ -2,7 +2,7 @@
 use Rattle.std.proofs.Common.{ℕ, zero, suc, List, [], ◌∷◌, ◌++◌, ◌≡◌, ◌≢◌, ◌⊎◌, refl, arith, sym, ap, subst, ◌∙◌, append-nil}
 use Rattle.std.specs.declared.option.Option.{Option}
 use Rattle.std.specs.declared.option.Option.TheVariants.{None, Some}
-use Rattle.crl_protocol.specs.Places.{at, put, picks, Took, here, there}
+use Rattle.crl_protocol.specs.Places.{at, put, find_all, Took, here, there}
 
 pub at-put_same : {A : Type 0} (n : ℕ) (v : Option A) (xs : List (Option A)) → at n (put n v xs) ≡ v
 at-put_same zero v [] = refl
@@ -35,16 +35,16 @@ seen-append : {B : Type 0} (o : Option B) (xs ys zs : List B) → zs ≡ xs ++ y
 seen-append None xs ys zs e = e
 seen-append (Some y) xs ys zs e = ap (λ l. y ∷ l) e
 
-pub picks-append : {A B : Type 0} (f : A → Option B) (xs ys : List A) → picks f (xs ++ ys) ≡ picks f xs ++ picks f ys
+pub picks-append : {A B : Type 0} (f : A → Option B) (xs ys : List A) → find_all f (xs ++ ys) ≡ find_all f xs ++ find_all f ys
 picks-append f [] ys = refl
-picks-append f (x ∷ xs) ys = seen-append (f x) (picks f xs) (picks f ys) (picks f (xs ++ ys)) (picks-append f xs ys)
+picks-append f (x ∷ xs) ys = seen-append (f x) (find_all f xs) (find_all f ys) (find_all f (xs ++ ys)) (picks-append f xs ys)
 
 -- what is put behind a list, that the selector takes or doesn't
-pub more_none : {A B : Type 0} (f : A → Option B) (xs : List A) (x : A) → f x ≡ None → picks f (xs ++ x ∷ []) ≡ picks f xs
-more_none f xs x e = picks-append f xs (x ∷ []) ∙ (ap (λ l. picks f xs ++ l) (picked_none (f x) [] e) ∙ append-nil (picks f xs))
+pub more_none : {A B : Type 0} (f : A → Option B) (xs : List A) (x : A) → f x ≡ None → find_all f (xs ++ x ∷ []) ≡ find_all f xs
+more_none f xs x e = picks-append f xs (x ∷ []) ∙ (ap (λ l. find_all f xs ++ l) (picked_none (f x) [] e) ∙ append-nil (find_all f xs))
 
-pub more_some : {A B : Type 0} (f : A → Option B) (xs : List A) (x : A) (y : B) → f x ≡ Some y → picks f (xs ++ x ∷ []) ≡ picks f xs ++ y ∷ []
-more_some f xs x y e = picks-append f xs (x ∷ []) ∙ ap (λ l. picks f xs ++ l) (picked_some (f x) y [] e)
+pub more_some : {A B : Type 0} (f : A → Option B) (xs : List A) (x : A) (y : B) → f x ≡ Some y → find_all f (xs ++ x ∷ []) ≡ find_all f xs ++ y ∷ []
+more_some f xs x y e = picks-append f xs (x ∷ []) ∙ ap (λ l. find_all f xs ++ l) (picked_some (f x) y [] e)
 
 -- what a selector finds when something is taken out
 took_more : {B : Type 0} (o : Option B) {y : B} {xs ys : List B} → Took y xs ys → Took y (elim o [ None ↦ xs | Some z ↦ z ∷ xs ]) (elim o [ None ↦ ys | Some z ↦ z ∷ ys ])
@@ -54,12 +54,12 @@ took_more (Some z) t = there t
 took_first : {B : Type 0} (o : Option B) (y : B) (xs : List B) → o ≡ Some y → Took y (elim o [ None ↦ xs | Some z ↦ z ∷ xs ]) xs
 took_first o y xs e = subst (λ ys. Took y ys xs) (sym (picked_some o y xs e)) here
 
-pub took_some : {A B : Type 0} (f : A → Option B) {x : A} {xs ys : List A} → Took x xs ys → (y : B) → f x ≡ Some y → Took y (picks f xs) (picks f ys)
-took_some f (here {x = x} {xs = xs}) y e = took_first (f x) y (picks f xs) e
+pub took_some : {A B : Type 0} (f : A → Option B) {x : A} {xs ys : List A} → Took x xs ys → (y : B) → f x ≡ Some y → Took y (find_all f xs) (find_all f ys)
+took_some f (here {x = x} {xs = xs}) y e = took_first (f x) y (find_all f xs) e
 took_some f (there {y = z} t) y e = took_more (f z) (took_some f t y e)
 
-pub took_none : {A B : Type 0} (f : A → Option B) {x : A} {xs ys : List A} → Took x xs ys → f x ≡ None → picks f xs ≡ picks f ys
-took_none f (here {x = x} {xs = xs}) e = picked_none (f x) (picks f xs) e
+pub took_none : {A B : Type 0} (f : A → Option B) {x : A} {xs ys : List A} → Took x xs ys → f x ≡ None → find_all f xs ≡ find_all f ys
+took_none f (here {x = x} {xs = xs}) e = picked_none (f x) (find_all f xs) e
 took_none {B = B} f (there {y = z} t) e = ap (λ (l : List B). elim (f z) [ None ↦ l | Some w ↦ w ∷ l ]) (took_none f t e)
 
 pub took_nothing : {A : Type 0} {x : A} {xs ys : List A} → Took x xs ys → xs ≡ [] → ⊥

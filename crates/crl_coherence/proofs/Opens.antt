@@ -7,12 +7,12 @@ use Rattle.crl_model.specs.declared.directory.Section.TheVariants.{Closed, Readi
 use Rattle.crl_model.specs.declared.directory.Listing.{Listing}
 use Rattle.crl_model.specs.declared.directory.Asked.{Asked}
 use Rattle.crl_model.specs.declared.message.Granted.{Granted}
-use Rattle.crl_protocol.specs.Places.{at, picks, Took}
+use Rattle.crl_protocol.specs.Places.{at, find_all, Took}
 use Rattle.crl_protocol.specs.Mail.{Grant}
-use Rattle.crl_protocol.specs.Home.{Home, blocks, is_servable, lets, is_empty, is_reading, one_more, own_ask, open_own, grant_next, grant_for, opening, posting, marked, calls, Served, serve, home_starts, home_asked}
-use Rattle.crl_protocol.specs.Remote.{Copy, Remote, starts_over, remote_starts, remote_granted}
+use Rattle.crl_protocol.specs.Home.{Home, blocks, is_servable, lets_open, is_empty, is_reading, one_section_more, own_ask, open_own, grant_next, grant_for, opens_own_section, posts_first, with_marks, recalls_and_yields, HomeStep, serve, home_starts, home_takes_ask}
+use Rattle.crl_protocol.specs.Remote.{Copy, Remote, starts_over, remote_starts, remote_takes_grant}
 use Rattle.crl_coherence.specs.Region.{Flying, Region, flies, MayStart}
-use Rattle.crl_coherence.specs.Kept.{pair_of, of_node, granted_in}
+use Rattle.crl_coherence.specs.Pairs.{pair_of, of_node, granted_in}
 use Rattle.crl_coherence.specs.Coherent.{IsLoose, IsCoherent, HeadWaits, MineFits, section_at, MayRead, MayWrite, MayOpen}
 use Rattle.crl_coherence.proofs.Lists.{same_or, took_some, took_all}
 use Rattle.crl_coherence.proofs.Calls.{clear_at}
@@ -101,7 +101,7 @@ module _ (me : ℕ) (array : List ℕ) (h : Home) (q : List Asked) (remotes : �
         own_alone : a.write ≡ true → (n : ℕ) (l : Listing) → at n h.listed ≡ Some l → ⊥
         own_alone w n l e = let c = clear_here n l e in let o = k.own in elim (same_or n me) [ inl x ↦ (let f : at me h.listed ≡ Some l = subst (λ y. at y h.listed ≡ Some l) x e in cc) | inr x ↦ grind arith ]
 
-        own_lets : (s : Section) (w : Bool) → lets s w ≡ true → (s ≢ Writing) × (w ≡ true → s ≡ Closed)
+        own_lets : (s : Section) (w : Bool) → lets_open s w ≡ true → (s ≢ Writing) × (w ≡ true → s ≡ Closed)
         own_lets Closed w e = ((λ f. cc), λ f. refl)
         own_lets (Reading c) w e = ((λ f. cc), λ f. cc)
         own_lets Writing w e = cc
@@ -154,7 +154,7 @@ grant_found n version granted = grind arith
 pub only_grant : (me : ℕ) (g : Region) (n version : ℕ) (granted : Granted) (rest : List Flying) → IsCoherent me g → n ≢ me → Took (flies n (Grant version granted)) g.flight rest
     → (pair_of g.home.listed g.home.queue g.remotes g.flight n).grants ≡ record { version = version; what = granted } ∷ []
 only_grant me g n version granted rest k other took =
-    (took_all (record { version = version; what = granted }) (picks (of_node n granted_in) g.flight) (picks (of_node n granted_in) rest)
+    (took_all (record { version = version; what = granted }) (find_all (of_node n granted_in) g.flight) (find_all (of_node n granted_in) rest)
     (took_some (of_node n granted_in) took (record { version = version; what = granted }) (grant_found n version granted))
     (grants_one g.home.last g.array (pair_of g.home.listed g.home.queue g.remotes g.flight n) (k.loose.pairs n other))).0
 
@@ -166,8 +166,8 @@ grant_opens me g n version granted rest k other took =
     (x.1, x.3, may_open me g.array g.home g.home.queue g.remotes g.flight k.loose x.1 n x.0 x.2 x.5 x.4)
 
 pub grant_shown : (me : ℕ) (g : Region) (n version : ℕ) (granted : Granted) (rest : List Flying) → IsCoherent me g → n ≢ me → Took (flies n (Grant version granted)) g.flight rest
-    → (copy : Copy) × ((remote_granted version granted (g.remotes n)).copy ≡ Some copy) × (copy.bytes ≡ g.array)
-unfolding remote_granted
+    → (copy : Copy) × ((remote_takes_grant version granted (g.remotes n)).copy ≡ Some copy) × (copy.bytes ≡ g.array)
+unfolding remote_takes_grant
 grant_shown me g n version granted rest k other took =
     grant_shows g.home.last g.array (pair_of g.home.listed g.home.queue g.remotes g.flight n) (record { version = version; what = granted }) (only_grant me g n version granted rest k other took) (k.loose.pairs n other)
 
@@ -175,8 +175,8 @@ grant_shown me g n version granted rest k other took =
 stopped_quiet : (me : ℕ) (h : Home) (a : Asked) (q : List Asked) → is_servable h a ≡ false → (serve me h (a ∷ q)).opened ≡ false
 stopped_quiet me h a q e = go (is_servable h a) e
   where
-    go : (b : Bool) → b ≡ false → (if b then (if a.node == me then opening (serve me (open_own h a) q) else posting (grant_for h a) (serve me (grant_next h a) q))
-        else record { home = record h { listed = marked 0 h.listed a; queue = a ∷ q }; posts = calls 0 h.listed a; opened = false }).opened ≡ false
+    go : (b : Bool) → b ≡ false → (if b then (if a.node == me then opens_own_section (serve me (open_own h a) q) else posts_first (grant_for h a) (serve me (grant_next h a) q))
+        else record { home = record h { listed = with_marks 0 h.listed a; queue = a ∷ q }; posts = recalls_and_yields 0 h.listed a; opened = false }).opened ≡ false
     go true e = cc
     go false e = refl
 
@@ -185,14 +185,14 @@ pub ask_quiet : (me : ℕ) (h : Home) (q : List Asked) (a : Asked) → HeadWaits
 ask_quiet me h (b ∷ q) a w other = stopped_quiet me h b (q ++ a ∷ []) w.0
 ask_quiet me h [] a w other = go (is_servable h a) (a.node == me) (grind arith)
   where
-    go : (b c : Bool) → c ≡ false → (if b then (if c then opening (serve me (open_own h a) []) else posting (grant_for h a) (serve me (grant_next h a) []))
-        else record { home = record h { listed = marked 0 h.listed a; queue = a ∷ [] }; posts = calls 0 h.listed a; opened = false }).opened ≡ false
+    go : (b c : Bool) → c ≡ false → (if b then (if c then opens_own_section (serve me (open_own h a) []) else posts_first (grant_for h a) (serve me (grant_next h a) []))
+        else record { home = record h { listed = with_marks 0 h.listed a; queue = a ∷ [] }; posts = recalls_and_yields 0 h.listed a; opened = false }).opened ≡ false
     go true true e = cc
     go true false e = refl
     go false c e = refl
 
 -- a call of the home
-abbrev pub HomeOpens : ℕ → Region → Bool → Served → Type 0
+abbrev pub HomeOpens : ℕ → Region → Bool → HomeStep → Type 0
 HomeOpens me g write s = s.opened ≡ true → MayOpen write (section_at me g) × (s.home.bytes ≡ g.array)
 
 pub home_opens : (me : ℕ) (g : Region) (write : Bool) → IsCoherent me g → HomeOpens me g write (home_starts me write g.home)
@@ -219,7 +219,7 @@ home_opens me g write k = go (not write && is_reading g.home.mine) refl (is_empt
     waits [] w e = stopped_quiet me g.home (own_ask me write) [] e
 
     go : (b : Bool) → not write && is_reading g.home.mine ≡ b → (c : Bool) → is_empty g.home.queue && is_servable g.home (own_ask me write) ≡ c
-        → HomeOpens me g write (if b then record { home = record g.home { mine = one_more g.home.mine }; posts = []; opened = true }
+        → HomeOpens me g write (if b then record { home = record g.home { mine = one_section_more g.home.mine }; posts = []; opened = true }
         else if c then record { home = open_own g.home (own_ask me write); posts = []; opened = true }
         else serve me g.home (g.home.queue ++ own_ask me write ∷ []))
     go true e c f = λ o. (subst (λ w. MayOpen w (section_at me g)) (sym (is_read e)) (home_reads me g.array g.home g.home.queue g.remotes g.flight k.loose (shared e) (reads e)), k.loose.bytes (shared e))
@@ -228,6 +228,6 @@ home_opens me g write k = go (not write && is_reading g.home.mine) refl (is_empt
     go false e false f = λ o. let w = waits g.home.queue k.head f in cc
 
 -- the ask of another node
-pub asked_quiet : (me : ℕ) (g : Region) (a : Asked) → IsCoherent me g → a.node ≢ me → (home_asked me a g.home).opened ≡ true → ⊥
-unfolding home_asked
+pub asked_quiet : (me : ℕ) (g : Region) (a : Asked) → IsCoherent me g → a.node ≢ me → (home_takes_ask me a g.home).opened ≡ true → ⊥
+unfolding home_takes_ask
 asked_quiet me g a k other o = let w = ask_quiet me g.home g.home.queue a k.head other in cc

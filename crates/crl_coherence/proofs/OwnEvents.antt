@@ -6,17 +6,17 @@ use Rattle.crl_model.specs.declared.directory.Section.{Section}
 use Rattle.crl_model.specs.declared.directory.Section.TheVariants.{Closed, Reading, Writing}
 use Rattle.crl_model.specs.declared.directory.Listing.{Listing}
 use Rattle.crl_model.specs.declared.directory.Asked.{Asked}
-use Rattle.crl_protocol.specs.Places.{at, picks}
-use Rattle.crl_protocol.specs.Home.{Home, is_clear, is_servable, lets, is_empty, is_reading, one_more, one_less, own_ask, open_own, serve, home_starts, home_ends_read, home_ends_write}
+use Rattle.crl_protocol.specs.Places.{at, find_all}
+use Rattle.crl_protocol.specs.Home.{Home, is_clear, is_servable, lets_open, is_empty, is_reading, one_section_more, one_section_less, own_ask, open_own, serve, home_starts, home_ends_read, home_ends_write}
 use Rattle.crl_coherence.specs.Region.{Region, at_home, MayStart, IsIdle}
-use Rattle.crl_coherence.specs.Kept.{pair_of, queued_of}
+use Rattle.crl_coherence.specs.Pairs.{pair_of, queued_of}
 use Rattle.crl_coherence.specs.Coherent.{IsLoose, IsCoherent, HeadWaits, MineFits, OwnAsk}
 use Rattle.crl_coherence.proofs.Mails.{mails, kept_to, kept_from, kept_at}
 use Rattle.crl_coherence.proofs.RemoteSections.{other_array}
 use Rattle.crl_coherence.proofs.Serve.{first_other, last_here, last_other, open_loose}
 use Rattle.crl_coherence.proofs.HomeEvents.{served, head_blocks_more}
 
-pub idle_none : (me : ℕ) (q : List Asked) → IsIdle me q → picks (queued_of me) q ≡ []
+pub idle_none : (me : ℕ) (q : List Asked) → IsIdle me q → find_all (queued_of me) q ≡ []
 idle_none me [] i = refl
 idle_none me (a ∷ q) i = first_other me a q i.0 ∙ idle_none me q i.1
 
@@ -28,7 +28,7 @@ mine_loose : (me : ℕ) (g : Region) (s : Section) → IsIdle me g.home.queue �
 mine_loose me g s idle fits k = record {
   pairs = k.loose.pairs;
   own = k.loose.own;
-  own_ask = own_asks_none s (picks (queued_of me) g.home.queue) (idle_none me g.home.queue idle);
+  own_ask = own_asks_none s (find_all (queued_of me) g.home.queue) (idle_none me g.home.queue idle);
   alone = k.loose.alone;
   distinct = k.loose.distinct;
   mine = λ n l e. fits l.exclusive (k.loose.mine n l e);
@@ -54,17 +54,17 @@ join_loose me g write closed idle k = record {
 }
 
 -- one read section more
-more_fits : (s : Section) (x : Bool) → is_reading s ≡ true → MineFits s x → MineFits (one_more s) x
+more_fits : (s : Section) (x : Bool) → is_reading s ≡ true → MineFits s x → MineFits (one_section_more s) x
 more_fits (Reading c) x e m = m
 more_fits Closed x e m = cc
 more_fits Writing x e m = cc
 
-more_lets : (s : Section) (w : Bool) → is_reading s ≡ true → lets (one_more s) w ≡ lets s w
+more_lets : (s : Section) (w : Bool) → is_reading s ≡ true → lets_open (one_section_more s) w ≡ lets_open s w
 more_lets (Reading c) w e = refl
 more_lets Closed w e = cc
 more_lets Writing w e = cc
 
-more_waits : (h : Home) (q : List Asked) → is_reading h.mine ≡ true → HeadWaits h q → HeadWaits (record h { mine = one_more h.mine }) q
+more_waits : (h : Home) (q : List Asked) → is_reading h.mine ≡ true → HeadWaits h q → HeadWaits (record h { mine = one_section_more h.mine }) q
 more_waits h [] e w = tt
 more_waits h (a ∷ q) e w = (ap (λ b. b && is_clear 0 h.listed a) (more_lets h.mine a.write e) ∙ w.0, w.1)
 
@@ -90,10 +90,10 @@ head_none h q e = subst (λ l. HeadWaits h l) (sym e) tt
 
 module _ (me : ℕ) (g : Region) (write : Bool) (may : MayStart write g.home.mine) (idle : IsIdle me g.home.queue) (k : IsCoherent me g)
   where
-    more_case : not write && is_reading g.home.mine ≡ true → IsCoherent me (at_home (record { home = record g.home { mine = one_more g.home.mine }; posts = []; opened = true }) g.flight g)
+    more_case : not write && is_reading g.home.mine ≡ true → IsCoherent me (at_home (record { home = record g.home { mine = one_section_more g.home.mine }; posts = []; opened = true }) g.flight g)
     more_case e = record {
-      loose = subst (λ l. IsLoose me g.array (record g.home { mine = one_more g.home.mine }) g.home.queue g.remotes l) (sym (append-nil g.flight))
-          (mine_loose me g (one_more g.home.mine) idle (λ x m. more_fits g.home.mine x (second write (is_reading g.home.mine) e) m) k);
+      loose = subst (λ l. IsLoose me g.array (record g.home { mine = one_section_more g.home.mine }) g.home.queue g.remotes l) (sym (append-nil g.flight))
+          (mine_loose me g (one_section_more g.home.mine) idle (λ x m. more_fits g.home.mine x (second write (is_reading g.home.mine) e) m) k);
       head = more_waits g.home g.home.queue (second write (is_reading g.home.mine) e) k.head;
     }
 
@@ -110,7 +110,7 @@ module _ (me : ℕ) (g : Region) (write : Bool) (may : MayStart write g.home.min
     }
 
     start_case : (b : Bool) → not write && is_reading g.home.mine ≡ b → (c : Bool) → is_empty g.home.queue && is_servable g.home (own_ask me write) ≡ c
-        → IsCoherent me (at_home (if b then record { home = record g.home { mine = one_more g.home.mine }; posts = []; opened = true }
+        → IsCoherent me (at_home (if b then record { home = record g.home { mine = one_section_more g.home.mine }; posts = []; opened = true }
         else if c then record { home = open_own g.home (own_ask me write); posts = []; opened = true }
         else serve me g.home (g.home.queue ++ own_ask me write ∷ [])) g.flight g)
     start_case true e c f = more_case e
@@ -122,7 +122,7 @@ module _ (me : ℕ) (g : Region) (write : Bool) (may : MayStart write g.home.min
     home_start_event = start_case (not write && is_reading g.home.mine) refl (is_empty g.home.queue && is_servable g.home (own_ask me write)) refl
 
 -- one read section less
-less_fits : (s : Section) (x : Bool) → MineFits s x → MineFits (one_less s) x
+less_fits : (s : Section) (x : Bool) → MineFits s x → MineFits (one_section_less s) x
 less_fits Closed x m = m
 less_fits Writing x m = m
 less_fits (Reading c) x m = go (c == 1)
@@ -134,7 +134,7 @@ less_fits (Reading c) x m = go (c == 1)
 pub home_end_read_event : (me : ℕ) (g : Region) → IsIdle me g.home.queue → IsCoherent me g → IsCoherent me (at_home (home_ends_read me g.home) g.flight g)
 unfolding home_ends_read
 home_end_read_event me g idle k =
-    served me g.array g (record g.home { mine = one_less g.home.mine }) g.home.queue g.flight (mine_loose me g (one_less g.home.mine) idle (λ x m. less_fits g.home.mine x m) k)
+    served me g.array g (record g.home { mine = one_section_less g.home.mine }) g.home.queue g.flight (mine_loose me g (one_section_less g.home.mine) idle (λ x m. less_fits g.home.mine x m) k)
 
 -- the home's write section ends, while nothing is listed
 end_write_loose : (me : ℕ) (g : Region) (bytes : List ℕ) → g.home.mine ≡ Writing → IsIdle me g.home.queue → length bytes ≡ g.home.size → IsCoherent me g
@@ -142,7 +142,7 @@ end_write_loose : (me : ℕ) (g : Region) (bytes : List ℕ) → g.home.mine ≡
 end_write_loose me g bytes writing idle sized k = record {
   pairs = λ n other. other_array g.home.last g.array bytes (pair_of g.home.listed g.home.queue g.remotes g.flight n) (none n (at n g.home.listed) refl) (sized ∙ sym k.loose.size) (k.loose.pairs n other);
   own = k.loose.own;
-  own_ask = own_asks_none Closed (picks (queued_of me) g.home.queue) (idle_none me g.home.queue idle);
+  own_ask = own_asks_none Closed (find_all (queued_of me) g.home.queue) (idle_none me g.home.queue idle);
   alone = k.loose.alone;
   distinct = k.loose.distinct;
   mine = λ n l e. tt;

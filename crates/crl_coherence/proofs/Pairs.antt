@@ -6,13 +6,13 @@ use Rattle.crl_model.specs.declared.directory.Mark.{Mark}
 use Rattle.crl_model.specs.declared.directory.Mark.TheVariants.{Plain, Recalled, Yielding}
 use Rattle.crl_model.specs.declared.directory.Listing.{Listing}
 use Rattle.crl_model.specs.declared.directory.Asked.{Asked}
-use Rattle.crl_protocol.specs.Places.{Took, here, there, picks}
+use Rattle.crl_protocol.specs.Places.{Took, here, there, find_all}
 use Rattle.crl_protocol.specs.Mail.{Mail, Recall, Yield}
-use Rattle.crl_protocol.specs.Home.{blocks, granted_to, is_called, is_lowered, is_plain, lowered, mark_for}
+use Rattle.crl_protocol.specs.Home.{blocks, grant_to, is_to_mark, is_to_lower, is_plain, shared_listing, mark_for}
 use Rattle.crl_protocol.specs.Remote.{Copy}
-use Rattle.crl_coherence.specs.Kept.{In, Given, Back, Freed, Pair, IsKept, asked_in, granted_in, recalled_in, yields_in, returned_in, released_in, Places, RecallFits, MarkFits, OlderFits, HasVersion, Distinct, Once, ReleasesFit, StandsFreed, KindFits, AreSized, limit}
+use Rattle.crl_coherence.specs.Pairs.{In, Given, Back, Freed, HomeAndNode, PairHolds, asked_in, granted_in, recalled_in, yields_in, returned_in, released_in, Places, RecallFits, MarkFits, OlderFits, HasVersion, Distinct, Once, ReleasesFit, StandsFreed, KindFits, AreSized, limit}
 
-pub raised_kept : (last : ℕ) (array : List ℕ) (p : Pair) → IsKept last array p → IsKept (last + 1) array p
+pub raised_kept : (last : ℕ) (array : List ℕ) (p : HomeAndNode) → PairHolds last array p → PairHolds (last + 1) array p
 raised_kept last array p h =
     record {
       places = h.places;
@@ -43,11 +43,11 @@ raised_kept last array p h =
 abbrev pub new_listing : ℕ → Asked → Listing
 new_listing last a = record { exclusive = a.write; version = last + 1; mark = Plain }
 
-abbrev pub served : ℕ → List ℕ → Asked → List Asked → Pair → Pair
+abbrev pub served : ℕ → List ℕ → Asked → List Asked → HomeAndNode → HomeAndNode
 served last array a rest p = record p {
   listed = Some (new_listing last a);
   pending = rest;
-  grants = p.grants ++ record { version = last + 1; what = granted_to p.listed a array } ∷ [];
+  grants = p.grants ++ record { version = last + 1; what = grant_to p.listed a array } ∷ [];
 }
 
 abbrev pub OwnFits : ℕ → Option Listing → Asked → Type 0
@@ -59,11 +59,11 @@ none_above : (array : List ℕ) (l : Listing) (c : Option Copy) (g : Bool) (x : 
 none_above array l c g x [] n = tt
 none_above array l c g x (f ∷ fs) n = (λ e. absurd (n (inl (sym e))), none_above array l c g x fs (λ i. n (inr i)))
 
-pub limit_last : (last : ℕ) (array : List ℕ) (p : Pair) → IsKept last array p → limit last p.listed ≤ last
+pub limit_last : (last : ℕ) (array : List ℕ) (p : HomeAndNode) → PairHolds last array p → limit last p.listed ≤ last
 limit_last last array p h = grind arith
 
-pub served_kept : (last : ℕ) (array : List ℕ) (n : ℕ) (a : Asked) (rest : List Asked) (p : Pair) → p.pending ≡ a ∷ rest → a.node ≡ n
-    → OwnFits n p.listed a → IsKept last array p → IsKept (last + 1) array (served last array a rest p)
+pub served_kept : (last : ℕ) (array : List ℕ) (n : ℕ) (a : Asked) (rest : List Asked) (p : HomeAndNode) → p.pending ≡ a ∷ rest → a.node ≡ n
+    → OwnFits n p.listed a → PairHolds last array p → PairHolds (last + 1) array (served last array a rest p)
 served_kept last array n a rest p e at_n own h =
     let b = limit_last last array p h in
     let r = h.recall_limit (last + 1) in
@@ -102,7 +102,7 @@ served_kept last array n a rest p e at_n own h =
     }
 
 -- a return is taken out and handled
-pub returned_kept : (last : ℕ) (array : List ℕ) (p : Pair) (b : Back) → p.returns ≡ b ∷ [] → IsKept last array p → IsKept last array (record p { listed = None; returns = [] })
+pub returned_kept : (last : ℕ) (array : List ℕ) (p : HomeAndNode) (b : Back) → p.returns ≡ b ∷ [] → PairHolds last array p → PairHolds last array (record p { listed = None; returns = [] })
 returned_kept last array p b e h =
     let u = limit_last last array p h in
     record {
@@ -149,17 +149,17 @@ sized_taken size here r = (r.1, r.0)
 sized_taken size (there t) r = let u = sized_taken size t r.1 in ((r.0, u.0), u.1)
 
 -- A release under way has the region's size, and one of the listed version the array's bytes.
-pub release_size : (last : ℕ) (array : List ℕ) (p : Pair) (f : Freed) (rest : List Freed) → Took f p.releases rest → IsKept last array p → length f.bytes ≡ length array
+pub release_size : (last : ℕ) (array : List ℕ) (p : HomeAndNode) (f : Freed) (rest : List Freed) → Took f p.releases rest → PairHolds last array p → length f.bytes ≡ length array
 release_size last array p f rest took h = (sized_taken (length array) took h.sized).1
 
-pub release_bytes : (last : ℕ) (array : List ℕ) (p : Pair) (l : Listing) (f : Freed) (rest : List Freed) → Took f p.releases rest → p.listed ≡ Some l → f.version ≡ l.version → IsKept last array p → f.bytes ≡ array
+pub release_bytes : (last : ℕ) (array : List ℕ) (p : HomeAndNode) (l : Listing) (f : Freed) (rest : List Freed) → Took f p.releases rest → p.listed ≡ Some l → f.version ≡ l.version → PairHolds last array p → f.bytes ≡ array
 release_bytes last array p l f rest took e v h =
     let m : MarkFits last array l p.recalls p.yields p.returns p.releases p.remote = subst (λ o. RecallFits last array o p.recalls p.yields p.returns p.releases p.remote) e h.recall in
     ((fits_taken array l p.remote.copy p.remote.given p.returns took m.freed).1 v).2
 
 -- a release of the listed version is taken out and handled
-pub released_kept : (last : ℕ) (array : List ℕ) (p : Pair) (l : Listing) (f : Freed) (rest : List Freed) → Took f p.releases rest → p.listed ≡ Some l → l.exclusive ≡ true → f.version ≡ l.version → IsKept last array p
-    → IsKept last array (record p { listed = Some (record { exclusive = false; version = l.version; mark = Plain }); releases = rest })
+pub released_kept : (last : ℕ) (array : List ℕ) (p : HomeAndNode) (l : Listing) (f : Freed) (rest : List Freed) → Took f p.releases rest → p.listed ≡ Some l → l.exclusive ≡ true → f.version ≡ l.version → PairHolds last array p
+    → PairHolds last array (record p { listed = Some (record { exclusive = false; version = l.version; mark = Plain }); releases = rest })
 released_kept last array p l f rest took e x v h =
     let m : MarkFits last array l p.recalls p.yields p.returns p.releases p.remote = subst (λ o. RecallFits last array o p.recalls p.yields p.returns p.releases p.remote) e h.recall in
     let u = distinct_taken took h.distinct in
@@ -205,7 +205,7 @@ left_in v (there t) n (inl e) = inl e
 left_in v (there t) n (inr i) = inr (left_in v t n i)
 
 -- a release of a version that isn't listed as exclusive is ignored
-pub stale_kept : (last : ℕ) (array : List ℕ) (p : Pair) (f : Freed) (rest : List Freed) → Took f p.releases rest → is_lowered f.version p.listed ≡ false → IsKept last array p → IsKept last array (record p { releases = rest })
+pub stale_kept : (last : ℕ) (array : List ℕ) (p : HomeAndNode) (f : Freed) (rest : List Freed) → Took f p.releases rest → is_to_lower f.version p.listed ≡ false → PairHolds last array p → PairHolds last array (record p { releases = rest })
 stale_kept last array p f rest took stale h =
     record {
       places = h.places;
@@ -232,13 +232,13 @@ stale_kept last array p f rest took stale h =
     other : (l : Listing) → l.exclusive ≡ true → (l.exclusive && l.version == f.version) ≡ false → l.version ≢ f.version
     other l e n = grind arith
 
-    kinds : (o : Option Listing) (c : Option Copy) (g : List Given) → is_lowered f.version o ≡ false → KindFits o c g p.remote.given p.releases → KindFits o c g p.remote.given rest
+    kinds : (o : Option Listing) (c : Option Copy) (g : List Given) → is_to_lower f.version o ≡ false → KindFits o c g p.remote.given p.releases → KindFits o c g p.remote.given rest
     kinds (Some l) (Some c) [] n k = elim k [ inl e ↦ inl e | inr w ↦ inr (w.0, w.1, w.2, left_in l.version took (other l w.2 n) w.3) ]
     kinds None c g n k = tt
     kinds (Some l) None g n k = tt
     kinds (Some l) (Some c) (x ∷ xs) n k = tt
 
-    go : (o : Option Listing) → is_lowered f.version o ≡ false → RecallFits last array o p.recalls p.yields p.returns p.releases p.remote → RecallFits last array o p.recalls p.yields p.returns rest p.remote
+    go : (o : Option Listing) → is_to_lower f.version o ≡ false → RecallFits last array o p.recalls p.yields p.returns p.releases p.remote → RecallFits last array o p.recalls p.yields p.returns rest p.remote
     go None n m = tt
     go (Some l) n m = record {
       least = m.least;
@@ -266,8 +266,8 @@ once_snoc [] v o n = ((λ i. elim i [ ]), tt)
 once_snoc (x ∷ xs) v o n = ((λ i. elim (in_append x xs (v ∷ []) i) [ inl j ↦ o.0 j | inr j ↦ n (inl (elim j [ inl e ↦ sym e | inr k ↦ elim k [ ] ])) ]), once_snoc xs v o.1 (λ i. n (inr i)))
 
 -- a plain copy that blocks a write is recalled
-pub recall_called : (last : ℕ) (array : List ℕ) (p : Pair) (l : Listing) → p.listed ≡ Some l → l.mark ≡ Plain → IsKept last array p
-    → IsKept last array (record p { listed = Some (record l { mark = Recalled }); recalls = p.recalls ++ l.version ∷ [] })
+pub recall_called : (last : ℕ) (array : List ℕ) (p : HomeAndNode) (l : Listing) → p.listed ≡ Some l → l.mark ≡ Plain → PairHolds last array p
+    → PairHolds last array (record p { listed = Some (record l { mark = Recalled }); recalls = p.recalls ++ l.version ∷ [] })
 recall_called last array p l e plain h =
     let m : MarkFits last array l p.recalls p.yields p.returns p.releases p.remote = subst (λ o. RecallFits last array o p.recalls p.yields p.returns p.releases p.remote) e h.recall in
     record {
@@ -313,8 +313,8 @@ recall_called last array p l e plain h =
     older (Some c) [] x pl o = tt
 
 -- a plain exclusive copy that blocks a read is asked to yield
-pub yield_called : (last : ℕ) (array : List ℕ) (p : Pair) (l : Listing) → p.listed ≡ Some l → l.mark ≡ Plain → l.exclusive ≡ true → IsKept last array p
-    → IsKept last array (record p { listed = Some (record l { mark = Yielding }); yields = p.yields ++ l.version ∷ [] })
+pub yield_called : (last : ℕ) (array : List ℕ) (p : HomeAndNode) (l : Listing) → p.listed ≡ Some l → l.mark ≡ Plain → l.exclusive ≡ true → PairHolds last array p
+    → PairHolds last array (record p { listed = Some (record l { mark = Yielding }); yields = p.yields ++ l.version ∷ [] })
 yield_called last array p l e plain exclusive h =
     let m : MarkFits last array l p.recalls p.yields p.returns p.releases p.remote = subst (λ o. RecallFits last array o p.recalls p.yields p.returns p.releases p.remote) e h.recall in
     let no_yield = (m.unyielding (λ x. cc)).1 in
@@ -356,11 +356,11 @@ yield_called last array p l e plain exclusive h =
     unfreed (f ∷ fs) r (inr i) = unfreed fs r.1 i
 
 -- a release is taken out and handled, and the copy is listed as a shared one
-pub lowered_kept : (last : ℕ) (array : List ℕ) (p : Pair) (f : Freed) (rest : List Freed) → Took f p.releases rest → is_lowered f.version p.listed ≡ true → IsKept last array p
-    → IsKept last array (record p { listed = Some (lowered f.version); releases = rest })
+pub lowered_kept : (last : ℕ) (array : List ℕ) (p : HomeAndNode) (f : Freed) (rest : List Freed) → Took f p.releases rest → is_to_lower f.version p.listed ≡ true → PairHolds last array p
+    → PairHolds last array (record p { listed = Some (shared_listing f.version); releases = rest })
 lowered_kept last array p f rest took is h = go p.listed refl is
   where
-    go : (o : Option Listing) → p.listed ≡ o → is_lowered f.version o ≡ true → IsKept last array (record p { listed = Some (lowered f.version); releases = rest })
+    go : (o : Option Listing) → p.listed ≡ o → is_to_lower f.version o ≡ true → PairHolds last array (record p { listed = Some (shared_listing f.version); releases = rest })
     go None e b = cc
     go (Some l) e b =
         let v : f.version ≡ l.version = grind arith in
@@ -370,56 +370,56 @@ lowered_kept last array p f rest took is h = go p.listed refl is
 -- what is listed of a node after the copies in the way were called, and the calls that it gets
 abbrev pub mark : ℕ → Option Listing → Asked → Option Listing
 mark m None a = None
-mark m (Some l) a = Some (if is_called m l a then record l { mark = mark_for a } else l)
+mark m (Some l) a = Some (if is_to_mark m l a then record l { mark = mark_for a } else l)
 
 abbrev pub called : ℕ → Option Listing → Asked → List Mail
 called m None a = []
-called m (Some l) a = if is_called m l a then (if a.write then Recall l.version else Yield l.version) ∷ [] else []
+called m (Some l) a = if is_to_mark m l a then (if a.write then Recall l.version else Yield l.version) ∷ [] else []
 
 -- the pair after it, where this was listed
-abbrev pub called_pair : ℕ → Option Listing → Asked → Pair → Pair
+abbrev pub called_pair : ℕ → Option Listing → Asked → HomeAndNode → HomeAndNode
 called_pair n o a p = record p {
   listed = mark n o a;
-  pending = p.pending ++ picks (asked_in n) (called n o a);
-  grants = p.grants ++ picks granted_in (called n o a);
-  recalls = p.recalls ++ picks recalled_in (called n o a);
-  yields = p.yields ++ picks yields_in (called n o a);
-  returns = p.returns ++ picks returned_in (called n o a);
-  releases = p.releases ++ picks released_in (called n o a);
+  pending = p.pending ++ find_all (asked_in n) (called n o a);
+  grants = p.grants ++ find_all granted_in (called n o a);
+  recalls = p.recalls ++ find_all recalled_in (called n o a);
+  yields = p.yields ++ find_all yields_in (called n o a);
+  returns = p.returns ++ find_all returned_in (called n o a);
+  releases = p.releases ++ find_all released_in (called n o a);
 }
 
-pub called_kept : (last n : ℕ) (array : List ℕ) (a : Asked) (o : Option Listing) (p : Pair) → p.listed ≡ o → IsKept last array p → IsKept last array (called_pair n o a p)
-called_kept last n array a None p e h = simp append-nil (subst (λ o. IsKept last array (record p { listed = o })) e h)
-called_kept last n array a (Some l) p e h = go (is_called n l a) refl
+pub called_kept : (last n : ℕ) (array : List ℕ) (a : Asked) (o : Option Listing) (p : HomeAndNode) → p.listed ≡ o → PairHolds last array p → PairHolds last array (called_pair n o a p)
+called_kept last n array a None p e h = simp append-nil (subst (λ o. PairHolds last array (record p { listed = o })) e h)
+called_kept last n array a (Some l) p e h = go (is_to_mark n l a) refl
   where
-    listed_kept : IsKept last array (record p { listed = Some l })
-    listed_kept = subst (λ o. IsKept last array (record p { listed = o })) e h
+    listed_kept : PairHolds last array (record p { listed = Some l })
+    listed_kept = subst (λ o. PairHolds last array (record p { listed = o })) e h
 
     plain : (m : Mark) → is_plain m ≡ true → m ≡ Plain
     plain Plain b = refl
     plain Recalled b = cc
     plain Yielding b = cc
 
-    calls : (b : Bool) → a.write ≡ b → l.mark ≡ Plain → (b ≡ false → l.exclusive ≡ true) → IsKept last array (record p {
+    calls : (b : Bool) → a.write ≡ b → l.mark ≡ Plain → (b ≡ false → l.exclusive ≡ true) → PairHolds last array (record p {
       listed = Some (record l { mark = if b then Recalled else Yielding });
-      pending = p.pending ++ picks (asked_in n) ((if b then Recall l.version else Yield l.version) ∷ []);
-      grants = p.grants ++ picks granted_in ((if b then Recall l.version else Yield l.version) ∷ []);
-      recalls = p.recalls ++ picks recalled_in ((if b then Recall l.version else Yield l.version) ∷ []);
-      yields = p.yields ++ picks yields_in ((if b then Recall l.version else Yield l.version) ∷ []);
-      returns = p.returns ++ picks returned_in ((if b then Recall l.version else Yield l.version) ∷ []);
-      releases = p.releases ++ picks released_in ((if b then Recall l.version else Yield l.version) ∷ []);
+      pending = p.pending ++ find_all (asked_in n) ((if b then Recall l.version else Yield l.version) ∷ []);
+      grants = p.grants ++ find_all granted_in ((if b then Recall l.version else Yield l.version) ∷ []);
+      recalls = p.recalls ++ find_all recalled_in ((if b then Recall l.version else Yield l.version) ∷ []);
+      yields = p.yields ++ find_all yields_in ((if b then Recall l.version else Yield l.version) ∷ []);
+      returns = p.returns ++ find_all returned_in ((if b then Recall l.version else Yield l.version) ∷ []);
+      releases = p.releases ++ find_all released_in ((if b then Recall l.version else Yield l.version) ∷ []);
     })
     calls true w m x = simp append-nil (recall_called last array p l e m h)
     calls false w m x = simp append-nil (yield_called last array p l e m (x refl) h)
 
-    go : (b : Bool) → is_called n l a ≡ b → IsKept last array (record p {
+    go : (b : Bool) → is_to_mark n l a ≡ b → PairHolds last array (record p {
       listed = Some (if b then record l { mark = mark_for a } else l);
-      pending = p.pending ++ picks (asked_in n) (if b then (if a.write then Recall l.version else Yield l.version) ∷ [] else []);
-      grants = p.grants ++ picks granted_in (if b then (if a.write then Recall l.version else Yield l.version) ∷ [] else []);
-      recalls = p.recalls ++ picks recalled_in (if b then (if a.write then Recall l.version else Yield l.version) ∷ [] else []);
-      yields = p.yields ++ picks yields_in (if b then (if a.write then Recall l.version else Yield l.version) ∷ [] else []);
-      returns = p.returns ++ picks returned_in (if b then (if a.write then Recall l.version else Yield l.version) ∷ [] else []);
-      releases = p.releases ++ picks released_in (if b then (if a.write then Recall l.version else Yield l.version) ∷ [] else []);
+      pending = p.pending ++ find_all (asked_in n) (if b then (if a.write then Recall l.version else Yield l.version) ∷ [] else []);
+      grants = p.grants ++ find_all granted_in (if b then (if a.write then Recall l.version else Yield l.version) ∷ [] else []);
+      recalls = p.recalls ++ find_all recalled_in (if b then (if a.write then Recall l.version else Yield l.version) ∷ [] else []);
+      yields = p.yields ++ find_all yields_in (if b then (if a.write then Recall l.version else Yield l.version) ∷ [] else []);
+      returns = p.returns ++ find_all returned_in (if b then (if a.write then Recall l.version else Yield l.version) ∷ [] else []);
+      releases = p.releases ++ find_all released_in (if b then (if a.write then Recall l.version else Yield l.version) ∷ [] else []);
     })
     go false c = simp append-nil listed_kept
     go true c = calls a.write refl (plain l.mark (grind arith)) (λ w. grind arith)

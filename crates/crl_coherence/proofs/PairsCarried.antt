@@ -5,10 +5,10 @@ use Rattle.std.specs.declared.option.Option.TheVariants.{None, Some}
 use Rattle.crl_model.specs.declared.directory.Mark.TheVariants.{Yielding}
 use Rattle.crl_model.specs.declared.directory.Listing.{Listing}
 use Rattle.crl_model.specs.declared.directory.Asked.{Asked}
-use Rattle.crl_protocol.specs.Places.{Took, here, there, picks}
+use Rattle.crl_protocol.specs.Places.{Took, here, there, find_all}
 use Rattle.crl_protocol.specs.Mail.{Mail}
 use Rattle.crl_protocol.specs.Remote.{Copy, Remote}
-use Rattle.crl_coherence.specs.Kept.{In, Given, Back, Freed, Pair, IsKept, asked_in, granted_in, recalled_in, yields_in, returned_in, released_in, RecallFits, OlderFits, KindFits, HasVersion, Distinct, Once, ReleasesFit, StandsFreed, AreSized}
+use Rattle.crl_coherence.specs.Pairs.{In, Given, Back, Freed, HomeAndNode, PairHolds, asked_in, granted_in, recalled_in, yields_in, returned_in, released_in, RecallFits, OlderFits, KindFits, HasVersion, Distinct, Once, ReleasesFit, StandsFreed, AreSized}
 use Rattle.crl_coherence.proofs.Lists.{NoTwo, moved_one, right_one, took_some, took_none}
 use Rattle.crl_coherence.proofs.Mails.{pair_at}
 use Rattle.crl_coherence.proofs.Facts.{grants_one, returns_one, pending_one}
@@ -21,11 +21,11 @@ pub data Reordered {A : Type 0} : List A → List A → Type 0 where
   same : {xs : List A} → Reordered xs xs
   moves : {x : A} {xs ys zs : List A} → Took x xs zs → Took x ys zs → Reordered xs ys
 
-pub picks_reordered : {A B : Type 0} (f : A → Option B) (m : A) (xs ys zs : List A) → Took m xs zs → Took m ys zs → Reordered (picks f xs) (picks f ys)
+pub picks_reordered : {A B : Type 0} (f : A → Option B) (m : A) (xs ys zs : List A) → Took m xs zs → Took m ys zs → Reordered (find_all f xs) (find_all f ys)
 picks_reordered {B = B} f m xs ys zs t u = go (f m) refl
   where
-    go : (o : Option B) → f m ≡ o → Reordered (picks f xs) (picks f ys)
-    go None e = subst (λ l. Reordered (picks f xs) l) (took_none f t e ∙ sym (took_none f u e)) same
+    go : (o : Option B) → f m ≡ o → Reordered (find_all f xs) (find_all f ys)
+    go None e = subst (λ l. Reordered (find_all f xs) l) (took_none f t e ∙ sym (took_none f u e)) same
     go (Some y) e = moves (took_some f t y e) (took_some f u y e)
 
 pub reordered_one : {A : Type 0} {xs ys : List A} → Reordered xs ys → NoTwo xs → xs ≡ ys
@@ -83,7 +83,7 @@ pub reordered_fits : {xs ys : List Freed} (array : List ℕ) (l : Listing) (c : 
 reordered_fits array l c g x same r = r
 reordered_fits array l c g x (moves t u) r = let w = fits_taken array l c g x t r in fits_put array l c g x u w.0 w.1
 
-pub recalls_kept : (last : ℕ) (array : List ℕ) (p : Pair) (ys : List ℕ) → Reordered p.recalls ys → IsKept last array p → IsKept last array (record p { recalls = ys })
+pub recalls_kept : (last : ℕ) (array : List ℕ) (p : HomeAndNode) (ys : List ℕ) → Reordered p.recalls ys → PairHolds last array p → PairHolds last array (record p { recalls = ys })
 recalls_kept last array p ys o h =
     record {
       places = h.places;
@@ -129,7 +129,7 @@ recalls_kept last array p ys o h =
       freed = m.freed;
     }
 
-pub yields_kept : (last : ℕ) (array : List ℕ) (p : Pair) (ys : List ℕ) → Reordered p.yields ys → IsKept last array p → IsKept last array (record p { yields = ys })
+pub yields_kept : (last : ℕ) (array : List ℕ) (p : HomeAndNode) (ys : List ℕ) → Reordered p.yields ys → PairHolds last array p → PairHolds last array (record p { yields = ys })
 yields_kept last array p ys o h =
     record {
       places = h.places;
@@ -170,7 +170,7 @@ yields_kept last array p ys o h =
       freed = m.freed;
     }
 
-pub releases_kept : (last : ℕ) (array : List ℕ) (p : Pair) (ys : List Freed) → Reordered p.releases ys → IsKept last array p → IsKept last array (record p { releases = ys })
+pub releases_kept : (last : ℕ) (array : List ℕ) (p : HomeAndNode) (ys : List Freed) → Reordered p.releases ys → PairHolds last array p → PairHolds last array (record p { releases = ys })
 releases_kept last array p ys o h =
     record {
       places = h.places;
@@ -219,22 +219,22 @@ releases_kept last array p ys o h =
 
 -- a message between the two goes to another place
 pub carried_kept : (last n : ℕ) (array : List ℕ) (listed : Option Listing) (queued : List Asked) (remote : Remote) (m : Mail) (ms ks rest : List Mail) → Took m ms rest → Took m ks rest
-    → IsKept last array (pair_at n listed queued ms remote) → IsKept last array (pair_at n listed queued ks remote)
+    → PairHolds last array (pair_at n listed queued ms remote) → PairHolds last array (pair_at n listed queued ks remote)
 carried_kept last n array listed queued remote m ms ks rest t u h =
     let p = pair_at n listed queued ms remote in
-    let a = reordered_one (picks_reordered (asked_in n) m ms ks rest t u) (right_one queued (picks (asked_in n) ms) (pending_one last array p h)) in
+    let a = reordered_one (picks_reordered (asked_in n) m ms ks rest t u) (right_one queued (find_all (asked_in n) ms) (pending_one last array p h)) in
     let b = reordered_one (picks_reordered granted_in m ms ks rest t u) (grants_one last array p h) in
     let c = reordered_one (picks_reordered returned_in m ms ks rest t u) (returns_one last array p h) in
-    let x = recalls_kept last array p (picks recalled_in ks) (picks_reordered recalled_in m ms ks rest t u) h in
-    let y = yields_kept last array (record p { recalls = picks recalled_in ks }) (picks yields_in ks) (picks_reordered yields_in m ms ks rest t u) x in
-    let z = releases_kept last array (record p { recalls = picks recalled_in ks; yields = picks yields_in ks }) (picks released_in ks) (picks_reordered released_in m ms ks rest t u) y in
-    subst (λ q. IsKept last array q) (λ i. record {
+    let x = recalls_kept last array p (find_all recalled_in ks) (picks_reordered recalled_in m ms ks rest t u) h in
+    let y = yields_kept last array (record p { recalls = find_all recalled_in ks }) (find_all yields_in ks) (picks_reordered yields_in m ms ks rest t u) x in
+    let z = releases_kept last array (record p { recalls = find_all recalled_in ks; yields = find_all yields_in ks }) (find_all released_in ks) (picks_reordered released_in m ms ks rest t u) y in
+    subst (λ q. PairHolds last array q) (λ i. record {
       listed = listed;
       pending = queued ++ a i;
       grants = b i;
-      recalls = picks recalled_in ks;
-      yields = picks yields_in ks;
+      recalls = find_all recalled_in ks;
+      yields = find_all yields_in ks;
       returns = c i;
-      releases = picks released_in ks;
+      releases = find_all released_in ks;
       remote = remote;
     }) z

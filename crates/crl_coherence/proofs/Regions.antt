@@ -8,12 +8,12 @@ use Rattle.crl_model.specs.declared.directory.Mark.{Mark}
 use Rattle.crl_model.specs.declared.directory.Mark.TheVariants.{Plain, Recalled, Yielding}
 use Rattle.crl_model.specs.declared.directory.Listing.{Listing}
 use Rattle.crl_model.specs.declared.directory.Asked.{Asked}
-use Rattle.crl_protocol.specs.Places.{at, picks}
+use Rattle.crl_protocol.specs.Places.{at, find_all}
 use Rattle.crl_protocol.specs.Home.{blocks, is_servable, mark_for}
 use Rattle.crl_protocol.specs.Remote.{Copy}
 use Rattle.crl_protocol.specs.Handlers.{is_queued}
 use Rattle.crl_coherence.specs.Region.{Region}
-use Rattle.crl_coherence.specs.Kept.{Given, IsKept, of_node, asked_in, queued_of, Freed, HasVersion}
+use Rattle.crl_coherence.specs.Pairs.{Given, PairHolds, of_node, asked_in, queued_of, Freed, HasVersion}
 use Rattle.crl_coherence.specs.Coherent.{IsCoherent, HeadWaits, HeadBlocks, MineFits, OwnAsk}
 use Rattle.crl_coherence.specs.Directory.{between, Among, ComesBack, IsForHead, ReleasedStands}
 use Rattle.crl_coherence.proofs.Fits.{queued_none}
@@ -21,10 +21,10 @@ use Rattle.crl_coherence.proofs.Lists.{picked_some}
 use Rattle.crl_coherence.proofs.Stands.{older_copy, own_returns, released_stands, released_bytes}
 
 -- the home's own ask, where it waits, is the only one, and the home has no section open
-own_stands : (me : ℕ) (s : Section) (q : List Asked) → is_queued me q ≡ true → OwnAsk s (picks (queued_of me) q) → (s ≡ Closed) × ((ask : Asked) × (picks (queued_of me) q ≡ ask ∷ []))
-own_stands me s q e o = go (picks (queued_of me) q) refl o
+own_stands : (me : ℕ) (s : Section) (q : List Asked) → is_queued me q ≡ true → OwnAsk s (find_all (queued_of me) q) → (s ≡ Closed) × ((ask : Asked) × (find_all (queued_of me) q ≡ ask ∷ []))
+own_stands me s q e o = go (find_all (queued_of me) q) refl o
   where
-    go : (xs : List Asked) → picks (queued_of me) q ≡ xs → OwnAsk s xs → (s ≡ Closed) × ((ask : Asked) × (picks (queued_of me) q ≡ ask ∷ []))
+    go : (xs : List Asked) → find_all (queued_of me) q ≡ xs → OwnAsk s xs → (s ≡ Closed) × ((ask : Asked) × (find_all (queued_of me) q ≡ ask ∷ []))
     go [] f x = let w = queued_none me q f in cc
     go (a ∷ []) f x = (x, (a, f))
     go (a ∷ b ∷ xs) f x = elim x [ ]
@@ -39,10 +39,10 @@ module _ (me : ℕ) (g : Region) (k : IsCoherent me g)
     pub other : (n : ℕ) (l : Listing) → at n g.home.listed ≡ Some l → n ≢ me
     other n l e f = let o = k.loose.own in let x : at me g.home.listed ≡ Some l = subst (λ m. at m g.home.listed ≡ Some l) f e in cc
 
-    pub kept : (n : ℕ) → n ≢ me → IsKept g.home.last g.array (between g n)
+    pub kept : (n : ℕ) → n ≢ me → PairHolds g.home.last g.array (between g n)
     kept n ne = k.loose.pairs n ne
 
-    pub kept_listed : (n : ℕ) (l : Listing) → at n g.home.listed ≡ Some l → IsKept g.home.last g.array (between g n)
+    pub kept_listed : (n : ℕ) (l : Listing) → at n g.home.listed ≡ Some l → PairHolds g.home.last g.array (between g n)
     kept_listed n l e = kept n (other n l e)
 
     -- a version is one node's
@@ -62,7 +62,7 @@ module _ (me : ℕ) (g : Region) (k : IsCoherent me g)
         let s = sender n m l ne e (among_has l.version freed (between g m).releases i v) in
         released_bytes g.home.last g.array (between g n) l freed e (subst (λ x. Among freed (between g x).releases) s i) v (kept_listed n l e)
 
-    pub own_ask : is_queued me g.home.queue ≡ true → (g.home.mine ≡ Closed) × ((ask : Asked) × (picks (queued_of me) g.home.queue ≡ ask ∷ []))
+    pub own_ask : is_queued me g.home.queue ≡ true → (g.home.mine ≡ Closed) × ((ask : Asked) × (find_all (queued_of me) g.home.queue ≡ ask ∷ []))
     own_ask e = own_stands me g.home.mine g.home.queue e k.loose.own_ask
 
     pub older_unlisted : (n m : ℕ) (grant : Given) (copy : Copy) (l : Listing) → n ≢ me → (between g n).grants ≡ grant ∷ [] → (g.remotes n).copy ≡ Some copy → at m g.home.listed ≡ Some l → l.version ≢ copy.version
@@ -117,8 +117,8 @@ module _ (me : ℕ) (g : Region) (k : IsCoherent me g)
     pub head_returns : (a : Asked) (q : List Asked) (l : Listing) → g.home.queue ≡ a ∷ q → at a.node g.home.listed ≡ Some l → blocks a.node l a ≡ true → ComesBack l.version (between g a.node)
     head_returns a q l e f b = own_returns g.home.last a.node g.array (between g a.node) a l first refl f b (head_plain a q l e f) (kept_listed a.node l f)
       where
-        one : picks (queued_of a.node) g.home.queue ≡ a ∷ picks (queued_of a.node) q
-        one = ap (λ x. picks (queued_of a.node) x) e ∙ picked_some (queued_of a.node a) a (picks (queued_of a.node) q) (grind arith)
+        one : find_all (queued_of a.node) g.home.queue ≡ a ∷ find_all (queued_of a.node) q
+        one = ap (λ x. find_all (queued_of a.node) x) e ∙ picked_some (queued_of a.node a) a (find_all (queued_of a.node) q) (grind arith)
 
         first : Among a (between g a.node).pending
-        first = subst (λ x. Among a (x ++ picks (of_node a.node (asked_in a.node)) g.flight)) (sym one) (inl refl)
+        first = subst (λ x. Among a (x ++ find_all (of_node a.node (asked_in a.node)) g.flight)) (sym one) (inl refl)

@@ -2,20 +2,20 @@
 use Rattle.std.proofs.Common.{ℕ, List, [], ◌∷◌, ◌++◌, Bool, ◌≡◌, ◌⊎◌, refl, inl, inr, append-nil}
 use Rattle.std.specs.declared.option.Option.{Option}
 use Rattle.crl_model.specs.declared.directory.Listing.{Listing}
-use Rattle.crl_protocol.specs.Places.{Took, here, there, picks}
+use Rattle.crl_protocol.specs.Places.{Took, here, there, find_all}
 use Rattle.crl_protocol.specs.Mail.{Mail, Ask, Grant, Recall, Yield, Return, Release}
-use Rattle.crl_protocol.specs.Remote.{Copy, Remote, Moved}
-use Rattle.crl_coherence.specs.Kept.{In, Back, Freed, Pair, IsKept, asked_in, granted_in, recalled_in, yields_in, returned_in, released_in, ReleasesFit, StandsFreed}
+use Rattle.crl_protocol.specs.Remote.{Copy, Remote, RemoteStep}
+use Rattle.crl_coherence.specs.Pairs.{In, Back, Freed, HomeAndNode, PairHolds, asked_in, granted_in, recalled_in, yields_in, returned_in, released_in, ReleasesFit, StandsFreed}
 
 -- the pair after a step at node n, whose mail is under way
-abbrev pub moved : ℕ → Moved → Pair → Pair
+abbrev pub moved : ℕ → RemoteStep → HomeAndNode → HomeAndNode
 moved n s p = record p {
-  pending = p.pending ++ picks (asked_in n) s.posts;
-  grants = p.grants ++ picks granted_in s.posts;
-  recalls = p.recalls ++ picks recalled_in s.posts;
-  yields = p.yields ++ picks yields_in s.posts;
-  returns = p.returns ++ picks returned_in s.posts;
-  releases = p.releases ++ picks released_in s.posts;
+  pending = p.pending ++ find_all (asked_in n) s.posts;
+  grants = p.grants ++ find_all granted_in s.posts;
+  recalls = p.recalls ++ find_all recalled_in s.posts;
+  yields = p.yields ++ find_all yields_in s.posts;
+  returns = p.returns ++ find_all returned_in s.posts;
+  releases = p.releases ++ find_all released_in s.posts;
   remote = s.remote;
 }
 
@@ -51,24 +51,24 @@ OnlyReturns (Return version bytes ∷ []) = Unit {0}
 OnlyReturns _ = ⊥
 
 -- a step without mail, and steps with a return, a release and an ask
-pub quiet_moved : (last n : ℕ) (array : List ℕ) (p : Pair) (r : Remote) (opens : Bool) → IsKept last array (record p { remote = r }) → IsKept last array (moved n (record { remote = r; posts = []; opened = opens }) p)
+pub quiet_moved : (last n : ℕ) (array : List ℕ) (p : HomeAndNode) (r : Remote) (opens : Bool) → PairHolds last array (record p { remote = r }) → PairHolds last array (moved n (record { remote = r; posts = []; opened = opens }) p)
 quiet_moved last n array p r opens h = simp append-nil h
 
-pub return_moved : (last n v : ℕ) (array : List ℕ) (p : Pair) (r : Remote) (bytes : Option (List ℕ)) (opens : Bool) → IsKept last array (record p { returns = p.returns ++ record { version = v; bytes = bytes } ∷ []; remote = r })
-    → IsKept last array (moved n (record { remote = r; posts = Return v bytes ∷ []; opened = opens }) p)
+pub return_moved : (last n v : ℕ) (array : List ℕ) (p : HomeAndNode) (r : Remote) (bytes : Option (List ℕ)) (opens : Bool) → PairHolds last array (record p { returns = p.returns ++ record { version = v; bytes = bytes } ∷ []; remote = r })
+    → PairHolds last array (moved n (record { remote = r; posts = Return v bytes ∷ []; opened = opens }) p)
 return_moved last n v array p r bytes opens h = simp append-nil h
 
-pub release_moved : (last n v : ℕ) (array : List ℕ) (p : Pair) (r : Remote) (bytes : List ℕ) (opens : Bool) → IsKept last array (record p { releases = p.releases ++ record { version = v; bytes = bytes } ∷ []; remote = r })
-    → IsKept last array (moved n (record { remote = r; posts = Release v bytes ∷ []; opened = opens }) p)
+pub release_moved : (last n v : ℕ) (array : List ℕ) (p : HomeAndNode) (r : Remote) (bytes : List ℕ) (opens : Bool) → PairHolds last array (record p { releases = p.releases ++ record { version = v; bytes = bytes } ∷ []; remote = r })
+    → PairHolds last array (moved n (record { remote = r; posts = Release v bytes ∷ []; opened = opens }) p)
 release_moved last n v array p r bytes opens h = simp append-nil h
 
-pub ask_moved : (last n have : ℕ) (array : List ℕ) (p : Pair) (r : Remote) (write opens : Bool) → IsKept last array (record p { pending = p.pending ++ record { node = n; write = write; have = have } ∷ []; remote = r })
-    → IsKept last array (moved n (record { remote = r; posts = Ask write have ∷ []; opened = opens }) p)
+pub ask_moved : (last n have : ℕ) (array : List ℕ) (p : HomeAndNode) (r : Remote) (write opens : Bool) → PairHolds last array (record p { pending = p.pending ++ record { node = n; write = write; have = have } ∷ []; remote = r })
+    → PairHolds last array (moved n (record { remote = r; posts = Ask write have ∷ []; opened = opens }) p)
 ask_moved last n have array p r write opens h = simp append-nil h
 
 -- what is left of a step that posts a return at most
-pub returns_moved : (last n : ℕ) (array : List ℕ) (p : Pair) (r : Remote) (posts : List Mail) (opens : Bool) → OnlyReturns posts → IsKept last array (record p { returns = p.returns ++ picks returned_in posts; remote = r })
-    → IsKept last array (moved n (record { remote = r; posts = posts; opened = opens }) p)
+pub returns_moved : (last n : ℕ) (array : List ℕ) (p : HomeAndNode) (r : Remote) (posts : List Mail) (opens : Bool) → OnlyReturns posts → PairHolds last array (record p { returns = p.returns ++ find_all returned_in posts; remote = r })
+    → PairHolds last array (moved n (record { remote = r; posts = posts; opened = opens }) p)
 returns_moved last n array p r [] opens only h = simp append-nil (simp append-nil at h)
 returns_moved last n array p r (Return v bytes ∷ []) opens only h = return_moved last n v array p r bytes opens h
 returns_moved last n array p r (Return v bytes ∷ m ∷ posts) opens only h = elim only [ ]

@@ -3,24 +3,24 @@ use Rattle.std.proofs.Common.{ℕ, List, ◌++◌, ◌≡◌, ◌≤◌, refl, a
 use Rattle.std.specs.declared.option.Option.{Option}
 use Rattle.std.specs.declared.option.Option.TheVariants.{None, Some}
 use Rattle.crl_model.specs.declared.directory.Listing.{Listing}
-use Rattle.crl_protocol.specs.Places.{Took, picks}
-use Rattle.crl_protocol.specs.Remote.{Copy, Remote, remote_recalled, recalled_over}
-use Rattle.crl_coherence.specs.Kept.{In, Pair, IsKept, returned_in, RecallFits, StandsFreed, limit}
+use Rattle.crl_protocol.specs.Places.{Took, find_all}
+use Rattle.crl_protocol.specs.Remote.{Copy, Remote, remote_takes_recall, recall_over}
+use Rattle.crl_coherence.specs.Pairs.{In, HomeAndNode, PairHolds, returned_in, RecallFits, StandsFreed, limit}
 use Rattle.crl_coherence.proofs.Remote.{OnlyReturns, moved, took_in, took_self, took_other, freed_moves, returns_moved}
 
 -- the pair after a recall of version v is taken out and handled
-abbrev pub recalled : ℕ → ℕ → List ℕ → Pair → Pair
-recalled n v rest p = moved n (remote_recalled v p.remote) (record p { recalls = rest })
+abbrev pub recalled : ℕ → ℕ → List ℕ → HomeAndNode → HomeAndNode
+recalled n v rest p = moved n (remote_takes_recall v p.remote) (record p { recalls = rest })
 
 -- the same, with the return that it may post
-abbrev called_back : ℕ → List ℕ → Pair → Pair
+abbrev called_back : ℕ → List ℕ → HomeAndNode → HomeAndNode
 called_back v rest p = record p {
   recalls = rest;
-  returns = p.returns ++ picks returned_in (recalled_over v p.remote.copy p.remote).posts;
-  remote = (recalled_over v p.remote.copy p.remote).remote;
+  returns = p.returns ++ find_all returned_in (recall_over v p.remote.copy p.remote).posts;
+  remote = (recall_over v p.remote.copy p.remote).remote;
 }
 
-called_back_kept : (last v : ℕ) (array : List ℕ) (p : Pair) (rest : List ℕ) → Took v p.recalls rest → IsKept last array p → IsKept last array (called_back v rest p)
+called_back_kept : (last v : ℕ) (array : List ℕ) (p : HomeAndNode) (rest : List ℕ) → Took v p.recalls rest → PairHolds last array p → PairHolds last array (called_back v rest p)
 called_back_kept last v array p rest took h =
     record {
       places = let k = i in grind arith;
@@ -68,12 +68,12 @@ called_back_kept last v array p rest took h =
       freed = freed_moves array l p.remote.copy (called_back v rest p).remote.copy p.remote.given (called_back v rest p).remote.given p.returns (called_back v rest p).returns p.releases (moves l e) m.freed;
     }
 
-pub only_returns : (v : ℕ) (c : Option Copy) (r : Remote) → OnlyReturns (recalled_over v c r).posts
+pub only_returns : (v : ℕ) (c : Option Copy) (r : Remote) → OnlyReturns (recall_over v c r).posts
 only_returns v None r = tt
 only_returns v (Some c) r = grind arith
 
-pub recall_kept : (last n v : ℕ) (array : List ℕ) (p : Pair) (rest : List ℕ) → Took v p.recalls rest → IsKept last array p → IsKept last array (recalled n v rest p)
-unfolding remote_recalled
+pub recall_kept : (last n v : ℕ) (array : List ℕ) (p : HomeAndNode) (rest : List ℕ) → Took v p.recalls rest → PairHolds last array p → PairHolds last array (recalled n v rest p)
+unfolding remote_takes_recall
 recall_kept last n v array p rest took h =
-    let s = recalled_over v p.remote.copy p.remote in
+    let s = recall_over v p.remote.copy p.remote in
     returns_moved last n array (record p { recalls = rest }) s.remote s.posts s.opened (only_returns v p.remote.copy p.remote) (called_back_kept last v array p rest took h)

@@ -7,7 +7,7 @@ use Rattle.crl_model.specs.declared.directory.Section.TheVariants.{Closed}
 use Rattle.crl_model.specs.declared.directory.Listing.{Listing}
 use Rattle.crl_protocol.specs.Places.{Took, here, there}
 use Rattle.crl_protocol.specs.Remote.{Copy, bytes_back, without_copy}
-use Rattle.crl_coherence.specs.Kept.{In, Back, Freed, Pair, IsKept, SectionFits, RecallFits, HasVersion, Distinct, Once, ReleasesFit, StandsFreed, AreSized}
+use Rattle.crl_coherence.specs.Pairs.{In, Back, Freed, HomeAndNode, PairHolds, SectionFits, RecallFits, HasVersion, Distinct, Once, ReleasesFit, StandsFreed, AreSized}
 use Rattle.crl_coherence.proofs.Remote.{took_in, took_self, freed_moves}
 
 pub has_append : (v : ℕ) (xs ys : List Freed) → HasVersion v (xs ++ ys) → HasVersion v xs ⊎ HasVersion v ys
@@ -48,16 +48,16 @@ has_new c = inl refl
 
 -- The exclusive copy becomes shared, its bytes go to the home, and of the sections s is left. rest are the yields
 -- that are left.
-abbrev pub lowered_pair : Copy → Section → List ℕ → Pair → Pair
+abbrev pub lowered_pair : Copy → Section → List ℕ → HomeAndNode → HomeAndNode
 lowered_pair c s rest p = record p {
   yields = rest;
   releases = p.releases ++ freed_by c ∷ [];
   remote = record p.remote { copy = Some (record c { exclusive = false }); given = true; lowering = false; here = s };
 }
 
-pub lower_kept : (last : ℕ) (array : List ℕ) (p : Pair) (c : Copy) (s : Section) (rest : List ℕ) → p.remote.copy ≡ Some c → c.exclusive ≡ true
+pub lower_kept : (last : ℕ) (array : List ℕ) (p : HomeAndNode) (c : Copy) (s : Section) (rest : List ℕ) → p.remote.copy ≡ Some c → c.exclusive ≡ true
     → SectionFits s (Some (record c { exclusive = false })) p.remote.asking → Once rest → (In c.version p.yields ⊎ (p.remote.lowering ≡ true))
-    → ((w : ℕ) → In w rest → In w p.yields) → ¬ In c.version rest → IsKept last array p → IsKept last array (lowered_pair c s rest p)
+    → ((w : ℕ) → In w rest → In w p.yields) → ¬ In c.version rest → PairHolds last array p → PairHolds last array (lowered_pair c s rest p)
 lower_kept last array p c s rest copy exclusive section once why fewer none h =
     record {
       places = grind arith;
@@ -103,13 +103,13 @@ lower_kept last array p c s rest copy exclusive section once why fewer none h =
     }
 
 -- The copy goes back, and of the sections none is left. It is one that was recalled, or nothing is asked.
-abbrev pub given_back : Copy → Pair → Pair
+abbrev pub given_back : Copy → HomeAndNode → HomeAndNode
 given_back c p = record p {
   returns = p.returns ++ record { version = c.version; bytes = bytes_back p.remote.given c } ∷ [];
   remote = record (without_copy p.remote) { here = Closed };
 }
 
-pub give_kept : (last : ℕ) (array : List ℕ) (p : Pair) (c : Copy) → p.remote.copy ≡ Some c → p.remote.asking ≡ None → IsKept last array p → IsKept last array (given_back c p)
+pub give_kept : (last : ℕ) (array : List ℕ) (p : HomeAndNode) (c : Copy) → p.remote.copy ≡ Some c → p.remote.asking ≡ None → PairHolds last array p → PairHolds last array (given_back c p)
 give_kept last array p c copy free h =
     record {
       places = grind arith;

@@ -6,20 +6,20 @@ use Rattle.crl_model.specs.declared.directory.Section.{Section}
 use Rattle.crl_model.specs.declared.directory.Section.TheVariants.{Closed, Reading, Writing}
 use Rattle.crl_model.specs.declared.directory.Listing.{Listing}
 use Rattle.crl_protocol.specs.Places.{Took}
-use Rattle.crl_protocol.specs.Remote.{Copy, Remote, lowers, yields_in, yields_over, remote_yields, remote_granted}
-use Rattle.crl_coherence.specs.Kept.{In, Given, Pair, IsKept, Places, SectionFits, RecallFits, StandsFreed, limit}
+use Rattle.crl_protocol.specs.Remote.{Copy, Remote, lowers, yield_in, yield_over, remote_takes_yield, remote_takes_grant}
+use Rattle.crl_coherence.specs.Pairs.{In, Given, HomeAndNode, PairHolds, Places, SectionFits, RecallFits, StandsFreed, limit}
 use Rattle.crl_coherence.proofs.Remote.{moved, took_in, took_self, took_other, freed_moves, quiet_moved, release_moved}
 use Rattle.crl_coherence.proofs.RemoteLowers.{once_took, lower_kept}
 
 -- the pair after a yield of version v is taken out and handled
-abbrev pub yielded : ℕ → ℕ → List ℕ → Pair → Pair
-yielded n v rest p = moved n (remote_yields v p.remote) (record p { yields = rest })
+abbrev pub yielded : ℕ → ℕ → List ℕ → HomeAndNode → HomeAndNode
+yielded n v rest p = moved n (remote_takes_yield v p.remote) (record p { yields = rest })
 
 -- a yield that lowers nothing
-abbrev noted : ℕ → List ℕ → Pair → Pair
-noted v rest p = record p { yields = rest; remote = (yields_over v p.remote.copy p.remote).remote }
+abbrev noted : ℕ → List ℕ → HomeAndNode → HomeAndNode
+noted v rest p = record p { yields = rest; remote = (yield_over v p.remote.copy p.remote).remote }
 
-noted_kept : (last v : ℕ) (array : List ℕ) (p : Pair) (rest : List ℕ) → Took v p.yields rest → (yields_over v p.remote.copy p.remote).posts ≡ [] → IsKept last array p → IsKept last array (noted v rest p)
+noted_kept : (last v : ℕ) (array : List ℕ) (p : HomeAndNode) (rest : List ℕ) → Took v p.yields rest → (yield_over v p.remote.copy p.remote).posts ≡ [] → PairHolds last array p → PairHolds last array (noted v rest p)
 noted_kept last v array p rest took none h =
     record {
       places = let k = i in grind arith;
@@ -69,53 +69,53 @@ noted_kept last v array p rest took none h =
 
 -- a yield finds the exclusive copy of its version, with no write section open
 abbrev pub Lowers : ℕ → Remote → Type 0
-Lowers v r = (c : Copy) × (r.copy ≡ Some c) × (c.exclusive ≡ true) × (c.version ≡ v) × (r.here ≢ Writing) × (yields_over v r.copy r ≡ lowers c r)
+Lowers v r = (c : Copy) × (r.copy ≡ Some c) × (c.exclusive ≡ true) × (c.version ≡ v) × (r.here ≢ Writing) × (yield_over v r.copy r ≡ lowers c r)
 
-in_section : (v : ℕ) (c : Copy) (r : Remote) (s : Section) → r.here ≡ s → ((yields_in s c r).posts ≡ []) ⊎ ((r.here ≢ Writing) × (yields_in s c r ≡ lowers c r))
+in_section : (v : ℕ) (c : Copy) (r : Remote) (s : Section) → r.here ≡ s → ((yield_in s c r).posts ≡ []) ⊎ ((r.here ≢ Writing) × (yield_in s c r ≡ lowers c r))
 in_section v c r Closed e = inr (λ w. grind arith, refl)
 in_section v c r (Reading k) e = inr (λ w. grind arith, refl)
 in_section v c r Writing e = inl refl
 
-pub either : (v : ℕ) (r : Remote) → ((yields_over v r.copy r).posts ≡ []) ⊎ Lowers v r
+pub either : (v : ℕ) (r : Remote) → ((yield_over v r.copy r).posts ≡ []) ⊎ Lowers v r
 either v r = go r.copy refl
   where
-    here_is : (c : Copy) (b : Bool) → ((v == c.version) && c.exclusive) ≡ b → r.copy ≡ Some c → ((yields_over v (Some c) r).posts ≡ []) ⊎ ((c.exclusive ≡ true) × (c.version ≡ v) × (r.here ≢ Writing) × (yields_over v (Some c) r ≡ lowers c r))
+    here_is : (c : Copy) (b : Bool) → ((v == c.version) && c.exclusive) ≡ b → r.copy ≡ Some c → ((yield_over v (Some c) r).posts ≡ []) ⊎ ((c.exclusive ≡ true) × (c.version ≡ v) × (r.here ≢ Writing) × (yield_over v (Some c) r ≡ lowers c r))
     here_is c true e is = elim (in_section v c r r.here refl) [ inl n ↦ inl (rw e n) | inr n ↦ inr (grind arith, grind arith, n.0, rw e n.1) ]
     here_is c false e is = inl (rw e refl)
 
-    go : (o : Option Copy) → r.copy ≡ o → ((yields_over v o r).posts ≡ []) ⊎ ((c : Copy) × (o ≡ Some c) × (c.exclusive ≡ true) × (c.version ≡ v) × (r.here ≢ Writing) × (yields_over v o r ≡ lowers c r))
+    go : (o : Option Copy) → r.copy ≡ o → ((yield_over v o r).posts ≡ []) ⊎ ((c : Copy) × (o ≡ Some c) × (c.exclusive ≡ true) × (c.version ≡ v) × (r.here ≢ Writing) × (yield_over v o r ≡ lowers c r))
     go None is = inl refl
     go (Some c) is = elim (here_is c ((v == c.version) && c.exclusive) refl is) [ inl n ↦ inl n | inr n ↦ inr (c, refl, n.0, n.1, n.2, n.3) ]
 
-pub yield_kept : (last n v : ℕ) (array : List ℕ) (p : Pair) (rest : List ℕ) → Took v p.yields rest → IsKept last array p → IsKept last array (yielded n v rest p)
-unfolding remote_yields
+pub yield_kept : (last n v : ℕ) (array : List ℕ) (p : HomeAndNode) (rest : List ℕ) → Took v p.yields rest → PairHolds last array p → PairHolds last array (yielded n v rest p)
+unfolding remote_takes_yield
 yield_kept last n v array p rest took h = elim (either v p.remote) [ inl none ↦ quiet none | inr w ↦ lowered_now w.0 w.1 w.2 w.3 w.4 w.5 ]
   where
-    quiet : (yields_over v p.remote.copy p.remote).posts ≡ [] → IsKept last array (moved n (yields_over v p.remote.copy p.remote) (record p { yields = rest }))
+    quiet : (yield_over v p.remote.copy p.remote).posts ≡ [] → PairHolds last array (moved n (yield_over v p.remote.copy p.remote) (record p { yields = rest }))
     quiet none = rw none (simp append-nil (noted_kept last v array p rest took none h))
 
     fits : {c : Copy} → p.remote.copy ≡ Some c → p.remote.here ≢ Writing → SectionFits p.remote.here (Some (record c { exclusive = false })) p.remote.asking
     fits copy reading = let k = h.section in grind arith
 
-    lowered_now : (c : Copy) → p.remote.copy ≡ Some c → c.exclusive ≡ true → c.version ≡ v → p.remote.here ≢ Writing → yields_over v p.remote.copy p.remote ≡ lowers c p.remote
-        → IsKept last array (moved n (yields_over v p.remote.copy p.remote) (record p { yields = rest }))
+    lowered_now : (c : Copy) → p.remote.copy ≡ Some c → c.exclusive ≡ true → c.version ≡ v → p.remote.here ≢ Writing → yield_over v p.remote.copy p.remote ≡ lowers c p.remote
+        → PairHolds last array (moved n (yield_over v p.remote.copy p.remote) (record p { yields = rest }))
     lowered_now c copy exclusive version reading same =
         let o = once_took took h.once in
         rw same (release_moved last n c.version array (record p { yields = rest }) (lowers c p.remote).remote c.bytes false
         (lower_kept last array p c p.remote.here rest copy exclusive (fits copy reading) o.0 (inl (rw version (took_self took))) (λ w k. took_in w took k) (rw version o.1) h))
 
 -- a grant is taken out and handled
-abbrev pub granted : ℕ → Given → Pair → Pair
-granted n g p = moved n (record { remote = remote_granted g.version g.what p.remote; posts = []; opened = true }) (record p { grants = [] })
+abbrev pub granted : ℕ → Given → HomeAndNode → HomeAndNode
+granted n g p = moved n (record { remote = remote_takes_grant g.version g.what p.remote; posts = []; opened = true }) (record p { grants = [] })
 
-granted_moves : (array : List ℕ) (p : Pair) (g : Given) (l : Listing) → p.grants ≡ g ∷ [] → p.listed ≡ Some l → Places array p.listed p.remote.copy p.grants p.returns
-    → StandsFreed array l.version p.remote.copy p.remote.given p.returns → StandsFreed array l.version (remote_granted g.version g.what p.remote).copy false p.returns
-unfolding remote_granted
+granted_moves : (array : List ℕ) (p : HomeAndNode) (g : Given) (l : Listing) → p.grants ≡ g ∷ [] → p.listed ≡ Some l → Places array p.listed p.remote.copy p.grants p.returns
+    → StandsFreed array l.version p.remote.copy p.remote.given p.returns → StandsFreed array l.version (remote_takes_grant g.version g.what p.remote).copy false p.returns
+unfolding remote_takes_grant
 granted_moves array p g l eq e places s = grind arith
 
-granted_fits : (last : ℕ) (array : List ℕ) (p : Pair) (g : Given) (o : Option Listing) → p.grants ≡ g ∷ [] → IsKept last array p → p.listed ≡ o → RecallFits last array o p.recalls p.yields p.returns p.releases p.remote
-    → RecallFits last array o p.recalls p.yields p.returns p.releases (remote_granted g.version g.what p.remote)
-unfolding remote_granted
+granted_fits : (last : ℕ) (array : List ℕ) (p : HomeAndNode) (g : Given) (o : Option Listing) → p.grants ≡ g ∷ [] → PairHolds last array p → p.listed ≡ o → RecallFits last array o p.recalls p.yields p.returns p.releases p.remote
+    → RecallFits last array o p.recalls p.yields p.returns p.releases (remote_takes_grant g.version g.what p.remote)
+unfolding remote_takes_grant
 granted_fits last array p g None eq h e m = tt
 granted_fits last array p g (Some l) eq h e m = record {
   least = m.least;
@@ -126,11 +126,11 @@ granted_fits last array p g (Some l) eq h e m = record {
   yielding = λ n. grind arith;
   released = λ n. grind arith;
   came = λ n. grind arith;
-  freed = freed_moves array l p.remote.copy (remote_granted g.version g.what p.remote).copy p.remote.given false p.returns p.returns p.releases (granted_moves array p g l eq e h.places) m.freed;
+  freed = freed_moves array l p.remote.copy (remote_takes_grant g.version g.what p.remote).copy p.remote.given false p.returns p.returns p.releases (granted_moves array p g l eq e h.places) m.freed;
 }
 
-granted_kept : (last : ℕ) (array : List ℕ) (p : Pair) (g : Given) → p.grants ≡ g ∷ [] → IsKept last array p → IsKept last array (record p { grants = []; remote = remote_granted g.version g.what p.remote })
-unfolding remote_granted
+granted_kept : (last : ℕ) (array : List ℕ) (p : HomeAndNode) (g : Given) → p.grants ≡ g ∷ [] → PairHolds last array p → PairHolds last array (record p { grants = []; remote = remote_takes_grant g.version g.what p.remote })
+unfolding remote_takes_grant
 granted_kept last array p g eq h =
     record {
       places = grind arith;
@@ -154,5 +154,5 @@ granted_kept last array p g eq h =
       sized = h.sized;
     }
 
-pub grant_kept : (last n : ℕ) (array : List ℕ) (p : Pair) (g : Given) → p.grants ≡ g ∷ [] → IsKept last array p → IsKept last array (granted n g p)
-grant_kept last n array p g eq h = quiet_moved last n array (record p { grants = [] }) (remote_granted g.version g.what p.remote) true (granted_kept last array p g eq h)
+pub grant_kept : (last n : ℕ) (array : List ℕ) (p : HomeAndNode) (g : Given) → p.grants ≡ g ∷ [] → PairHolds last array p → PairHolds last array (granted n g p)
+grant_kept last n array p g eq h = quiet_moved last n array (record p { grants = [] }) (remote_takes_grant g.version g.what p.remote) true (granted_kept last array p g eq h)

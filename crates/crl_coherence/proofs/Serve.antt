@@ -7,12 +7,12 @@ use Rattle.crl_model.specs.declared.directory.Mark.{Mark}
 use Rattle.crl_model.specs.declared.directory.Mark.TheVariants.{Plain, Recalled, Yielding}
 use Rattle.crl_model.specs.declared.directory.Listing.{Listing}
 use Rattle.crl_model.specs.declared.directory.Asked.{Asked}
-use Rattle.crl_protocol.specs.Places.{at, picks}
+use Rattle.crl_protocol.specs.Places.{at, find_all}
 use Rattle.crl_protocol.specs.Mail.{Mail, Grant}
-use Rattle.crl_protocol.specs.Home.{Home, blocks, is_servable, granted_to, open_own, grant_next, grant_for}
+use Rattle.crl_protocol.specs.Home.{Home, blocks, is_servable, grant_to, open_own, grant_next, grant_for}
 use Rattle.crl_protocol.specs.Remote.{Remote}
 use Rattle.crl_coherence.specs.Region.{Flying, sent, flies}
-use Rattle.crl_coherence.specs.Kept.{Pair, IsKept, pair_of, asked_in, granted_in, recalled_in, yields_in, returned_in, released_in, queued_of, Owns}
+use Rattle.crl_coherence.specs.Pairs.{HomeAndNode, PairHolds, pair_of, asked_in, granted_in, recalled_in, yields_in, returned_in, released_in, queued_of, Owns}
 use Rattle.crl_coherence.specs.Coherent.{IsLoose, OwnAsk}
 use Rattle.crl_coherence.proofs.Lists.{at-put_same, at-put_other, same_or, picked_none, picked_some, more_none, more_some}
 use Rattle.crl_coherence.proofs.Mails.{mail_of, mails, mail_here, mail_other, pair_at, kept_to, kept_from, kept_at, lengthened-at}
@@ -22,19 +22,19 @@ use Rattle.crl_coherence.proofs.Pairs.{raised_kept, new_listing, served, OwnFits
 use Rattle.crl_coherence.proofs.Owned.{has_granted}
 
 -- the ask at the head is served: the asker's pair
-served_at : (last n : ℕ) (array : List ℕ) (a : Asked) (o : Option Listing) (q : List Asked) (ms : List Mail) (r : Remote) → a.node ≡ n → OwnFits n o a → IsKept last array (pair_at n o (a ∷ q) ms r)
-    → IsKept (last + 1) array (pair_at n (Some (new_listing last a)) q (ms ++ Grant (last + 1) (granted_to o a array) ∷ []) r)
+served_at : (last n : ℕ) (array : List ℕ) (a : Asked) (o : Option Listing) (q : List Asked) (ms : List Mail) (r : Remote) → a.node ≡ n → OwnFits n o a → PairHolds last array (pair_at n o (a ∷ q) ms r)
+    → PairHolds (last + 1) array (pair_at n (Some (new_listing last a)) q (ms ++ Grant (last + 1) (grant_to o a array) ∷ []) r)
 served_at last n array a o q ms r at_n own k =
-    subst (λ p. IsKept (last + 1) array p) way (served_kept last array n a (q ++ picks (asked_in n) ms) (pair_at n o (a ∷ q) ms r) refl at_n own k)
+    subst (λ p. PairHolds (last + 1) array p) way (served_kept last array n a (q ++ find_all (asked_in n) ms) (pair_at n o (a ∷ q) ms r) refl at_n own k)
   where
     new : Mail
-    new = Grant (last + 1) (granted_to o a array)
+    new = Grant (last + 1) (grant_to o a array)
 
-    way : served last array a (q ++ picks (asked_in n) ms) (pair_at n o (a ∷ q) ms r) ≡ pair_at n (Some (new_listing last a)) q (ms ++ Grant (last + 1) (granted_to o a array) ∷ []) r
+    way : served last array a (q ++ find_all (asked_in n) ms) (pair_at n o (a ∷ q) ms r) ≡ pair_at n (Some (new_listing last a)) q (ms ++ Grant (last + 1) (grant_to o a array) ∷ []) r
     way = λ i. record {
       listed = Some (new_listing last a);
       pending = q ++ sym (more_none (asked_in n) ms new refl) i;
-      grants = sym (more_some granted_in ms new (record { version = last + 1; what = granted_to o a array }) refl) i;
+      grants = sym (more_some granted_in ms new (record { version = last + 1; what = grant_to o a array }) refl) i;
       recalls = sym (more_none recalled_in ms new refl) i;
       yields = sym (more_none yields_in ms new refl) i;
       returns = sym (more_none returned_in ms new refl) i;
@@ -43,13 +43,13 @@ served_at last n array a o q ms r at_n own k =
     }
 
 -- the copies in the way are called: each node's pair
-pub called_at : (last n : ℕ) (array : List ℕ) (a : Asked) (o : Option Listing) (q : List Asked) (ms : List Mail) (r : Remote) → IsKept last array (pair_at n o q ms r)
-    → IsKept last array (pair_at n (mark n o a) q (ms ++ called n o a) r)
+pub called_at : (last n : ℕ) (array : List ℕ) (a : Asked) (o : Option Listing) (q : List Asked) (ms : List Mail) (r : Remote) → PairHolds last array (pair_at n o q ms r)
+    → PairHolds last array (pair_at n (mark n o a) q (ms ++ called n o a) r)
 called_at last n array a o q ms r k =
-    subst (λ p. IsKept last array p) way (called_kept last n array a o (pair_at n o q ms r) refl k)
+    subst (λ p. PairHolds last array p) way (called_kept last n array a o (pair_at n o q ms r) refl k)
   where
     way : called_pair n o a (pair_at n o q ms r) ≡ pair_at n (mark n o a) q (ms ++ called n o a) r
-    way = ap {A = Pair} (λ p. record p { listed = mark n o a }) (lengthened-at n o q ms (called n o a) r r)
+    way = ap {A = HomeAndNode} (λ p. record p { listed = mark n o a }) (lengthened-at n o q ms (called n o a) r r)
 
 -- the ask at the head is another's, or the node's
 queued_here : (n : ℕ) (a : Asked) → a.node ≡ n → queued_of n a ≡ Some a
@@ -58,16 +58,16 @@ queued_here n a h = grind arith
 queued_other : (n : ℕ) (a : Asked) → a.node ≢ n → queued_of n a ≡ None
 queued_other n a h = grind arith
 
-pub first_here : (n : ℕ) (a : Asked) (q : List Asked) → a.node ≡ n → picks (queued_of n) (a ∷ q) ≡ a ∷ picks (queued_of n) q
-first_here n a q h = picked_some (queued_of n a) a (picks (queued_of n) q) (queued_here n a h)
+pub first_here : (n : ℕ) (a : Asked) (q : List Asked) → a.node ≡ n → find_all (queued_of n) (a ∷ q) ≡ a ∷ find_all (queued_of n) q
+first_here n a q h = picked_some (queued_of n a) a (find_all (queued_of n) q) (queued_here n a h)
 
-pub first_other : (n : ℕ) (a : Asked) (q : List Asked) → a.node ≢ n → picks (queued_of n) (a ∷ q) ≡ picks (queued_of n) q
-first_other n a q h = picked_none (queued_of n a) (picks (queued_of n) q) (queued_other n a h)
+pub first_other : (n : ℕ) (a : Asked) (q : List Asked) → a.node ≢ n → find_all (queued_of n) (a ∷ q) ≡ find_all (queued_of n) q
+first_other n a q h = picked_none (queued_of n a) (find_all (queued_of n) q) (queued_other n a h)
 
-pub last_here : (n : ℕ) (a : Asked) (q : List Asked) → a.node ≡ n → picks (queued_of n) (q ++ a ∷ []) ≡ picks (queued_of n) q ++ a ∷ []
+pub last_here : (n : ℕ) (a : Asked) (q : List Asked) → a.node ≡ n → find_all (queued_of n) (q ++ a ∷ []) ≡ find_all (queued_of n) q ++ a ∷ []
 last_here n a q h = more_some (queued_of n) q a a (queued_here n a h)
 
-pub last_other : (n : ℕ) (a : Asked) (q : List Asked) → a.node ≢ n → picks (queued_of n) (q ++ a ∷ []) ≡ picks (queued_of n) q
+pub last_other : (n : ℕ) (a : Asked) (q : List Asked) → a.node ≢ n → find_all (queued_of n) (q ++ a ∷ []) ≡ find_all (queued_of n) q
 last_other n a q h = more_none (queued_of n) q a (queued_other n a h)
 
 own_next : (s t : Section) (a : Asked) (xs : List Asked) → OwnAsk s (a ∷ xs) → OwnAsk t xs
@@ -104,24 +104,24 @@ module _ (me : ℕ) (array : List ℕ) (h : Home) (a : Asked) (q : List Asked) (
     own_fits n (Some l) e = (free n l e, unmarked n l e)
 
     after : List Flying
-    after = flight ++ flies a.node (Grant (h.last + 1) (granted_to (at a.node h.listed) a h.bytes)) ∷ []
+    after = flight ++ flies a.node (Grant (h.last + 1) (grant_to (at a.node h.listed) a h.bytes)) ∷ []
 
-    granted_here : a.node ≢ me → IsKept (h.last + 1) array (pair_of (grant_next h a).listed q remotes after a.node)
+    granted_here : a.node ≢ me → PairHolds (h.last + 1) array (pair_of (grant_next h a).listed q remotes after a.node)
     unfolding after
     granted_here other =
         kept_from (h.last + 1) array (grant_next h a).listed q remotes after a.node
         (kept_at (h.last + 1) a.node array (sym (at-put_same a.node (Some (new_listing h.last a)) h.listed)) refl
-        (ap (λ b. mails a.node flight ++ Grant (h.last + 1) (granted_to (at a.node h.listed) a b) ∷ []) (sym whole) ∙ sym (more_some (mail_of a.node) flight (flies a.node (Grant (h.last + 1) (granted_to (at a.node h.listed) a h.bytes))) (Grant (h.last + 1) (granted_to (at a.node h.listed) a h.bytes)) (mail_here a.node _)))
+        (ap (λ b. mails a.node flight ++ Grant (h.last + 1) (grant_to (at a.node h.listed) a b) ∷ []) (sym whole) ∙ sym (more_some (mail_of a.node) flight (flies a.node (Grant (h.last + 1) (grant_to (at a.node h.listed) a h.bytes))) (Grant (h.last + 1) (grant_to (at a.node h.listed) a h.bytes)) (mail_here a.node _)))
         refl
-        (served_at h.last a.node array a (at a.node h.listed) (picks (queued_of a.node) q) (mails a.node flight) (remotes a.node) refl (own_fits a.node (at a.node h.listed) refl)
+        (served_at h.last a.node array a (at a.node h.listed) (find_all (queued_of a.node) q) (mails a.node flight) (remotes a.node) refl (own_fits a.node (at a.node h.listed) refl)
         (kept_at h.last a.node array {ms = mails a.node flight} refl (first_here a.node a q refl) refl refl (kept_to h.last array h.listed (a ∷ q) remotes flight a.node (k.pairs a.node other)))))
 
-    granted_there : (n : ℕ) → a.node ≢ n → n ≢ me → IsKept (h.last + 1) array (pair_of (grant_next h a).listed q remotes after n)
+    granted_there : (n : ℕ) → a.node ≢ n → n ≢ me → PairHolds (h.last + 1) array (pair_of (grant_next h a).listed q remotes after n)
     unfolding after
     granted_there n ne other =
         kept_from (h.last + 1) array (grant_next h a).listed q remotes after n
         (kept_at (h.last + 1) n array (sym (at-put_other n a.node (Some (new_listing h.last a)) h.listed (λ e. ne (sym e)))) (first_other n a q ne)
-        (sym (more_none (mail_of n) flight (flies a.node (Grant (h.last + 1) (granted_to (at a.node h.listed) a h.bytes))) (mail_other n a.node _ ne)))
+        (sym (more_none (mail_of n) flight (flies a.node (Grant (h.last + 1) (grant_to (at a.node h.listed) a h.bytes))) (mail_other n a.node _ ne)))
         refl
         (kept_to (h.last + 1) array h.listed (a ∷ q) remotes flight n (raised_kept h.last array (pair_of h.listed (a ∷ q) remotes flight n) (k.pairs n other))))
 
@@ -142,7 +142,7 @@ module _ (me : ℕ) (array : List ℕ) (h : Home) (a : Asked) (q : List Asked) (
     owned_before : (v n : ℕ) → Owns v (pair_of (grant_next h a).listed q remotes after n) → ((n ≡ a.node) × (v ≡ h.last + 1)) ⊎ Owns v (pair_of h.listed (a ∷ q) remotes flight n)
     unfolding after
     owned_before v n (inl (l, e, f)) = elim (listed_after n l e) [ inl u ↦ inl (u.0, sym f ∙ ap (λ x. x.version) u.1) | inr u ↦ inr (inl (l, u.1, f)) ]
-    owned_before v n (inr i) = inr (inr (has_granted v n flight a.node (h.last + 1) (granted_to (at a.node h.listed) a h.bytes) i))
+    owned_before v n (inr i) = inr (inr (has_granted v n flight a.node (h.last + 1) (grant_to (at a.node h.listed) a h.bytes) i))
 
     distinct_after : (v n m : ℕ) → n ≢ me → m ≢ me → Owns v (pair_of (grant_next h a).listed q remotes after n) → Owns v (pair_of (grant_next h a).listed q remotes after m) → n ≡ m
     distinct_after v n m other more x y = elim (owned_before v n x) [
@@ -155,7 +155,7 @@ module _ (me : ℕ) (array : List ℕ) (h : Home) (a : Asked) (q : List Asked) (
     grant_loose not_me =
         record {
           pairs = λ n other. elim (same_or a.node n) [
-            | inl e ↦ subst (λ m. IsKept (h.last + 1) array (pair_of (grant_next h a).listed q remotes after m)) e (granted_here not_me)
+            | inl e ↦ subst (λ m. PairHolds (h.last + 1) array (pair_of (grant_next h a).listed q remotes after m)) e (granted_here not_me)
             | inr ne ↦ granted_there n ne other
           ];
           own = at-put_other me a.node (Some (new_listing h.last a)) h.listed (λ e. not_me (sym e)) ∙ k.own;
@@ -175,7 +175,7 @@ module _ (me : ℕ) (array : List ℕ) (h : Home) (a : Asked) (q : List Asked) (
               kept_from h.last array h.listed q remotes flight n
               (kept_at h.last n array {ms = mails n flight} refl (first_other n a q (λ e. other (sym e ∙ at_me))) refl refl (kept_to h.last array h.listed (a ∷ q) remotes flight n (k.pairs n other)));
           own = k.own;
-          own_ask = own_next h.mine (open_own h a).mine a (picks (queued_of me) q) (subst (λ l. OwnAsk h.mine l) (first_here me a q at_me) k.own_ask);
+          own_ask = own_next h.mine (open_own h a).mine a (find_all (queued_of me) q) (subst (λ l. OwnAsk h.mine l) (first_here me a q at_me) k.own_ask);
           alone = k.alone;
           distinct = k.distinct;
           mine = λ n l e. let u = shared n l e in let v = alone_writer n l e in let o = k.own in grind arith;

@@ -6,12 +6,12 @@ use Rattle.crl_model.specs.declared.directory.Section.TheVariants.{Closed, Readi
 use Rattle.crl_model.specs.declared.directory.Mark.TheVariants.{Plain}
 use Rattle.crl_model.specs.declared.directory.Listing.{Listing}
 use Rattle.crl_model.specs.declared.directory.Asked.{Asked}
-use Rattle.crl_protocol.specs.Places.{at, picks}
+use Rattle.crl_protocol.specs.Places.{at, find_all}
 use Rattle.crl_protocol.specs.Home.{Home, blocks, is_servable, mark_for, new_home}
 use Rattle.crl_protocol.specs.Remote.{Remote, new_remote}
 use Rattle.crl_protocol.specs.Sections.{is_writing}
 use Rattle.crl_coherence.specs.Region.{Flying, Region}
-use Rattle.crl_coherence.specs.Kept.{IsKept, Owns, pair_of, queued_of}
+use Rattle.crl_coherence.specs.Pairs.{PairHolds, Owns, pair_of, queued_of}
 
 -- the ask at the head is another node's, and the copy stands in its way
 abbrev pub HeadBlocks : ℕ → Listing → List Asked → Type 0
@@ -30,9 +30,9 @@ OwnAsk s (a ∷ b ∷ q) = ⊥
 
 -- What holds of a region while its queue is served: the queue is `queue`, whatever the table says.
 pub record IsLoose (me : ℕ) (array : List ℕ) (h : Home) (queue : List Asked) (remotes : ℕ → Remote) (flight : List Flying) : Type 0 where
-  pub pairs : (n : ℕ) → n ≢ me → IsKept h.last array (pair_of h.listed queue remotes flight n)
+  pub pairs : (n : ℕ) → n ≢ me → PairHolds h.last array (pair_of h.listed queue remotes flight n)
   pub own : at me h.listed ≡ None
-  pub own_ask : OwnAsk h.mine (picks (queued_of me) queue)
+  pub own_ask : OwnAsk h.mine (find_all (queued_of me) queue)
   pub alone : (n m : ℕ) (l k : Listing) → at n h.listed ≡ Some l → l.exclusive ≡ true → at m h.listed ≡ Some k → n ≡ m
   -- a version is one node's
   pub distinct : (v n m : ℕ) → n ≢ me → m ≢ me → Owns v (pair_of h.listed queue remotes flight n) → Owns v (pair_of h.listed queue remotes flight m) → n ≡ m

@@ -1,4 +1,4 @@
 pub mod Coherent
 pub mod Directory
-pub mod Kept
+pub mod Pairs
 pub mod Region

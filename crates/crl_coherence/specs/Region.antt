@@ -10,8 +10,8 @@ use Rattle.crl_model.specs.declared.message.Granted.{Granted}
 use Rattle.crl_model.specs.Names.{at_node}
 use Rattle.crl_protocol.specs.Places.{Took}
 use Rattle.crl_protocol.specs.Mail.{Mail, Ask, Grant, Recall, Yield, Return, Release, Letter}
-use Rattle.crl_protocol.specs.Home.{Home, Served, home_asked, home_returned, home_released, home_starts, home_ends_read, home_ends_write}
-use Rattle.crl_protocol.specs.Remote.{Remote, Moved, new_remote, remote_starts, remote_granted, remote_recalled, remote_yields, remote_ends_read, remote_ends_write, remote_flushes}
+use Rattle.crl_protocol.specs.Home.{Home, HomeStep, home_takes_ask, home_takes_return, home_takes_release, home_starts, home_ends_read, home_ends_write}
+use Rattle.crl_protocol.specs.Remote.{Remote, RemoteStep, new_remote, remote_starts, remote_takes_grant, remote_takes_recall, remote_takes_yield, remote_ends_read, remote_ends_write, remote_flushes}
 
 -- a message between the home and this other node
 pub record Flying : Type 0 where
@@ -32,10 +32,10 @@ abbrev pub sent_by : ℕ → List Mail → List Flying
 sent_by n posts = map (λ (m : Mail). record { node = n; mail = m }) posts
 
 -- a step at the home, and one at node n. rest is what else is under way
-abbrev pub at_home : Served → List Flying → Region → Region
+abbrev pub at_home : HomeStep → List Flying → Region → Region
 at_home s rest g = record g { home = s.home; flight = rest ++ sent s.posts }
 
-abbrev pub at_remote : ℕ → Moved → List Flying → Region → Region
+abbrev pub at_remote : ℕ → RemoteStep → List Flying → Region → Region
 at_remote n s rest g = record g { remotes = at_node g.remotes n s.remote; flight = rest ++ sent_by n s.posts }
 
 abbrev pub flies : ℕ → Mail → Flying
@@ -62,11 +62,11 @@ MayStart false Writing = ⊥
 pub data Happens (me : ℕ) : Region → Region → Type 0 where
   -- messages come, at the home
   ask_comes : {g : Region} (n : ℕ) (write : Bool) (have : ℕ) (rest : List Flying) → n ≢ me → Took (flies n (Ask write have)) g.flight rest
-      → Happens me g (at_home (home_asked me (record { node = n; write = write; have = have }) g.home) rest g)
+      → Happens me g (at_home (home_takes_ask me (record { node = n; write = write; have = have }) g.home) rest g)
   return_comes : {g : Region} (n version : ℕ) (bytes : Option (List ℕ)) (rest : List Flying) → n ≢ me → Took (flies n (Return version bytes)) g.flight rest
-      → Happens me g (at_home (home_returned me n bytes g.home) rest g)
+      → Happens me g (at_home (home_takes_return me n bytes g.home) rest g)
   release_comes : {g : Region} (n version : ℕ) (bytes : List ℕ) (rest : List Flying) → n ≢ me → Took (flies n (Release version bytes)) g.flight rest
-      → Happens me g (at_home (home_released me n version bytes g.home) rest g)
+      → Happens me g (at_home (home_takes_release me n version bytes g.home) rest g)
   -- the home's own sections start and end
   home_start : {g : Region} (write : Bool) → MayStart write g.home.mine → IsIdle me g.home.queue
       → Happens me g (at_home (home_starts me write g.home) g.flight g)
@@ -76,11 +76,11 @@ pub data Happens (me : ℕ) : Region → Region → Type 0 where
       → Happens me g (record (at_home (home_ends_write me bytes g.home) g.flight g) { array = bytes })
   -- messages come, at another node
   grant_comes : {g : Region} (n version : ℕ) (granted : Granted) (rest : List Flying) → n ≢ me → Took (flies n (Grant version granted)) g.flight rest
-      → Happens me g (at_remote n (record { remote = remote_granted version granted (g.remotes n); posts = []; opened = true }) rest g)
+      → Happens me g (at_remote n (record { remote = remote_takes_grant version granted (g.remotes n); posts = []; opened = true }) rest g)
   recall_comes : {g : Region} (n version : ℕ) (rest : List Flying) → n ≢ me → Took (flies n (Recall version)) g.flight rest
-      → Happens me g (at_remote n (remote_recalled version (g.remotes n)) rest g)
+      → Happens me g (at_remote n (remote_takes_recall version (g.remotes n)) rest g)
   yield_comes : {g : Region} (n version : ℕ) (rest : List Flying) → n ≢ me → Took (flies n (Yield version)) g.flight rest
-      → Happens me g (at_remote n (remote_yields version (g.remotes n)) rest g)
+      → Happens me g (at_remote n (remote_takes_yield version (g.remotes n)) rest g)
   -- another node's sections start and end, its copy is flushed, the name is forgotten, and mapped anew
   start : {g : Region} (n : ℕ) (write : Bool) → n ≢ me → MayStart write (g.remotes n).here → (g.remotes n).asking ≡ None → (g.remotes n).size ≡ g.home.size
       → Happens me g (at_remote n (remote_starts write (g.remotes n)) g.flight g)

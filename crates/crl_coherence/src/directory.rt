@@ -7,12 +7,12 @@ ghost use Rattle.crl_model.specs.declared.directory.Asked.{Asked};
 ghost use Rattle.crl_model.specs.declared.directory.Listing.{Listing};
 ghost use Rattle.crl_model.specs.declared.directory.Mark.TheVariants.{Plain, Recalled, Yielding};
 ghost use Rattle.crl_model.specs.declared.directory.Section.TheVariants.{Closed, Reading, Writing};
-ghost use Rattle.crl_protocol.specs.Places.{at, picks};
+ghost use Rattle.crl_protocol.specs.Places.{at, find_all};
 ghost use Rattle.crl_protocol.specs.Home.{blocks, is_servable, mark_for};
 ghost use Rattle.crl_protocol.specs.Remote.{Copy};
 ghost use Rattle.crl_protocol.specs.Handlers.{is_queued};
 ghost use Rattle.crl_coherence.specs.Region.{Region};
-ghost use Rattle.crl_coherence.specs.Kept.{Given, Back, Freed, Distinct, HasVersion, queued_of};
+ghost use Rattle.crl_coherence.specs.Pairs.{Given, Back, Freed, Distinct, HasVersion, queued_of};
 ghost use Rattle.crl_coherence.specs.Coherent.{IsCoherent};
 ghost use Rattle.crl_coherence.specs.Directory.{between, Among, AskStands, VersionStands, HasNothing, ReleasedStands, IsCalled, RecallStands, YieldStands, IsForHead, HaveStands, ComesBack, GrantShows};
 
@@ -22,7 +22,7 @@ pub fn asks_stand_once()
     ensures waits { (me : ℕ) (g : Region) (n : ℕ) (write : Bool) → IsCoherent me g → n ≢ me → (g.remotes n).asking ≡ Some write → AskStands write (between g n) }
     ensures rests { (me : ℕ) (g : Region) (n : ℕ) → IsCoherent me g → n ≢ me → (g.remotes n).asking ≡ None → ((between g n).pending ≡ []) × ((between g n).grants ≡ []) }
     ensures closed { (me : ℕ) (g : Region) (n : ℕ) → IsCoherent me g → n ≢ me → (g.remotes n).asking ≢ None → (g.remotes n).here ≡ Closed }
-    ensures home { (me : ℕ) (g : Region) → IsCoherent me g → is_queued me g.home.queue ≡ true → (g.home.mine ≡ Closed) × ((ask : Asked) × (picks (queued_of me) g.home.queue ≡ ask ∷ [])) }
+    ensures home { (me : ℕ) (g : Region) → IsCoherent me g → is_queued me g.home.queue ≡ true → (g.home.mine ≡ Closed) × ((ask : Asked) × (find_all (queued_of me) g.home.queue ≡ ask ∷ [])) }
 {}
 
 /// A listed version stands in one place: its grant is under way, or it is the node's copy, or its return is under

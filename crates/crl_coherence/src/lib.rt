@@ -13,12 +13,12 @@ ghost use Rattle.crl_model.specs.declared.directory.Section.TheVariants.{Closed,
 ghost use Rattle.crl_model.specs.declared.message.Granted.{Granted};
 ghost use Rattle.crl_protocol.specs.Places.{at, Took};
 ghost use Rattle.crl_protocol.specs.Mail.{Ask, Grant, Return, Release};
-ghost use Rattle.crl_protocol.specs.Home.{home_asked, home_returned, home_released, home_starts, takes_return, takes_release};
-ghost use Rattle.crl_protocol.specs.Remote.{Copy, remote_starts, remote_granted, takes_grant};
+ghost use Rattle.crl_protocol.specs.Home.{home_takes_ask, home_takes_return, home_takes_release, home_starts, return_fits, release_fits};
+ghost use Rattle.crl_protocol.specs.Remote.{Copy, remote_starts, remote_takes_grant, grant_fits};
 ghost use Rattle.crl_protocol.specs.Sections.{is_writing};
 ghost use Rattle.crl_protocol.specs.Handlers.{is_queued};
 ghost use Rattle.crl_coherence.specs.Region.{Flying, Region, Happens, Run, flies, MayStart, IsIdle};
-ghost use Rattle.crl_coherence.specs.Kept.{pair_of, Places};
+ghost use Rattle.crl_coherence.specs.Pairs.{pair_of, Places};
 ghost use Rattle.crl_coherence.specs.Coherent.{IsCoherent, HeadWaits, created, section_at, MayOpen};
 
 /// A region is coherent when it is created, and stays so whatever happens to it.
@@ -35,18 +35,18 @@ pub fn sections_open_rightly()
     ensures by_call { (me : ℕ) (g : Region) (n : ℕ) (write : Bool) → IsCoherent me g → n ≢ me → MayStart write (g.remotes n).here → (g.remotes n).asking ≡ None → (remote_starts write (g.remotes n)).opened ≡ true → MayOpen write (section_at me g) }
     ensures by_grant { (me : ℕ) (g : Region) (n version : ℕ) (granted : Granted) (rest : List Flying) → IsCoherent me g → n ≢ me → Took (flies n (Grant version granted)) g.flight rest → (write : Bool) × ((g.remotes n).asking ≡ Some write) × MayOpen write (section_at me g) }
     ensures at_home { (me : ℕ) (g : Region) (write : Bool) → IsCoherent me g → MayStart write g.home.mine → IsIdle me g.home.queue → (home_starts me write g.home).opened ≡ true → MayOpen write (section_at me g) }
-    ensures by_ask { (me : ℕ) (g : Region) (ask : Asked) → IsCoherent me g → ask.node ≢ me → (home_asked me ask g.home).opened ≡ false }
-    ensures by_return { (me : ℕ) (g : Region) (n version : ℕ) (bytes : Option (List ℕ)) (rest : List Flying) → IsCoherent me g → n ≢ me → Took (flies n (Return version bytes)) g.flight rest → (home_returned me n bytes g.home).opened ≡ true → (g.home.mine ≡ Closed) × MayOpen (is_writing (home_returned me n bytes g.home).home.mine) (section_at me g) }
-    ensures by_release { (me : ℕ) (g : Region) (n version : ℕ) (bytes : List ℕ) (rest : List Flying) → IsCoherent me g → n ≢ me → Took (flies n (Release version bytes)) g.flight rest → (home_released me n version bytes g.home).opened ≡ true → (g.home.mine ≡ Closed) × MayOpen (is_writing (home_released me n version bytes g.home).home.mine) (section_at me g) }
+    ensures by_ask { (me : ℕ) (g : Region) (ask : Asked) → IsCoherent me g → ask.node ≢ me → (home_takes_ask me ask g.home).opened ≡ false }
+    ensures by_return { (me : ℕ) (g : Region) (n version : ℕ) (bytes : Option (List ℕ)) (rest : List Flying) → IsCoherent me g → n ≢ me → Took (flies n (Return version bytes)) g.flight rest → (home_takes_return me n bytes g.home).opened ≡ true → (g.home.mine ≡ Closed) × MayOpen (is_writing (home_takes_return me n bytes g.home).home.mine) (section_at me g) }
+    ensures by_release { (me : ℕ) (g : Region) (n version : ℕ) (bytes : List ℕ) (rest : List Flying) → IsCoherent me g → n ≢ me → Took (flies n (Release version bytes)) g.flight rest → (home_takes_release me n version bytes g.home).opened ≡ true → (g.home.mine ≡ Closed) × MayOpen (is_writing (home_takes_release me n version bytes g.home).home.mine) (section_at me g) }
 {}
 
 /// The bytes with which a section opens are the array's.
 pub fn sections_show_the_array()
     ensures by_call { (me : ℕ) (g : Region) (n : ℕ) (write : Bool) → IsCoherent me g → n ≢ me → MayStart write (g.remotes n).here → (g.remotes n).asking ≡ None → (remote_starts write (g.remotes n)).opened ≡ true → (copy : Copy) × ((g.remotes n).copy ≡ Some copy) × (copy.bytes ≡ g.array) }
-    ensures by_grant { (me : ℕ) (g : Region) (n version : ℕ) (granted : Granted) (rest : List Flying) → IsCoherent me g → n ≢ me → Took (flies n (Grant version granted)) g.flight rest → (copy : Copy) × ((remote_granted version granted (g.remotes n)).copy ≡ Some copy) × (copy.bytes ≡ g.array) }
+    ensures by_grant { (me : ℕ) (g : Region) (n version : ℕ) (granted : Granted) (rest : List Flying) → IsCoherent me g → n ≢ me → Took (flies n (Grant version granted)) g.flight rest → (copy : Copy) × ((remote_takes_grant version granted (g.remotes n)).copy ≡ Some copy) × (copy.bytes ≡ g.array) }
     ensures at_home { (me : ℕ) (g : Region) (write : Bool) → IsCoherent me g → MayStart write g.home.mine → IsIdle me g.home.queue → (home_starts me write g.home).opened ≡ true → (home_starts me write g.home).home.bytes ≡ g.array }
-    ensures by_return { (me : ℕ) (g : Region) (n version : ℕ) (bytes : Option (List ℕ)) (rest : List Flying) → IsCoherent me g → n ≢ me → Took (flies n (Return version bytes)) g.flight rest → (home_returned me n bytes g.home).opened ≡ true → (home_returned me n bytes g.home).home.bytes ≡ g.array }
-    ensures by_release { (me : ℕ) (g : Region) (n version : ℕ) (bytes : List ℕ) (rest : List Flying) → IsCoherent me g → n ≢ me → Took (flies n (Release version bytes)) g.flight rest → (home_released me n version bytes g.home).opened ≡ true → (home_released me n version bytes g.home).home.bytes ≡ g.array }
+    ensures by_return { (me : ℕ) (g : Region) (n version : ℕ) (bytes : Option (List ℕ)) (rest : List Flying) → IsCoherent me g → n ≢ me → Took (flies n (Return version bytes)) g.flight rest → (home_takes_return me n bytes g.home).opened ≡ true → (home_takes_return me n bytes g.home).home.bytes ≡ g.array }
+    ensures by_release { (me : ℕ) (g : Region) (n version : ℕ) (bytes : List ℕ) (rest : List Flying) → IsCoherent me g → n ≢ me → Took (flies n (Release version bytes)) g.flight rest → (home_takes_release me n version bytes g.home).opened ≡ true → (home_takes_release me n version bytes g.home).home.bytes ≡ g.array }
 {}
 
 /// While a section is open the array changes only where this section, a write section, ends.
@@ -64,9 +64,9 @@ pub fn copies_stand_once()
 /// Each message that comes fits: a grant what was asked for, a return the copy that is listed, a release the
 /// region's size, and an ask is its node's only one.
 pub fn messages_fit()
-    ensures grants { (me : ℕ) (g : Region) (n version : ℕ) (granted : Granted) (rest : List Flying) → IsCoherent me g → n ≢ me → Took (flies n (Grant version granted)) g.flight rest → takes_grant granted (g.remotes n) ≡ true }
-    ensures returns { (me : ℕ) (g : Region) (n version : ℕ) (bytes : Option (List ℕ)) (rest : List Flying) → IsCoherent me g → n ≢ me → Took (flies n (Return version bytes)) g.flight rest → takes_return n version bytes g.home ≡ true }
-    ensures releases { (me : ℕ) (g : Region) (n version : ℕ) (bytes : List ℕ) (rest : List Flying) → IsCoherent me g → n ≢ me → Took (flies n (Release version bytes)) g.flight rest → takes_release bytes g.home ≡ true }
+    ensures grants { (me : ℕ) (g : Region) (n version : ℕ) (granted : Granted) (rest : List Flying) → IsCoherent me g → n ≢ me → Took (flies n (Grant version granted)) g.flight rest → grant_fits granted (g.remotes n) ≡ true }
+    ensures returns { (me : ℕ) (g : Region) (n version : ℕ) (bytes : Option (List ℕ)) (rest : List Flying) → IsCoherent me g → n ≢ me → Took (flies n (Return version bytes)) g.flight rest → return_fits n version bytes g.home ≡ true }
+    ensures releases { (me : ℕ) (g : Region) (n version : ℕ) (bytes : List ℕ) (rest : List Flying) → IsCoherent me g → n ≢ me → Took (flies n (Release version bytes)) g.flight rest → release_fits bytes g.home ≡ true }
     ensures asks { (me : ℕ) (g : Region) (n : ℕ) (write : Bool) (have : ℕ) (rest : List Flying) → IsCoherent me g → n ≢ me → Took (flies n (Ask write have)) g.flight rest → is_queued n g.home.queue ≡ false }
 {}
 

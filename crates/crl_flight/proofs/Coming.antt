@@ -6,7 +6,7 @@ use Rattle.crl_protocol.specs.Places.{Took, here, there}
 use Rattle.crl_pieces.specs.Pieces.{count, piece_size, cut, join, is_missing, with_piece, is_complete, joined, Cell, parts_of, slots, left_from, has_come, comes_at}
 use Rattle.crl_pieces.proofs.Cut.{join_cut, length_cut, cut_sizes, HaveSizes}
 use Rattle.crl_pieces.proofs.Cells.{length_cells, slots_none, complete_joins, complete_left, left_complete, parts_came, part_at, slots_came, came_one}
-use Rattle.crl_protocol.specs.Parcels.{Piece, load_of, with_load, piece_of, Key, key_eq, key_of, Gathered, slots_or}
+use Rattle.crl_protocol.specs.Parcels.{Piece, load_of, with_load, piece_of, Key, key_eq, key_of, PartsGathered, slots_or}
 use Rattle.crl_protocol.specs.Receiving.{slots_with}
 use Rattle.crl_flight.specs.Flight.{Moves, still, Under, left_of, lefts, entry_of, is_key, is_at, entry_in, IsUnder, IsFlight, messages_of}
 use Rattle.crl_flight.specs.Coming.{NotAt, Alone, put_at, IsNext, PieceComes, plain, last, gathers}
@@ -84,7 +84,7 @@ cut_none : cut [] ≡ [] ∷ []
 unfolding cut
 cut_none = refl
 
-piece_plain : (us others : List Under) (boxes rest : List Piece) (gathered : ℕ → Gathered) (u : Under) (place : ℕ) → IsFlight us boxes gathered → Places us others u place rest → key_of u.message ≡ None
+piece_plain : (us others : List Under) (boxes rest : List Piece) (gathered : ℕ → PartsGathered) (u : Under) (place : ℕ) → IsFlight us boxes gathered → Places us others u place rest → key_of u.message ≡ None
     → PieceComes us rest gathered (the_piece u place)
 piece_plain us others boxes rest gathered u place f x none =
     plain u others x.took (key_kept u.message.sender part u.message.kind ∙ none) (ap (λ k. record { sender = u.message.sender; addressee = u.message.addressee; kind = k }) same.1) (record {
@@ -108,7 +108,7 @@ piece_plain us others boxes rest gathered u place f x none =
     not_at : (i : ℕ) (k : Key) → is_at i k u ≡ false
     not_at i k = let e : is_key k (key_of u.message) ≡ false = ap (λ o. is_key k o) none in grind arith
 
-piece_last : (us others : List Under) (boxes rest : List Piece) (gathered : ℕ → Gathered) (u : Under) (place : ℕ) (key : Key) → IsFlight us boxes gathered → Places us others u place rest
+piece_last : (us others : List Under) (boxes rest : List Piece) (gathered : ℕ → PartsGathered) (u : Under) (place : ℕ) (key : Key) → IsFlight us boxes gathered → Places us others u place rest
     → NotAt u.message.addressee key others → key_of u.message ≡ Some key → (b : Bool) → is_complete (slots (comes_at place u.cells)) ≡ b → PieceComes us rest gathered (the_piece u place)
 piece_last us others boxes rest gathered u place key f x alone e = go
   where
@@ -196,7 +196,7 @@ piece_last us others boxes rest gathered u place key f x alone e = go
       came = λ i k. ap (λ s. put_at gathered u.message.addressee key (Some s) i k) after ∙ kept i k;
     })
 
-piece_comes : (us others : List Under) (boxes rest : List Piece) (gathered : ℕ → Gathered) (u : Under) (place : ℕ) → IsFlight us boxes gathered → Alone us → Places us others u place rest
+piece_comes : (us others : List Under) (boxes rest : List Piece) (gathered : ℕ → PartsGathered) (u : Under) (place : ℕ) → IsFlight us boxes gathered → Alone us → Places us others u place rest
     → PieceComes us rest gathered (the_piece u place)
 piece_comes us others boxes rest gathered u place f alone x = go (key_of u.message) refl
   where
@@ -204,7 +204,7 @@ piece_comes us others boxes rest gathered u place f alone x = go (key_of u.messa
     go None e = piece_plain us others boxes rest gathered u place f x e
     go (Some key) e = piece_last us others boxes rest gathered u place key f x (alone u others x.took key e) e (is_complete (slots (comes_at place u.cells))) refl
 
-pub comes : (us : List Under) (boxes rest : List Piece) (gathered : ℕ → Gathered) (p : Piece) → IsFlight us boxes gathered → Alone us → Took p boxes rest → PieceComes us rest gathered p
+pub comes : (us : List Under) (boxes rest : List Piece) (gathered : ℕ → PartsGathered) (p : Piece) → IsFlight us boxes gathered → Alone us → Took p boxes rest → PieceComes us rest gathered p
 comes us boxes rest gathered p f alone t =
     let e = took_moved f.boxed p rest t in
     let d = finds us p e.left e.took in

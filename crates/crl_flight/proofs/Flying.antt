@@ -7,7 +7,7 @@ use Rattle.crl_protocol.specs.Places.{Took, here, there}
 use Rattle.crl_pieces.specs.Pieces.{cut, nothing_came, is_complete, fresh, left_from, has_come}
 use Rattle.crl_pieces.proofs.Cut.{length_cut}
 use Rattle.crl_pieces.proofs.Cells.{parts_fresh, slots_fresh, fresh_came, left_complete}
-use Rattle.crl_protocol.specs.Parcels.{Piece, load_of, piece_of, pieces_of, pieces_in, Key, Gathered}
+use Rattle.crl_protocol.specs.Parcels.{Piece, load_of, piece_of, pieces_of, pieces_in, Key, PartsGathered}
 use Rattle.crl_flight.specs.Flight.{Moves, still, Under, posted, left_of, lefts, entry_of, is_at, entry_in, IsUnder, IsFlight, messages_of}
 use Rattle.crl_flight.proofs.Orders.{moves_then, moves_behind, moves_before, moves_round, moves_none, OfTwo, in_first, in_second, of_two}
 
@@ -84,7 +84,7 @@ entry_more : (i : ℕ) (k : Key) (us : List Under) (ms : List Message) → entry
 entry_more i k [] ms = sym (entries_posted i k ms)
 entry_more i k (u ∷ us) ms = ap (λ x. if is_at i k u then entry_of u.cells else x) (entry_more i k us ms)
 
-pub posts_fly : (us : List Under) (boxes after : List Piece) (gathered : ℕ → Gathered) (ms : List Message) → IsFlight us boxes gathered → Moves (boxes ++ pieces_in ms) after
+pub posts_fly : (us : List Under) (boxes after : List Piece) (gathered : ℕ → PartsGathered) (ms : List Message) → IsFlight us boxes gathered → Moves (boxes ++ pieces_in ms) after
     → IsFlight (us ++ map posted ms) after gathered
 posts_fly us boxes after gathered ms f m = record {
   boxed = subst (λ l. Moves l after) (sym (lefts_append us (map posted ms) ∙ ap (λ l. lefts us ++ l) (lefts_posted ms))) (moves_then (moves_before (pieces_in ms) f.boxed) m);
@@ -98,15 +98,15 @@ messages_posted [] (m ∷ ms) = ap (λ l. m ∷ l) (messages_posted [] ms)
 messages_posted (u ∷ us) ms = ap (λ l. u.message ∷ l) (messages_posted us ms)
 
 -- the gatherings said otherwise
-pub flight_as : (us : List Under) (boxes : List Piece) (gathered as_now : ℕ → Gathered) → ((i : ℕ) (k : Key) → as_now i k ≡ gathered i k) → IsFlight us boxes gathered → IsFlight us boxes as_now
+pub flight_as : (us : List Under) (boxes : List Piece) (gathered as_now : ℕ → PartsGathered) → ((i : ℕ) (k : Key) → as_now i k ≡ gathered i k) → IsFlight us boxes gathered → IsFlight us boxes as_now
 flight_as us boxes gathered as_now e f = record { boxed = f.boxed; each = f.each; came = λ i k. e i k ∙ f.came i k }
 
 -- Pieces are carried.
-pub carried_fly : (us : List Under) (boxes after : List Piece) (gathered : ℕ → Gathered) → IsFlight us boxes gathered → Moves boxes after → IsFlight us after gathered
+pub carried_fly : (us : List Under) (boxes after : List Piece) (gathered : ℕ → PartsGathered) → IsFlight us boxes gathered → Moves boxes after → IsFlight us after gathered
 carried_fly us boxes after gathered f m = record { boxed = moves_then f.boxed m; each = f.each; came = f.came }
 
 -- Nothing is under way exactly where no piece is in a box.
-pub none_boxed : (us : List Under) (gathered : ℕ → Gathered) → IsFlight us [] gathered → us ≡ []
+pub none_boxed : (us : List Under) (gathered : ℕ → PartsGathered) → IsFlight us [] gathered → us ≡ []
 none_boxed us gathered f = go us f.each (moves_none f.boxed refl)
   where
     first_none : {A : Type 0} (xs ys : List A) → xs ++ ys ≡ [] → xs ≡ []

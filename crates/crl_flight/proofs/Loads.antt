@@ -5,15 +5,15 @@ use Rattle.crl_model.specs.declared.message.Granted.{Granted}
 use Rattle.crl_model.specs.declared.message.Granted.TheVariants.{Shared, Exclusive, Upgrade}
 use Rattle.crl_model.specs.declared.message.Kind.{Kind}
 use Rattle.crl_model.specs.declared.message.Kind.TheVariants as kind
-use Rattle.crl_protocol.specs.Parcels.{granted_load, returned_load, load_of, regranted, rereturned, with_load, Load, OfGrant, OfReturn, OfRelease, load_eq, Key, key_eq, granted_key, returned_key, key_in}
+use Rattle.crl_protocol.specs.Parcels.{load_of_grant, load_of_return, load_of, grant_with, return_with, with_load, Load, OfGrant, OfReturn, OfRelease, load_eq, Key, key_eq, key_of_grant, key_of_return, key_in}
 
 -- with its own bytes it is the whole
-regranted_whole : (part : List ℕ) (g : Granted) → regranted (granted_load g) (regranted part g) ≡ g
+regranted_whole : (part : List ℕ) (g : Granted) → grant_with (load_of_grant g) (grant_with part g) ≡ g
 regranted_whole part (Shared bytes) = refl
 regranted_whole part (Exclusive bytes) = refl
 regranted_whole part Upgrade = refl
 
-rereturned_whole : (part : List ℕ) (b : Option (List ℕ)) → rereturned (returned_load b) (rereturned part b) ≡ b
+rereturned_whole : (part : List ℕ) (b : Option (List ℕ)) → return_with (load_of_return b) (return_with part b) ≡ b
 rereturned_whole part None = refl
 rereturned_whole part (Some bytes) = refl
 
@@ -34,12 +34,12 @@ whole_again part (kind.Come round p) = refl
 whole_again part (kind.Result round fold) = refl
 
 -- a piece has its message's key
-regranted_key : (s : ℕ) (name : Name) (version : ℕ) (part : List ℕ) (g : Granted) → granted_key s name version (regranted part g) ≡ granted_key s name version g
+regranted_key : (s : ℕ) (name : Name) (version : ℕ) (part : List ℕ) (g : Granted) → key_of_grant s name version (grant_with part g) ≡ key_of_grant s name version g
 regranted_key s name version part (Shared bytes) = refl
 regranted_key s name version part (Exclusive bytes) = refl
 regranted_key s name version part Upgrade = refl
 
-rereturned_key : (s : ℕ) (name : Name) (version : ℕ) (part : List ℕ) (b : Option (List ℕ)) → returned_key s name version (rereturned part b) ≡ returned_key s name version b
+rereturned_key : (s : ℕ) (name : Name) (version : ℕ) (part : List ℕ) (b : Option (List ℕ)) → key_of_return s name version (return_with part b) ≡ key_of_return s name version b
 rereturned_key s name version part None = refl
 rereturned_key s name version part (Some bytes) = refl
 
@@ -60,12 +60,12 @@ key_kept s part (kind.Come round p) = refl
 key_kept s part (kind.Result round fold) = refl
 
 -- a piece of a message with bytes has the part
-regranted_load : (s : ℕ) (name : Name) (version : ℕ) (part : List ℕ) (g : Granted) (key : Key) → granted_key s name version g ≡ Some key → granted_load (regranted part g) ≡ part
+regranted_load : (s : ℕ) (name : Name) (version : ℕ) (part : List ℕ) (g : Granted) (key : Key) → key_of_grant s name version g ≡ Some key → load_of_grant (grant_with part g) ≡ part
 regranted_load s name version part (Shared bytes) key e = refl
 regranted_load s name version part (Exclusive bytes) key e = refl
 regranted_load s name version part Upgrade key e = cc
 
-rereturned_load : (s : ℕ) (name : Name) (version : ℕ) (part : List ℕ) (b : Option (List ℕ)) (key : Key) → returned_key s name version b ≡ Some key → returned_load (rereturned part b) ≡ part
+rereturned_load : (s : ℕ) (name : Name) (version : ℕ) (part : List ℕ) (b : Option (List ℕ)) (key : Key) → key_of_return s name version b ≡ Some key → load_of_return (return_with part b) ≡ part
 rereturned_load s name version part None key e = cc
 rereturned_load s name version part (Some bytes) key e = refl
 
@@ -86,12 +86,12 @@ load_is s part (kind.Come round p) key e = cc
 load_is s part (kind.Result round fold) key e = cc
 
 -- a message without a key has no bytes, and its piece is the message
-regranted_none : (s : ℕ) (name : Name) (version : ℕ) (part : List ℕ) (g : Granted) → granted_key s name version g ≡ None → (granted_load g ≡ []) × (regranted part g ≡ g)
+regranted_none : (s : ℕ) (name : Name) (version : ℕ) (part : List ℕ) (g : Granted) → key_of_grant s name version g ≡ None → (load_of_grant g ≡ []) × (grant_with part g ≡ g)
 regranted_none s name version part (Shared bytes) e = cc
 regranted_none s name version part (Exclusive bytes) e = cc
 regranted_none s name version part Upgrade e = (refl, refl)
 
-rereturned_none : (s : ℕ) (name : Name) (version : ℕ) (part : List ℕ) (b : Option (List ℕ)) → returned_key s name version b ≡ None → (returned_load b ≡ []) × (rereturned part b ≡ b)
+rereturned_none : (s : ℕ) (name : Name) (version : ℕ) (part : List ℕ) (b : Option (List ℕ)) → key_of_return s name version b ≡ None → (load_of_return b ≡ []) × (return_with part b ≡ b)
 rereturned_none s name version part None e = (refl, refl)
 rereturned_none s name version part (Some bytes) e = cc
 

@@ -5,7 +5,7 @@ use Rattle.crl_model.specs.declared.message.Message.{Message}
 use Rattle.crl_model.specs.declared.message.Kind.{Kind}
 use Rattle.crl_model.specs.declared.message.Kind.TheVariants as kind
 use Rattle.crl_pieces.specs.Pieces.{cut, Cell, parts_of, left_from}
-use Rattle.crl_protocol.specs.Parcels.{Piece, regranted, rereturned, load_of, piece_of, Gathered}
+use Rattle.crl_protocol.specs.Parcels.{Piece, grant_with, return_with, load_of, piece_of, PartsGathered}
 use Rattle.crl_protocol.specs.Mail.{Grant, Return, Release}
 use Rattle.crl_protocol.proofs.Totals.{weigh, weigh_append, weigh_took, on_piece, weighs}
 use Rattle.crl_protocol.proofs.Spans.{NoMail, parts_none, part_same}
@@ -32,9 +32,9 @@ left_weighs : (f : Message → ℕ) → NoMail f → (from to : ℕ) (k : Kind) 
     → weighs f (left_from (piece_of (record { sender = from; addressee = to; kind = k }) n) 0 cells) ≡ f (record { sender = from; addressee = to; kind = k })
 unfolding cut
 left_weighs f h from to (kind.Grant name version x) n cells e some =
-    parts_none f (record { sender = from; addressee = to; kind = kind.Grant name version x }) (λ part. h from to name (Grant version (regranted part x))) n 0 cells ∙ sym (h from to name (Grant version x))
+    parts_none f (record { sender = from; addressee = to; kind = kind.Grant name version x }) (λ part. h from to name (Grant version (grant_with part x))) n 0 cells ∙ sym (h from to name (Grant version x))
 left_weighs f h from to (kind.Return name version x) n cells e some =
-    parts_none f (record { sender = from; addressee = to; kind = kind.Return name version x }) (λ part. h from to name (Return version (rereturned part x))) n 0 cells ∙ sym (h from to name (Return version x))
+    parts_none f (record { sender = from; addressee = to; kind = kind.Return name version x }) (λ part. h from to name (Return version (return_with part x))) n 0 cells ∙ sym (h from to name (Return version x))
 left_weighs f h from to (kind.Release name version x) n cells e some =
     parts_none f (record { sender = from; addressee = to; kind = kind.Release name version x }) (λ part. h from to name (Release version part)) n 0 cells ∙ sym (h from to name (Release version x))
 left_weighs f h from to _ n cells e some = one_left f h _ n cells (ap length e) some
@@ -46,5 +46,5 @@ lefts_weigh f h (u ∷ us) all =
     let rest = lefts_weigh f h us all.1 in
     let both = weigh_append (on_piece f) (left_of u) (lefts us) in omega arith
 
-pub flight_weighs : (f : Message → ℕ) → NoMail f → (us : List Under) (boxes : List Piece) (gathered : ℕ → Gathered) → IsFlight us boxes gathered → weigh f (messages_of us) ≡ weighs f boxes
+pub flight_weighs : (f : Message → ℕ) → NoMail f → (us : List Under) (boxes : List Piece) (gathered : ℕ → PartsGathered) → IsFlight us boxes gathered → weigh f (messages_of us) ≡ weighs f boxes
 flight_weighs f h us boxes gathered x = sym (lefts_weigh f h us x.each) ∙ weigh_moved (on_piece f) x.boxed

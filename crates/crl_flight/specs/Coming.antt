@@ -6,7 +6,7 @@ use Rattle.std.specs.declared.option.Option.{Option}
 use Rattle.std.specs.declared.option.Option.TheVariants.{None, Some}
 use Rattle.crl_protocol.specs.Places.{Took}
 use Rattle.crl_pieces.specs.Pieces.{is_missing, is_complete, joined}
-use Rattle.crl_protocol.specs.Parcels.{Piece, load_of, with_load, Key, key_eq, key_of, Gathered, slots_or, fits_size}
+use Rattle.crl_protocol.specs.Parcels.{Piece, load_of, with_load, Key, key_eq, key_of, PartsGathered, slots_or, fits_size}
 use Rattle.crl_protocol.specs.Receiving.{slots_with}
 use Rattle.crl_flight.specs.Flight.{Under, is_at, IsFlight, messages_of}
 
@@ -17,11 +17,11 @@ NotAt i k us = AllByRecursion (λ u. is_at i k u ≡ false) us
 abbrev pub Alone : List Under → Type 0
 Alone us = (u : Under) (others : List Under) → Took u us others → (k : Key) → key_of u.message ≡ Some k → NotAt u.message.addressee k others
 
-abbrev pub put_at : (ℕ → Gathered) → ℕ → Key → Option (List (Option (List ℕ))) → ℕ → Gathered
+abbrev pub put_at : (ℕ → PartsGathered) → ℕ → Key → Option (List (Option (List ℕ))) → ℕ → PartsGathered
 put_at gathered i key v j k = if (i == j) && key_eq k key then v else gathered j k
 
 -- the piece is of this message under way, fits its size, and isn't there yet
-pub record IsNext (us : List Under) (gathered : ℕ → Gathered) (p : Piece) (key : Key) (u : Under) (others : List Under) : Type 0 where
+pub record IsNext (us : List Under) (gathered : ℕ → PartsGathered) (p : Piece) (key : Key) (u : Under) (others : List Under) : Type 0 where
   pub took : Took u us others
   pub of_key : key_of p.message ≡ Some key
   pub of_message : key_of u.message ≡ Some key
@@ -30,7 +30,7 @@ pub record IsNext (us : List Under) (gathered : ℕ → Gathered) (p : Piece) (k
   pub fits : fits_size (length (load_of u.message.kind)) p ≡ true
   pub missing : is_missing p.index (slots_or p.pieces (gathered p.message.addressee key)) ≡ true
 
-pub data PieceComes (us : List Under) (rest : List Piece) (gathered : ℕ → Gathered) (p : Piece) : Type 0 where
+pub data PieceComes (us : List Under) (rest : List Piece) (gathered : ℕ → PartsGathered) (p : Piece) : Type 0 where
   plain : (u : Under) (others : List Under) → Took u us others → key_of p.message ≡ None → p.message ≡ u.message → IsFlight others rest gathered → PieceComes us rest gathered p
   last : (key : Key) (u : Under) (others : List Under) → IsNext us gathered p key u others → is_complete (slots_with p (gathered p.message.addressee key)) ≡ true
       → with_load (joined (slots_with p (gathered p.message.addressee key))) p.message.kind ≡ u.message.kind → IsFlight others rest (put_at gathered p.message.addressee key None) → PieceComes us rest gathered p

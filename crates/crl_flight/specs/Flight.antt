@@ -6,7 +6,7 @@ use Rattle.std.specs.declared.option.Option.TheVariants.{None, Some}
 use Rattle.crl_model.specs.declared.message.Message.{Message}
 use Rattle.crl_protocol.specs.Places.{Took}
 use Rattle.crl_pieces.specs.Pieces.{cut, Cell, fresh, parts_of, slots, left_from, has_come}
-use Rattle.crl_protocol.specs.Parcels.{Piece, load_of, piece_of, Key, key_eq, key_of, Gathered}
+use Rattle.crl_protocol.specs.Parcels.{Piece, load_of, piece_of, Key, key_eq, key_of, PartsGathered}
 
 -- the same elements in another order, by taking one out and putting it in again
 pub data Moves {A : Type 0} : List A → List A → Type 0 where
@@ -49,7 +49,7 @@ IsUnder u = (parts_of u.cells ≡ cut (load_of u.message.kind)) × (left_of u �
 
 -- These messages are under way, where such pieces stand in boxes and nodes have gathered so: each piece of each of them
 -- is in a box or gathered at its addressee, once, and nothing else is there.
-pub record IsFlight (us : List Under) (boxes : List Piece) (gathered : ℕ → Gathered) : Type 0 where
+pub record IsFlight (us : List Under) (boxes : List Piece) (gathered : ℕ → PartsGathered) : Type 0 where
   pub boxed : Moves (lefts us) boxes
   pub each : AllByRecursion IsUnder us
   pub came : (i : ℕ) (k : Key) → gathered i k ≡ entry_in i k us

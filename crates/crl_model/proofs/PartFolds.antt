@@ -12,7 +12,7 @@ use Rattle.crl_model.specs.declared.collective.Part.TheVariants as part
 use Rattle.crl_model.specs.declared.collective.Fold.{Fold}
 use Rattle.crl_model.specs.declared.collective.Fold.TheVariants.{Barrier, Broadcast, Sum, Min, Max, Mixed}
 use Rattle.crl_model.specs.Folds.{total, Agrees}
-use Rattle.crl_model.specs.Rounds.{are_barriers, sum_from, least_from, greatest_from, sent_from, fold_of}
+use Rattle.crl_model.specs.FoldOf.{are_barriers, sum_from, least_from, greatest_from, sent_from, fold_of}
 
 -- what holds of a head and of each of the rest
 All_cons : {X : Type 0} (P : X → Type 0) (x : X) (xs : List X) → P x → All P xs → All P (x ∷ xs)

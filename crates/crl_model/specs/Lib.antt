@@ -1,13 +1,7 @@
 pub mod Calls
+pub mod FoldOf
 pub mod Folds
-pub mod Judging
-pub mod Laws
 pub mod Names
 pub mod Patches
-pub mod Postings
-pub mod Regions
-pub mod Rounds
-pub mod Seen
-pub mod SingleMachine
+pub mod Reports
 pub mod Stages
-pub mod Tables

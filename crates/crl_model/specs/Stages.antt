@@ -1,7 +1,7 @@
 -- Tests of where a name stands.
 use Rattle.std.specs.Prelude.{Bool, true, false}
-use Rattle.crl_model.specs.declared.region.Stage.{Stage}
-use Rattle.crl_model.specs.declared.region.Stage.TheVariants.{Unknown, Live, Going, Gone}
+use Rattle.crl_model.specs.declared.stage.Stage.{Stage}
+use Rattle.crl_model.specs.declared.stage.Stage.TheVariants.{Unknown, Live, Going, Gone}
 
 -- the region was made, and its delete isn't done
 abbrev pub is_there : Stage → Bool

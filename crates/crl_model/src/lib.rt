@@ -1,23 +1,22 @@
-//! What all crates of the region library speak of: names, bytes, calls and entries, and the single
-//! machine with one array of byte regions that every history is judged against.
+//! What all crates of the region library speak of: names, bytes, calls, messages, events and entries, and
+//! the words in which nodes keep account of regions.
 #![tactic(auto)]
 
+pub mod activity;
 pub mod blocked;
 pub mod bytes;
 pub mod call;
 pub mod choice;
 pub mod collective;
-pub mod desk;
 pub mod directory;
 pub mod entry;
 pub mod event;
-pub mod laws;
-pub mod machine;
+pub mod journal;
+pub mod mapping;
 pub mod message;
 pub mod name;
-pub mod posting;
-pub mod region;
-mod round;
+pub mod report;
+pub mod stage;
 pub mod statement;
 
 pub use std::alloc::AllocError as OutOfMemory;

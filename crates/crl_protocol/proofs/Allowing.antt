@@ -15,12 +15,12 @@ use Rattle.crl_model.specs.declared.statement.Statement.{Statement}
 use Rattle.crl_model.specs.declared.statement.Statement.TheVariants as statement
 use Rattle.crl_model.specs.Names.{at_name}
 use Rattle.crl_model.specs.Patches.{put_at}
-use Rattle.crl_protocol.specs.Sections.{Record, section_of, section_at, record_bytes, bytes_at, is_writing}
+use Rattle.crl_protocol.specs.Sections.{OpenSection, section_of, section_at, section_bytes, bytes_at, is_writing}
 use Rattle.crl_protocol.specs.Node.{Node, Free, is_mine}
 use Rattle.crl_protocol.specs.Verdict.{mapped_size, verdict}
 use Rattle.crl_protocol.specs.World.{is_enabled, is_free, is_call, IsRunFrom}
-use Rattle.crl_protocol.specs.Chosen.{Actor, Running, left_by, call_with, call_of, eight_at, added, changed, is_change, is_allowed, goes_on, with_actor}
-use Rattle.crl_protocol.specs.Laws.{IsStatement, IsNext, passed, next_call, is_inside, Follows, ended, changes, calls, happens}
+use Rattle.crl_protocol.specs.Chosen.{Actor, Running, draft_of, call_with, call_of, eight_at, with_sum, after_change, is_change, is_allowed, goes_on, with_actor}
+use Rattle.crl_protocol.specs.Laws.{IsStatement, IsNext, past_statement, next_call, is_inside, Follows, ended, changes, calls, happens}
 use Rattle.crl_protocol.proofs.Fitting.{by_name, begun, seen, LengthFits, DraftFits, Holds, Fits}
 use Rattle.crl_protocol.proofs.Opening.{own_opened}
 use Rattle.crl_protocol.proofs.Calling.{none_of}
@@ -29,7 +29,7 @@ use Rattle.crl_protocol.proofs.Entering.{open_size}
 use Rattle.crl_protocol.proofs.Sound.{Sound, by_node, sound_event}
 
 -- The draft of an open write section has the section's length.
-draft_length : (o : Option Record) (draft : List ℕ) → is_writing (section_of o) ≡ true → DraftFits o draft → length draft ≡ length (record_bytes o)
+draft_length : (o : Option OpenSection) (draft : List ℕ) → is_writing (section_of o) ≡ true → DraftFits o draft → length draft ≡ length (section_bytes o)
 draft_length None draft w f = cc
 draft_length (Some r) draft w f = of_section r.section w f
   where
@@ -58,7 +58,7 @@ same_length section.Closed a b c e f = tt
 same_length (section.Reading count) a b c e f = tt
 same_length section.Writing a b c e f = e ∙ f
 
-same_draft : (o : Option Record) (x y : List ℕ) → length x ≡ length y → DraftFits o y → DraftFits o x
+same_draft : (o : Option OpenSection) (x y : List ℕ) → length x ≡ length y → DraftFits o y → DraftFits o x
 same_draft None x y e f = tt
 same_draft (Some r) x y e f = same_length r.section (length x) (length y) (length r.bytes) e f
 
@@ -107,7 +107,7 @@ allowed None e = refl
 allowed (Some why) e = cc
 
 fits_changed : (i : ℕ) (n : Node) (a : Actor) (s : Statement) → n.activity ≡ Free → (is_change s && is_allowed (verdict n (call_of n a s))) ≡ true
-    → Fits i n a.drafts → Fits i n (changed s a).drafts
+    → Fits i n a.drafts → Fits i n (after_change s a).drafts
 fits_changed i n a (statement.Call c) free h f = f
 fits_changed i n a (statement.Put name offset bytes) free h f =
     let range = in_range n name offset (length bytes) (allowed _ h) in
@@ -118,17 +118,17 @@ fits_changed i n a (statement.Add name offset number) free h f =
     let range = in_range_added n name offset (allowed _ h) in
     let size = writing_size i n a.drafts name free range.0 f in
     let within : offset + 8 ≤ length (a.drafts name) = subst (λ z. offset + 8 ≤ z) (sym size) range.1 in
-    fits_draft i n a.drafts name (added offset number (a.drafts name)) free
+    fits_draft i n a.drafts name (with_sum offset number (a.drafts name)) free
     (put_length offset (to_be_bytes w64 ((from_be_bytes w64 (eight_at offset (a.drafts name)) + number) % 2 ^ 64)) (a.drafts name) within) f
 
-changed_left : (s : Statement) (a : Actor) → (changed s a).left ≡ a.left
+changed_left : (s : Statement) (a : Actor) → (after_change s a).left ≡ a.left
 changed_left (statement.Call c) a = refl
 changed_left (statement.Put name offset bytes) a = refl
 changed_left (statement.Add name offset number) a = refl
 
 -- A call of the script may come.
 end_call : (i : ℕ) (n : Node) (a : Actor) (name : Name) (after : List ℕ) (o : Option Refusal) → n.activity ≡ Free
-    → verdict n (call.EndWrite name after) ≡ o → Fits i n a.drafts → is_call n (call.EndWrite name (left_by o name a)) o ≡ true
+    → verdict n (call.EndWrite name after) ≡ o → Fits i n a.drafts → is_call n (call.EndWrite name (draft_of o name a)) o ≡ true
 unfolding verdict
 end_call i n a name after None free v f = eq-eqb _ _ (writing_draft i n a.drafts name free (not-false _ (allowed_by _ _ (none_of _ _ v).1)) f)
 end_call i n a name after (Some why) free v f = refl
@@ -174,20 +174,20 @@ script_enabled r i s h free st out sound =
 of_left : (r : Running) (i : ℕ) (s : Statement) (left : List Statement) → (r.actors i).left ≡ s ∷ left → Sound r → IsStatement s × AllByRecursion IsStatement left
 of_left r i s left e sound = subst (λ x. AllByRecursion IsStatement x) e (sound.left i)
 
-sound_passed : (r : Running) (i : ℕ) (s : Statement) (left : List Statement) → (r.actors i).left ≡ s ∷ left → Sound r → Sound (passed r i left)
+sound_passed : (r : Running) (i : ℕ) (s : Statement) (left : List Statement) → (r.actors i).left ≡ s ∷ left → Sound r → Sound (past_statement r i left)
 sound_passed r i s left e sound = record {
   fits = by_node i (λ b j. Fits j (r.world.nodes j) (if b then record (r.actors i) { left = left } else r.actors j).drafts) (sound.fits i) sound.fits;
   left = by_node i (λ b j. AllByRecursion IsStatement (if b then record (r.actors i) { left = left } else r.actors j).left) (of_left r i s left e sound).1 sound.left;
 }
 
 sound_changed : (r : Running) (i : ℕ) (s : Statement) (left : List Statement) → IsNext r i s left → is_inside r i s ≡ true → Sound r
-    → Sound (with_actor i (changed s (record (r.actors i) { left = left })) r)
+    → Sound (with_actor i (after_change s (record (r.actors i) { left = left })) r)
 sound_changed r i s left n inside sound =
     let actor : Actor = record (r.actors i) { left = left } in
     record {
-      fits = by_node i (λ b j. Fits j (r.world.nodes j) (if b then changed s actor else r.actors j).drafts)
+      fits = by_node i (λ b j. Fits j (r.world.nodes j) (if b then after_change s actor else r.actors j).drafts)
           (fits_changed i (r.world.nodes i) actor s n.1 (same_call (r.world.nodes i) (r.actors i) left s inside) (sound.fits i)) sound.fits;
-      left = by_node i (λ b j. AllByRecursion IsStatement (if b then changed s actor else r.actors j).left)
+      left = by_node i (λ b j. AllByRecursion IsStatement (if b then after_change s actor else r.actors j).left)
           (subst (λ x. AllByRecursion IsStatement x) (sym (changed_left s actor)) (of_left r i s left n.0 sound).1) sound.left;
     }
   where
@@ -202,6 +202,6 @@ follow_runs (ended {r = r}) sound = tt
 follow_runs {r = r} (changes i s left h n inside f) sound = follow_runs f (sound_changed r i s left n inside sound)
 follow_runs {r = r} (calls i s left h n out f) sound =
     let enabled = script_enabled r i s h n.1 (of_left r i s left n.0 sound).0 out sound in
-    (enabled, follow_runs f (sound_event (passed r i left) (event.Call i (next_call r i s)) enabled (sound_passed r i s left n.0 sound)))
+    (enabled, follow_runs f (sound_event (past_statement r i left) (event.Call i (next_call r i s)) enabled (sound_passed r i s left n.0 sound)))
 follow_runs {r = r} (happens i e own free enabled f) sound =
     (enabled, follow_runs f (subst (λ j. Sound (goes_on j e r)) own (sound_event r e enabled sound)))

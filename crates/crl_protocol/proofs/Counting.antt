@@ -3,8 +3,8 @@ use Rattle.std.proofs.Common.{◌≡◌, ℕ, zero, suc, ◌+◌, ◌-◌, ◌^�
 use Rattle.std.specs.List.{AllByRecursion}
 use Rattle.std.proofs.lemmas.Bool.{cond_both, cond-true, cond-false, and_parts, eqb-true, eqb-false, ltb-true, ne_eqb}
 use Rattle.crl_model.specs.declared.name.Name.{Name}
-use Rattle.crl_model.specs.declared.region.Stage.{Stage}
-use Rattle.crl_model.specs.declared.region.Stage.TheVariants as stage
+use Rattle.crl_model.specs.declared.stage.Stage.{Stage}
+use Rattle.crl_model.specs.declared.stage.Stage.TheVariants as stage
 use Rattle.crl_model.specs.declared.collective.Fold.{Fold}
 use Rattle.crl_model.specs.declared.call.Call.{Call}
 use Rattle.crl_model.specs.declared.event.Event.{Event}
@@ -13,16 +13,16 @@ use Rattle.crl_model.specs.declared.message.Message.{Message}
 use Rattle.crl_model.specs.declared.message.Kind.{Kind}
 use Rattle.crl_model.specs.declared.message.Kind.TheVariants as kind
 use Rattle.crl_model.specs.Names.{at_name}
-use Rattle.crl_protocol.specs.Mail.{Mail, Ask, Letter, about}
+use Rattle.crl_protocol.specs.Mail.{Mail, Ask, Letter, kind_about}
 use Rattle.crl_protocol.specs.Remote.{Remote, remote_flushes}
-use Rattle.crl_protocol.specs.Leases.{Mapping, Lease, members_from}
-use Rattle.crl_protocol.specs.Node.{Node, ForMap, Activity, Waiting, Outcome, is_mine, used, lease_of, with_lease, letters, mails, message}
+use Rattle.crl_protocol.specs.Lifetimes.{Mapping, Lifetime, members_from}
+use Rattle.crl_protocol.specs.Node.{Node, ForMap, Activity, Waiting, Outcome, is_mine, serials_used, lifetime_of, with_lifetime, letter_messages, mail_messages, message_to}
 use Rattle.crl_protocol.specs.Calls.{creates, results_from}
 use Rattle.crl_protocol.specs.Handlers.{purges_waiting}
 use Rattle.crl_protocol.specs.Parcels.{with_load}
 use Rattle.crl_protocol.specs.World.{new_world, world_of, IsRun}
 use Rattle.crl_protocol.proofs.Fitting.{by_name}
-use Rattle.crl_protocol.proofs.Tabling.{lease_put}
+use Rattle.crl_protocol.proofs.Tabling.{lifetime_put}
 use Rattle.crl_protocol.proofs.Placing.{all_append}
 use Rattle.crl_protocol.proofs.Deeds.{Cause, parting, Copies, Lives, Rounds, Notes, Deed, copies, lives, rounds, notes, home_opens, home_waits, side_opens, side_waits, home_ends, side_ends, side_flushes, home_serves, home_serves_own, grant_comes, side_called, made, maps_more, maps_own, maps_cached, map_asks, map_told, map_refused, map_comes, map_denied, unmaps_one, unmaps_own, unmaps_doomed, unmaps_keeping, unmaps_evicting, deletes_alone, deletes_own, delete_asks, deletes_alone_for, deletes_for, delete_refused, delete_comes, dooms, drops, warns, counts_off, ends_own, ends_for, comes_away, comes_last, part_comes, part_last, part_last_idle, flushes_own}
 use Rattle.crl_protocol.proofs.Turning.{Came, Local, Held, lives_frame, held_run}
@@ -59,8 +59,8 @@ pub record Counted (count i : ℕ) (n : Node) : Type 0 where
   pub few : n.nodes ≡ count
   pub maps : (q : Name) → Counts (is_mine n q) (n.maps q)
   pub waits : WaitsAway n.me n.activity
-  pub asked : (q : Name) → (lease_of n q).asked n.me ≡ false
-  pub deleters : (q : Name) → GoingFew count (lease_of n q).stage
+  pub asked : (q : Name) → (lifetime_of n q).asked n.me ≡ false
+  pub deleters : (q : Name) → GoingFew count (lifetime_of n q).stage
 
 -- Maps.
 counts_put : (n : Node) (name : Name) (o : Option Mapping) → ((q : Name) → Counts (is_mine n q) (n.maps q)) → Counts (is_mine n name) o → (q : Name) → Counts (is_mine n q) (at_name n.maps name o q)
@@ -128,15 +128,15 @@ waits_rounds n cause o _ w = tt
 
 -- Who asked.
 abbrev NotAsked : Node → Type 0
-NotAsked n = (q : Name) → (lease_of n q).asked n.me ≡ false
+NotAsked n = (q : Name) → (lifetime_of n q).asked n.me ≡ false
 
-asked_put : (n : Node) (name : Name) (lease : Lease) → is_mine n name ≡ true → lease.asked n.me ≡ false → NotAsked n → NotAsked (with_lease name lease n)
-asked_put n name lease mine k h q = subst (λ (l : Lease). l.asked n.me ≡ false) (sym (lease_put n name lease mine q)) (by_name name (λ b p. (if b then lease else lease_of n p).asked n.me ≡ false) k (λ p other. h p) q)
+asked_put : (n : Node) (name : Name) (lifetime : Lifetime) → is_mine n name ≡ true → lifetime.asked n.me ≡ false → NotAsked n → NotAsked (with_lifetime name lifetime n)
+asked_put n name lifetime mine k h q = subst (λ (l : Lifetime). l.asked n.me ≡ false) (sym (lifetime_put n name lifetime mine q)) (by_name name (λ b p. (if b then lifetime else lifetime_of n p).asked n.me ≡ false) k (λ p other. h p) q)
 
 asked_made : (n : Node) (size : ℕ) → NotAsked n → NotAsked (creates size n).node
 asked_made n size h q =
-    cond_both (is_mine n q) _ _ (λ (l : Lease). l.asked n.me ≡ false)
-    (λ mine. cond_both (used n + 1 == q.serial) _ _ (λ (l : Lease). l.asked n.me ≡ false) (λ w. refl) (λ w. subst (λ (l : Lease). l.asked n.me ≡ false) (cond-true (is_mine n q) _ _ mine) (h q))) (λ w. refl)
+    cond_both (is_mine n q) _ _ (λ (l : Lifetime). l.asked n.me ≡ false)
+    (λ mine. cond_both (serials_used n + 1 == q.serial) _ _ (λ (l : Lifetime). l.asked n.me ≡ false) (λ w. refl) (λ w. subst (λ (l : Lifetime). l.asked n.me ≡ false) (cond-true (is_mine n q) _ _ mine) (h q))) (λ w. refl)
 
 other_of : (a b c : ℕ) → (a == b) ≡ false → (a == c) ≡ true → (b == c) ≡ false
 other_of a b c e f = ne_eqb b c (λ w. eqb-false a b e (eqb-true a c f ∙ sym w))
@@ -155,15 +155,15 @@ asked_lives count n cause o (ends_for from name deleter mine e other missing las
 asked_lives count n cause o _ f h = h
 
 -- Who deletes.
-few_put : (count : ℕ) (n : Node) (name : Name) (lease : Lease) → is_mine n name ≡ true → GoingFew count lease.stage → ((q : Name) → GoingFew count (lease_of n q).stage) → (q : Name) → GoingFew count (lease_of (with_lease name lease n) q).stage
-few_put count n name lease mine k h q = subst (λ (l : Lease). GoingFew count l.stage) (sym (lease_put n name lease mine q)) (by_name name (λ b p. GoingFew count (if b then lease else lease_of n p).stage) k (λ p other. h p) q)
+few_put : (count : ℕ) (n : Node) (name : Name) (lifetime : Lifetime) → is_mine n name ≡ true → GoingFew count lifetime.stage → ((q : Name) → GoingFew count (lifetime_of n q).stage) → (q : Name) → GoingFew count (lifetime_of (with_lifetime name lifetime n) q).stage
+few_put count n name lifetime mine k h q = subst (λ (l : Lifetime). GoingFew count l.stage) (sym (lifetime_put n name lifetime mine q)) (by_name name (λ b p. GoingFew count (if b then lifetime else lifetime_of n p).stage) k (λ p other. h p) q)
 
-few_made : (count : ℕ) (n : Node) (size : ℕ) → ((q : Name) → GoingFew count (lease_of n q).stage) → (q : Name) → GoingFew count (lease_of (creates size n).node q).stage
+few_made : (count : ℕ) (n : Node) (size : ℕ) → ((q : Name) → GoingFew count (lifetime_of n q).stage) → (q : Name) → GoingFew count (lifetime_of (creates size n).node q).stage
 few_made count n size h q =
-    cond_both (is_mine n q) _ _ (λ (l : Lease). GoingFew count l.stage)
-    (λ mine. cond_both (used n + 1 == q.serial) _ _ (λ (l : Lease). GoingFew count l.stage) (λ w. tt) (λ w. subst (λ (l : Lease). GoingFew count l.stage) (cond-true (is_mine n q) _ _ mine) (h q))) (λ w. tt)
+    cond_both (is_mine n q) _ _ (λ (l : Lifetime). GoingFew count l.stage)
+    (λ mine. cond_both (serials_used n + 1 == q.serial) _ _ (λ (l : Lifetime). GoingFew count l.stage) (λ w. tt) (λ w. subst (λ (l : Lifetime). GoingFew count l.stage) (cond-true (is_mine n q) _ _ mine) (h q))) (λ w. tt)
 
-few_lives : (count : ℕ) (n : Node) (cause : Cause) (o : Outcome) → Lives n cause o → n.me < count → Came (Plain count) n.me cause → ((q : Name) → GoingFew count (lease_of n q).stage) → (q : Name) → GoingFew count (lease_of o.node q).stage
+few_lives : (count : ℕ) (n : Node) (cause : Cause) (o : Outcome) → Lives n cause o → n.me < count → Came (Plain count) n.me cause → ((q : Name) → GoingFew count (lifetime_of n q).stage) → (q : Name) → GoingFew count (lifetime_of o.node q).stage
 few_lives count n cause o (made size e) few f h = few_made count n size h
 few_lives count n cause o (map_told from name mine live) few f h = few_put count n name _ mine (h name) h
 few_lives count n cause o (deletes_alone name mine live e) few f h = few_put count n name _ mine tt h
@@ -176,15 +176,15 @@ few_lives count n cause o (ends_for from name deleter mine e other missing last)
 few_lives count n cause o _ few f h = h
 
 -- What it sends.
-mail_plain : (count to : ℕ) (n : Node) (name : Name) (m : Mail) → n.me < count → Plain count (message n to (about name m))
+mail_plain : (count to : ℕ) (n : Node) (name : Name) (m : Mail) → n.me < count → Plain count (message_to n to (kind_about name m))
 mail_plain count to n name (Ask write have) few = (few, tt)
 mail_plain count to n name _ few = (few, tt)
 
-mails_plain : (count : ℕ) (n : Node) (name : Name) (posts : List Mail) → n.me < count → AllByRecursion (Plain count) (mails n name posts)
+mails_plain : (count : ℕ) (n : Node) (name : Name) (posts : List Mail) → n.me < count → AllByRecursion (Plain count) (mail_messages n name posts)
 mails_plain count n name [] few = tt
 mails_plain count n name (m ∷ posts) few = (mail_plain count name.home n name m few, mails_plain count n name posts few)
 
-letters_plain : (count : ℕ) (n : Node) (name : Name) (posts : List Letter) → n.me < count → AllByRecursion (Plain count) (letters n name posts)
+letters_plain : (count : ℕ) (n : Node) (name : Name) (posts : List Letter) → n.me < count → AllByRecursion (Plain count) (letter_messages n name posts)
 letters_plain count n name [] few = tt
 letters_plain count n name (l ∷ posts) few = (mail_plain count l.to n name l.mail few, letters_plain count n name posts few)
 
@@ -208,7 +208,7 @@ members_are set count m (suc k) few =
     let h = members_are set count (m + 1) k (omega arith) in cond_both (set m) _ _ (AllByRecursion (Member set count)) (λ e. ((e, omega arith), h)) (λ e. h)
 
 purges_plain : (count : ℕ) (n : Node) (name : Name) (set : ℕ → Bool) (ms : List ℕ) → n.me < count → is_mine n name ≡ true → set n.me ≡ false → AllByRecursion (Member set count) ms
-    → AllByRecursion (Plain count) (map (λ m. message n m (kind.Purge name)) ms)
+    → AllByRecursion (Plain count) (map (λ m. message_to n m (kind.Purge name)) ms)
 purges_plain count n name set [] few mine h all = tt
 purges_plain count n name set (m ∷ ms) few mine h all =
     let away : (name.home == m) ≡ false = ne_eqb name.home m (λ w. let both : true ≡ false = sym all.0.0 ∙ ap set (sym w ∙ eqb-true name.home n.me mine) ∙ h in cc) in
@@ -227,7 +227,7 @@ sends_copies count n cause o (side_ends c name w ends lowers r is e f) few = mai
 sends_copies count n cause o (side_flushes name r other e closed) few = mails_plain count n name _ few
 sends_copies count n cause o (side_called from k name r s is e) few = mails_plain count n name _ few
 
-sends_lives : (count : ℕ) (n : Node) (cause : Cause) (o : Outcome) → Lives n cause o → n.me < count → n.nodes ≡ count → Came (Plain count) n.me cause → NotAsked n → ((q : Name) → GoingFew count (lease_of n q).stage) → AllByRecursion (Plain count) o.posts
+sends_lives : (count : ℕ) (n : Node) (cause : Cause) (o : Outcome) → Lives n cause o → n.me < count → n.nodes ≡ count → Came (Plain count) n.me cause → NotAsked n → ((q : Name) → GoingFew count (lifetime_of n q).stage) → AllByRecursion (Plain count) o.posts
 sends_lives count n cause o (map_asks name e other c real) few all f h going = ((few, (other, subst (λ k. name.home < k) all (ltb-true _ _ (and_parts _ _ real).0))), tt)
 sends_lives count n cause o (map_told from name mine live) few all f h going = ((few, f.0), tt)
 sends_lives count n cause o (map_refused from name why t d u) few all f h going = ((few, f.0), tt)
@@ -302,7 +302,7 @@ counted_local count = record {
 
 pub counted_start : (count capacity : ℕ) → Held (Counted count) (Plain count) (new_world count capacity)
 counted_start count capacity i = record {
-  node = record { me = refl; few = refl; maps = λ q. tt; waits = tt; asked = λ q. cond_both (q.home == i) _ _ (λ (l : Lease). l.asked i ≡ false) (λ w. refl) (λ w. refl); deleters = λ q. cond_both (q.home == i) _ _ (λ (l : Lease). GoingFew count l.stage) (λ w. tt) (λ w. tt) };
+  node = record { me = refl; few = refl; maps = λ q. tt; waits = tt; asked = λ q. cond_both (q.home == i) _ _ (λ (l : Lifetime). l.asked i ≡ false) (λ w. refl) (λ w. refl); deleters = λ q. cond_both (q.home == i) _ _ (λ (l : Lifetime). GoingFew count l.stage) (λ w. tt) (λ w. tt) };
   inbox = tt;
   outbox = tt;
 }

@@ -15,8 +15,8 @@ use Rattle.crl_model.specs.declared.entry.What.{What}
 use Rattle.crl_model.specs.declared.entry.What.TheVariants as what
 use Rattle.crl_model.specs.declared.message.Kind.{Kind}
 use Rattle.crl_model.specs.Calls.{kind_of}
-use Rattle.crl_protocol.specs.Home.{Home, Served}
-use Rattle.crl_protocol.specs.Remote.{Remote, Moved}
+use Rattle.crl_protocol.specs.Home.{Home, HomeStep}
+use Rattle.crl_protocol.specs.Remote.{Remote, RemoteStep}
 use Rattle.crl_protocol.specs.Node.{Node, Outcome}
 use Rattle.crl_protocol.specs.Verdict.{word_of}
 use Rattle.crl_protocol.specs.Calls.{result_of}
@@ -34,7 +34,7 @@ started : (c : Call) (write : Bool) (name : Name) → StartsCall c write name �
 started c write name (to_read q) = refl
 started c write name (to_write q) = refl
 
-ended : (bytes : List ℕ) (n : Node) (c : Call) (name : Name) (w : What) (ends : Home → Served) (lowers : Remote → Moved) → EndsCall bytes n c name w ends lowers → IsOfCall c w
+ended : (bytes : List ℕ) (n : Node) (c : Call) (name : Name) (w : What) (ends : Home → HomeStep) (lowers : Remote → RemoteStep) → EndsCall bytes n c name w ends lowers → IsOfCall c w
 ended bytes n c name w ends lowers (a_read q v) = refl
 ended bytes n c name w ends lowers (a_write q after v) = (refl, refl)
 
@@ -42,7 +42,7 @@ starts_as : (write : Bool) (name : Name) → IsStart name (if write then what.St
 starts_as true name = refl
 starts_as false name = refl
 
-served_as : (n : Node) (h : Home) (from : ℕ) (k : Kind) (name : Name) (s : Served) (e : Entry) → Serves n h from k name s → e.node ≡ n.me → IsStart name e.what → IsOfMessage n.me from k e
+served_as : (n : Node) (h : Home) (from : ℕ) (k : Kind) (name : Name) (s : HomeStep) (e : Entry) → Serves n h from k name s → e.node ≡ n.me → IsStart name e.what → IsOfMessage n.me from k e
 served_as n h from k name s e (ask_comes f q write have x) w v = (w, v)
 served_as n h from k name s e _ w v = (w, v)
 

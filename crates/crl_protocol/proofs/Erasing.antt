@@ -4,21 +4,21 @@ use Rattle.std.proofs.Common.{◌≡◌, ℕ, ◌+◌, ◌≤◌, ◌<◌, ◌==
 use Rattle.std.proofs.lemmas.Bool.{cond_both, cond-false, eqb-true}
 use Rattle.std.proofs.Math.Logic.{◌⊎◌, inl, inr}
 use Rattle.crl_model.specs.declared.name.Name.{Name}
-use Rattle.crl_model.specs.declared.region.Stage.{Stage}
-use Rattle.crl_model.specs.declared.region.Stage.TheVariants as stage
+use Rattle.crl_model.specs.declared.stage.Stage.{Stage}
+use Rattle.crl_model.specs.declared.stage.Stage.TheVariants as stage
 use Rattle.crl_model.specs.declared.event.Event.{Event}
 use Rattle.crl_model.specs.declared.message.Message.{Message}
 use Rattle.crl_model.specs.declared.message.Kind.{Kind}
 use Rattle.crl_model.specs.declared.message.Kind.TheVariants as kind
 use Rattle.crl_model.specs.Names.{name_eq, at_node}
-use Rattle.crl_protocol.specs.Mail.{Mail, Ask, about}
-use Rattle.crl_protocol.specs.Leases.{Lease, new_lease, no_lease, members}
-use Rattle.crl_protocol.specs.Node.{Node, ForMap, ForDelete, Activity, Free, Waiting, Outcome, is_mine, lease_of, with_lease, used, message}
+use Rattle.crl_protocol.specs.Mail.{Mail, Ask, kind_about}
+use Rattle.crl_protocol.specs.Lifetimes.{Lifetime, new_lifetime, no_lifetime, members}
+use Rattle.crl_protocol.specs.Node.{Node, ForMap, ForDelete, Activity, Free, Waiting, Outcome, is_mine, lifetime_of, with_lifetime, serials_used, message_to}
 use Rattle.crl_protocol.specs.Calls.{creates}
 use Rattle.crl_protocol.specs.Handlers.{purges_waiting}
 use Rattle.crl_protocol.specs.World.{new_world, IsRun, world_of}
 use Rattle.crl_protocol.proofs.Fitting.{same_name, Fits}
-use Rattle.crl_protocol.proofs.Tabling.{lease_put}
+use Rattle.crl_protocol.proofs.Tabling.{lifetime_put}
 use Rattle.crl_protocol.proofs.Counting.{PlainKind}
 use Rattle.crl_protocol.proofs.Deeds.{FreeIf, Cause, Calls, Hears, parting, Lives, Idles, made, map_asks, map_told, map_comes, map_denied, unmaps_doomed, unmaps_evicting, deletes_alone, deletes_own, delete_asks, deletes_alone_for, deletes_for, delete_comes, drops, warns, counts_off, ends_own, ends_for}
 use Rattle.crl_protocol.proofs.Totals.{weigh_append, sum, sum_new, load, waited, none_to, Balance}
@@ -43,9 +43,9 @@ stage_of i (stage.Going deleter) = if deleter == i then 1 else 0
 stage_of i _ = 0
 
 abbrev pub deleting : ℕ → Name → Node → ℕ
-deleting i r n = stage_of i (lease_of n r).stage
+deleting i r n = stage_of i (lifetime_of n r).stage
 
-mail_none : (i : ℕ) (r : Name) (from to : ℕ) (name : Name) (m : Mail) → token_kind i r from to (about name m) ≡ 0
+mail_none : (i : ℕ) (r : Name) (from to : ℕ) (name : Name) (m : Mail) → token_kind i r from to (kind_about name m) ≡ 0
 mail_none i r from to name (Ask write have) = refl
 mail_none i r from to name _ = refl
 
@@ -55,7 +55,7 @@ span i r = record {
   comes = λ from to round part. refl;
   results = λ from to round fold. refl;
   purges = λ from to name. refl;
-  kept = λ n m e f. ap (λ me. stage_of i (if r.home == me then m.leases r.serial else no_lease).stage) e ∙ ap (λ (x : ℕ → Lease). stage_of i (if r.home == n.me then x r.serial else no_lease).stage) f;
+  kept = λ n m e f. ap (λ me. stage_of i (if r.home == me then m.lifetimes r.serial else no_lifetime).stage) e ∙ ap (λ (x : ℕ → Lifetime). stage_of i (if r.home == n.me then x r.serial else no_lifetime).stage) f;
   section = λ name. refl;
   round = λ k c. refl;
   free = refl;
@@ -66,18 +66,18 @@ warned : (r name : Name) (a : Activity) → waits_delete r (purges_waiting name 
 warned r name (Waiting (ForMap p purged)) = refl
 warned r name _ = refl
 
--- A lease that changes its stage.
+-- A lifetime that changes its stage.
 abbrev part : Name → Name → ℕ → ℕ
 part name r x = if name_eq name r then x else 0
 
-exchange : (i : ℕ) (r : Name) (n : Node) (name : Name) (lease : Lease) (s t : Stage) → is_mine n name ≡ true → (lease_of n name).stage ≡ s → lease.stage ≡ t
-    → deleting i r (with_lease name lease n) + part name r (stage_of i s) ≡ deleting i r n + part name r (stage_of i t)
-exchange i r n name lease s t mine was now = ap (λ x. x + part name r (stage_of i s)) (ap (λ (l : Lease). stage_of i l.stage) (lease_put n name lease mine r)) ∙ go (name_eq name r) refl
+exchange : (i : ℕ) (r : Name) (n : Node) (name : Name) (lifetime : Lifetime) (s t : Stage) → is_mine n name ≡ true → (lifetime_of n name).stage ≡ s → lifetime.stage ≡ t
+    → deleting i r (with_lifetime name lifetime n) + part name r (stage_of i s) ≡ deleting i r n + part name r (stage_of i t)
+exchange i r n name lifetime s t mine was now = ap (λ x. x + part name r (stage_of i s)) (ap (λ (l : Lifetime). stage_of i l.stage) (lifetime_put n name lifetime mine r)) ∙ go (name_eq name r) refl
   where
-    go : (b : Bool) → name_eq name r ≡ b → stage_of i (if b then lease else lease_of n r).stage + (if b then stage_of i s else 0) ≡ deleting i r n + (if b then stage_of i t else 0)
+    go : (b : Bool) → name_eq name r ≡ b → stage_of i (if b then lifetime else lifetime_of n r).stage + (if b then stage_of i s else 0) ≡ deleting i r n + (if b then stage_of i t else 0)
     go true w =
         let a = ap (stage_of i) now in
-        let b : deleting i r n ≡ stage_of i s = ap (λ q. stage_of i (lease_of n q).stage) (sym (same_name name r w)) ∙ ap (stage_of i) was in omega arith
+        let b : deleting i r n ≡ stage_of i s = ap (λ q. stage_of i (lifetime_of n q).stage) (sym (same_name name r w)) ∙ ap (stage_of i) was in omega arith
     go false w = refl
 
 swap : (b c : Bool) (x : ℕ) → (if b then (if c then x else 0) else 0) ≡ (if c then (if b then x else 0) else 0)
@@ -86,57 +86,57 @@ swap true false x = refl
 swap false true x = refl
 swap false false x = refl
 
--- a serial that is given had no lease
+-- a serial that is given had no lifetime
 made_same : (i : ℕ) (r : Name) (n : Node) (size : ℕ) → NoneYet n → deleting i r (creates size n).node ≡ deleting i r n
 made_same i r n size none = go (is_mine n r) refl
   where
-    inner : (b : Bool) → (used n + 1 == r.serial) ≡ b → stage_of i (if b then new_lease else n.leases r.serial).stage ≡ stage_of i (n.leases r.serial).stage
-    inner true w = sym (ap (stage_of i) (none r.serial (let same = eqb-true (used n + 1) r.serial w in omega arith)))
+    inner : (b : Bool) → (serials_used n + 1 == r.serial) ≡ b → stage_of i (if b then new_lifetime else n.lifetimes r.serial).stage ≡ stage_of i (n.lifetimes r.serial).stage
+    inner true w = sym (ap (stage_of i) (none r.serial (let same = eqb-true (serials_used n + 1) r.serial w in omega arith)))
     inner false w = refl
 
-    go : (b : Bool) → is_mine n r ≡ b → stage_of i (if b then at_node n.leases (used n + 1) new_lease r.serial else no_lease).stage ≡ stage_of i (if b then n.leases r.serial else no_lease).stage
-    go true w = inner (used n + 1 == r.serial) refl
+    go : (b : Bool) → is_mine n r ≡ b → stage_of i (if b then at_node n.lifetimes (serials_used n + 1) new_lifetime r.serial else no_lifetime).stage ≡ stage_of i (if b then n.lifetimes r.serial else no_lifetime).stage
+    go true w = inner (serials_used n + 1 == r.serial) refl
     go false w = refl
 
 delete_lives : (i : ℕ) (r : Name) (j : ℕ) (d : Name → List ℕ) (n : Node) (cause : Cause) (o : Outcome) → Lives n cause o → Fits j n d → NoneYet n → FreeIf cause n → Balance (token i r) (deleting i r) (waits_delete r) i n (came (token i r) n.me cause) o
 delete_lives i r j d n cause o (made size e) f none free = let same = made_same i r n size none in omega arith
 delete_lives i r j d n cause o (map_asks name e other c real) f none free =
     let was = no_wait_as (waits_delete r) i n Free free refl in let now = no_wait (waits_delete r) i o.node refl in omega arith
-delete_lives i r j d n cause o (map_told from name mine live) f none free = let x = exchange i r n name (record (lease_of n name) { asked = at_node (lease_of n name).asked from true }) stage.Live stage.Live mine live live in omega arith
+delete_lives i r j d n cause o (map_told from name mine live) f none free = let x = exchange i r n name (record (lifetime_of n name) { asked = at_node (lifetime_of n name).asked from true }) stage.Live stage.Live mine live live in omega arith
 delete_lives i r j d n cause o (map_comes from name purged size e) f none free =
     let was = no_wait_as (waits_delete r) i n _ e refl in let now = no_wait (waits_delete r) i o.node refl in omega arith
 delete_lives i r j d n cause o (map_denied from name purged s why t q u e) f none free =
     let was = no_wait_as (waits_delete r) i n _ e refl in let now = no_wait (waits_delete r) i o.node refl in omega arith
 delete_lives i r j d n cause o (unmaps_doomed name m e one other doomed closed) f none free = even _ _ _ _ (parting_none _ _ _ (span i r) n name (n.remotes name)) refl
 delete_lives i r j d n cause o (unmaps_evicting name m old e one other sound closed kept) f none free = even _ _ _ _ (parting_none _ _ _ (span i r) n old (n.remotes old)) refl
-delete_lives i r j d n cause o (deletes_alone name mine live e) f none free = let x = exchange i r n name (record (lease_of n name) { stage = stage.Gone }) stage.Live stage.Gone mine live refl in omega arith
+delete_lives i r j d n cause o (deletes_alone name mine live e) f none free = let x = exchange i r n name (record (lifetime_of n name) { stage = stage.Gone }) stage.Live stage.Gone mine live refl in omega arith
 delete_lives i r j d n cause o (deletes_own name m ms mine live e) f none free =
-    let x = exchange i r n name (record (lease_of n name) { stage = stage.Going n.me; missing = (lease_of n name).asked }) stage.Live (stage.Going n.me) mine live refl in
+    let x = exchange i r n name (record (lifetime_of n name) { stage = stage.Going n.me; missing = (lifetime_of n name).asked }) stage.Live (stage.Going n.me) mine live refl in
     let was = no_wait_as (waits_delete r) i n Free free refl in
-    let sent = purges_none _ _ _ (span i r) n name (members n.nodes (lease_of n name).asked) in
+    let sent = purges_none _ _ _ (span i r) n name (members n.nodes (lifetime_of n name).asked) in
     let z = none_to (name_eq name r) 0 in
     let y = swap (name_eq name r) (n.me == i) 1 in omega arith
 delete_lives i r j d n cause o (delete_asks name other real) f none free = let was = no_wait_as (waits_delete r) i n Free free refl in omega arith
-delete_lives i r j d n cause o (deletes_alone_for from name mine live e) f none free = let x = exchange i r n name (record (lease_of n name) { stage = stage.Gone }) stage.Live stage.Gone mine live refl in omega arith
+delete_lives i r j d n cause o (deletes_alone_for from name mine live e) f none free = let x = exchange i r n name (record (lifetime_of n name) { stage = stage.Gone }) stage.Live stage.Gone mine live refl in omega arith
 delete_lives i r j d n cause o (deletes_for from name m ms mine live e) f none free =
-    let x = exchange i r n name (record (lease_of n name) { stage = stage.Going from; missing = (lease_of n name).asked }) stage.Live (stage.Going from) mine live refl in
-    let sent = purges_none _ _ _ (span i r) n name (members n.nodes (lease_of n name).asked) in
+    let x = exchange i r n name (record (lifetime_of n name) { stage = stage.Going from; missing = (lifetime_of n name).asked }) stage.Live (stage.Going from) mine live refl in
+    let sent = purges_none _ _ _ (span i r) n name (members n.nodes (lifetime_of n name).asked) in
     let z = none_to (name_eq name r) 0 in
     let y = swap (name_eq name r) (from == i) 1 in omega arith
 delete_lives i r j d n cause o (delete_comes from name t e) f none free =
     let was : waited (waits_delete r) i n ≡ (if n.me == i then of_name name r else 0) = ap (λ x. if n.me == i then waits_delete r x else 0) e in let now = none_to (n.me == i) 0 in omega arith
 delete_lives i r j d n cause o (drops from name size e c) f none free =
-    let a = weigh_append (token i r) (parting n name (n.remotes name)) (message n from (kind.Purged name) ∷ []) in let b = parting_none _ _ _ (span i r) n name (n.remotes name) in omega arith
+    let a = weigh_append (token i r) (parting n name (n.remotes name)) (message_to n from (kind.Purged name) ∷ []) in let b = parting_none _ _ _ (span i r) n name (n.remotes name) in omega arith
 delete_lives i r j d n cause o (warns from name e c) f none free = let same = ap (λ x. if n.me == i then x else 0) (warned r name n.activity) in omega arith
-delete_lives i r j d n cause o (counts_off from name deleter m ms mine e missing left) f none free = let x = exchange i r n name (record (lease_of n name) { missing = at_node (lease_of n name).missing from false }) (stage.Going deleter) (stage.Going deleter) mine e e in omega arith
+delete_lives i r j d n cause o (counts_off from name deleter m ms mine e missing left) f none free = let x = exchange i r n name (record (lifetime_of n name) { missing = at_node (lifetime_of n name).missing from false }) (stage.Going deleter) (stage.Going deleter) mine e e in omega arith
 delete_lives i r j d n cause o (ends_own from name mine e missing last) f none free =
-    let x = exchange i r n name (record (lease_of n name) { stage = stage.Gone; missing = at_node (lease_of n name).missing from false }) (stage.Going n.me) stage.Gone mine e refl in
+    let x = exchange i r n name (record (lifetime_of n name) { stage = stage.Gone; missing = at_node (lifetime_of n name).missing from false }) (stage.Going n.me) stage.Gone mine e refl in
     let was : waited (waits_delete r) i n ≡ (if n.me == i then of_name name r else 0) = ap (λ a. if n.me == i then waits_delete r a else 0) (going_own n.me name _ n.activity (f.each name).going e) in
     let now = none_to (n.me == i) 0 in
     let z = none_to (name_eq name r) 0 in
     let y = swap (name_eq name r) (n.me == i) 1 in omega arith
 delete_lives i r j d n cause o (ends_for from name deleter mine e other missing last) f none free =
-    let x = exchange i r n name (record (lease_of n name) { stage = stage.Gone; missing = at_node (lease_of n name).missing from false }) (stage.Going deleter) stage.Gone mine e refl in
+    let x = exchange i r n name (record (lifetime_of n name) { stage = stage.Gone; missing = at_node (lifetime_of n name).missing from false }) (stage.Going deleter) stage.Gone mine e refl in
     let z = none_to (name_eq name r) 0 in
     let y = swap (name_eq name r) (deleter == i) 1 in omega arith
 delete_lives i r j d n cause o _ f none free = omega arith
@@ -184,4 +184,4 @@ pub who_deletes_has_one : (count capacity : ℕ) (run : List Event) → IsRun co
     → sum (load (token i r) (deleting i r)) (world_of count capacity run) ≡ waits_delete r ((world_of count capacity run).nodes i).activity
 who_deletes_has_one count capacity run h i r small =
     life_run i (token i r) (deleting i r) (waits_delete r) (delete_life i r) run (new_world count capacity) small h.enabled (known_start count capacity)
-    (sum_new (load (token i r) (deleting i r)) count capacity (λ j. cond_both (r.home == j) _ _ (λ (l : Lease). 0 + 0 + stage_of i l.stage ≡ 0) (λ w. refl) (λ w. refl)))
+    (sum_new (load (token i r) (deleting i r)) count capacity (λ j. cond_both (r.home == j) _ _ (λ (l : Lifetime). 0 + 0 + stage_of i l.stage ≡ 0) (λ w. refl) (λ w. refl)))

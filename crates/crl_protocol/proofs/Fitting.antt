@@ -6,8 +6,8 @@ use Rattle.std.specs.List.{AllByRecursion}
 use Rattle.std.proofs.lemmas.Bool.{and_parts, and_from, eqb-true, eq-eqb}
 use Rattle.std.proofs.Math.Logic.{◌⊎◌, inl, inr}
 use Rattle.crl_model.specs.declared.name.Name.{Name}
-use Rattle.crl_model.specs.declared.region.Stage.{Stage}
-use Rattle.crl_model.specs.declared.region.Stage.TheVariants as stage
+use Rattle.crl_model.specs.declared.stage.Stage.{Stage}
+use Rattle.crl_model.specs.declared.stage.Stage.TheVariants as stage
 use Rattle.crl_model.specs.declared.directory.Section.{Section}
 use Rattle.crl_model.specs.declared.directory.Section.TheVariants as section
 use Rattle.crl_model.specs.declared.directory.Asked.{Asked}
@@ -18,9 +18,9 @@ use Rattle.crl_model.specs.Names.{name_eq, at_name}
 use Rattle.crl_protocol.specs.Parcels.{Piece}
 use Rattle.crl_protocol.specs.Home.{Home}
 use Rattle.crl_protocol.specs.Remote.{Copy, Remote, is_closed}
-use Rattle.crl_protocol.specs.Leases.{Mapping, Kept}
-use Rattle.crl_protocol.specs.Sections.{Record}
-use Rattle.crl_protocol.specs.Node.{Node, Answer, Made, Mapped, Reading, Writing, Done, Came, Refused, Wait, Activity, Free, Waiting, Ready, ForSection, ForMap, ForDelete, is_mine, home_of, lease_of}
+use Rattle.crl_protocol.specs.Lifetimes.{Mapping, Cached}
+use Rattle.crl_protocol.specs.Sections.{OpenSection}
+use Rattle.crl_protocol.specs.Node.{Node, Answer, Made, Mapped, Reading, Writing, Done, Came, Refused, Wait, Activity, Free, Waiting, Ready, ForSection, ForMap, ForDelete, is_mine, home_of, lifetime_of}
 
 -- Names that are tested to be one.
 pub same_name : (a b : Name) → name_eq a b ≡ true → a ≡ b
@@ -65,13 +65,13 @@ pub record Seen : Type 0 where
   pub home : Option Home
   pub remote : Option Remote
   pub mapping : Option Mapping
-  pub opened : Option Record
+  pub opened : Option OpenSection
   pub draft : List ℕ
 
 abbrev pub seen : Node → (Name → List ℕ) → Name → Seen
 seen n drafts q = record {
   mine = is_mine n q;
-  stage = (lease_of n q).stage;
+  stage = (lifetime_of n q).stage;
   home = home_of n q;
   remote = n.remotes q;
   mapping = n.maps q;
@@ -80,7 +80,7 @@ seen n drafts q = record {
 }
 
 -- Bytes of an open section have the mapping's size, and the draft of a write section has it too.
-abbrev pub RecordFits : Option Record → Option Mapping → Type 0
+abbrev pub RecordFits : Option OpenSection → Option Mapping → Type 0
 RecordFits None m = Unit {0}
 RecordFits (Some r) None = ⊥
 RecordFits (Some r) (Some m) = (length r.bytes ≡ m.size) × (is_closed r.section ≡ false)
@@ -90,7 +90,7 @@ LengthFits section.Closed a b = Unit {0}
 LengthFits (section.Reading count) a b = Unit {0}
 LengthFits section.Writing a b = a ≡ b
 
-abbrev pub DraftFits : Option Record → List ℕ → Type 0
+abbrev pub DraftFits : Option OpenSection → List ℕ → Type 0
 DraftFits None draft = Unit {0}
 DraftFits (Some r) draft = LengthFits r.section (length draft) (length r.bytes)
 
@@ -180,7 +180,7 @@ pub record Holds (me : ℕ) (q : Name) (a : Activity) (v : Seen) : Type 0 where
   pub waiting : WaitFits q a v.mine v.mapping
 
 -- regions in the cache have the sizes under which their copies are kept
-abbrev pub IsCached : Name → ℕ → List Kept → Type 0
+abbrev pub IsCached : Name → ℕ → List Cached → Type 0
 IsCached q size [] = ⊥
 IsCached q size (kept ∷ cache) = ((kept.name ≡ q) × (kept.size ≡ size)) ⊎ IsCached q size cache
 
@@ -188,7 +188,7 @@ abbrev pub SizeIs : Option Remote → ℕ → Type 0
 SizeIs None size = Unit {0}
 SizeIs (Some r) size = r.size ≡ size
 
-abbrev pub FreshFits : Activity → List Kept → Type 0
+abbrev pub FreshFits : Activity → List Cached → Type 0
 FreshFits (Waiting (ForMap p purged)) cache = (size : ℕ) → IsCached p size cache → ⊥
 FreshFits _ cache = Unit {0}
 

@@ -12,8 +12,8 @@ use Rattle.crl_model.specs.Names.{at_node}
 use Rattle.crl_protocol.specs.Node.{Activity, Free, Waiting, Ready}
 use Rattle.crl_protocol.specs.Verdict.{verdict}
 use Rattle.crl_protocol.specs.World.{step, is_enabled, is_ready, account_from, world_after}
-use Rattle.crl_protocol.specs.Chosen.{Actor, Running, next_of, nexts_from, handles_of, handles_from, carries_of, carries_from, choices, goes_on, with_actor, changed, is_change, is_allowed, states, takes, takes_at, turn, turns_from, running}
-use Rattle.crl_protocol.specs.Laws.{IsNext, passed, next_call, is_inside, Follows, ended, changes, calls, happens}
+use Rattle.crl_protocol.specs.Chosen.{Actor, Running, next_of, nexts_from, handles_of, handles_from, carries_of, carries_from, choices, goes_on, with_actor, after_change, is_change, is_allowed, takes_statement, takes_choice, takes_choice_at, turn, turns_from, running}
+use Rattle.crl_protocol.specs.Laws.{IsNext, past_statement, next_call, is_inside, Follows, ended, changes, calls, happens}
 use Rattle.crl_protocol.proofs.Growing.{append_nil}
 use Rattle.crl_protocol.proofs.Placing.{all_append, gather, all_gathered, chosen_is}
 
@@ -87,17 +87,17 @@ if_both false b x y = refl
 -- the run after a statement
 abbrev pub stated : Running → ℕ → Statement → List Statement → Running
 stated r i s left =
-    if is_inside r i s then with_actor i (changed s (record (r.actors i) { left = left })) r
-    else goes_on i (event.Call i (next_call r i s)) (passed r i left)
+    if is_inside r i s then with_actor i (after_change s (record (r.actors i) { left = left })) r
+    else goes_on i (event.Call i (next_call r i s)) (past_statement r i left)
 
-pub states_is : (r : Running) (i : ℕ) (s : Statement) (left : List Statement) → states i (s ∷ left) r ≡ stated r i s left
+pub states_is : (r : Running) (i : ℕ) (s : Statement) (left : List Statement) → takes_statement i (s ∷ left) r ≡ stated r i s left
 states_is r i s left =
     let actor : Actor = record (r.actors i) { left = left } in
-    let twice : with_actor i (changed s ((passed r i left).actors i)) (passed r i left) ≡ with_actor i (changed s actor) r =
-    ap (λ a. with_actor i (changed s a) (passed r i left)) (here r.actors i actor)
-    ∙ ap (λ f. record r { actors = f }) (λ d m. again r.actors i actor (changed s actor) m d) in
+    let twice : with_actor i (after_change s ((past_statement r i left).actors i)) (past_statement r i left) ≡ with_actor i (after_change s actor) r =
+    ap (λ a. with_actor i (after_change s a) (past_statement r i left)) (here r.actors i actor)
+    ∙ ap (λ f. record r { actors = f }) (λ d m. again r.actors i actor (after_change s actor) m d) in
     ap (λ x. if is_change s then if is_allowed (verdict (r.world.nodes i) (next_call r i s)) then x
-    else goes_on i (event.Call i (next_call r i s)) (passed r i left) else goes_on i (event.Call i (next_call r i s)) (passed r i left)) twice
+    else goes_on i (event.Call i (next_call r i s)) (past_statement r i left) else goes_on i (event.Call i (next_call r i s)) (past_statement r i left)) twice
     ∙ if_both (is_change s) (is_allowed (verdict (r.world.nodes i) (next_call r i s))) _ _
 
 -- What the choices give follows the script.
@@ -110,19 +110,19 @@ stated_leads r end es i s left true e h n f = (es, changes i s left h n e (rw e 
 stated_leads r end es i s left false e h n f = (event.Call i (next_call r i s) ∷ es, calls i s left h n e (rw e at f))
 
 states_lead : (r end : Running) (es : List Event) (i : ℕ) (left : List Statement) → (r.actors i).left ≡ left → i < r.world.count
-    → (r.world.nodes i).activity ≡ Free → Follows (states i left r) es end → Leads r end
+    → (r.world.nodes i).activity ≡ Free → Follows (takes_statement i left r) es end → Leads r end
 states_lead r end es i [] e h free f = (es, f)
 states_lead r end es i (s ∷ left) e h free f =
     stated_leads r end es i s left (is_inside r i s) refl h (e, free) (subst (λ x. Follows x es end) (states_is r i s left) f)
 
-takes_lead : (c : Choice) (r end : Running) (es : List Event) → IsChoice r c → Follows (takes c r) es end → Leads r end
-unfolding takes
+takes_lead : (c : Choice) (r end : Running) (es : List Event) → IsChoice r c → Follows (takes_choice c r) es end → Leads r end
+unfolding takes_choice
 takes_lead (choice.Statement i) r end es h f = states_lead r end es i (r.actors i).left refl h.0 h.1 f
 takes_lead (choice.Collect i) r end es h f = (event.Collect i ∷ es, happens i (event.Collect i) refl refl h f)
 takes_lead (choice.Handle i place) r end es h f = (event.Handle i place ∷ es, happens i (event.Handle i place) refl refl h f)
 takes_lead (choice.Carry i place) r end es h f = (event.Carry i place ∷ es, happens i (event.Carry i place) refl refl h f)
 
-chosen_leads : (word : ℕ) (cs : List Choice) (r end : Running) (es : List Event) → AllByRecursion (IsChoice r) cs → Follows (takes_at word cs r) es end → Leads r end
+chosen_leads : (word : ℕ) (cs : List Choice) (r end : Running) (es : List Event) → AllByRecursion (IsChoice r) cs → Follows (takes_choice_at word cs r) es end → Leads r end
 chosen_leads word [] r end es h f = (es, f)
 chosen_leads word (c ∷ cs) r end es h f = takes_lead (get_or (c ∷ cs) (word % length (c ∷ cs)) c) r end es (chosen_is (IsChoice r) word c cs h) f
 

@@ -1,15 +1,15 @@
 -- What holds of a node stays so where one thing of it changes.
 use Rattle.std.proofs.Common.{◌≡◌, ℕ, Bool, true, false, None, Some, Option, List, [], ◌∷◌, ◌++◌, length, if◌then◌else◌, refl, sym, ◌∙◌, subst}
 use Rattle.crl_model.specs.declared.name.Name.{Name}
-use Rattle.crl_model.specs.declared.region.Stage.{Stage}
-use Rattle.crl_model.specs.declared.region.Stage.TheVariants as stage
+use Rattle.crl_model.specs.declared.stage.Stage.{Stage}
+use Rattle.crl_model.specs.declared.stage.Stage.TheVariants as stage
 use Rattle.crl_model.specs.Names.{name_eq}
 use Rattle.crl_protocol.specs.Home.{Home}
 use Rattle.crl_protocol.specs.Remote.{Remote}
-use Rattle.crl_protocol.specs.Leases.{Mapping, Kept, Lease}
-use Rattle.crl_protocol.specs.Node.{Node, Activity, is_mine, home_of, lease_of, with_home, with_lease, with_remote, with_mapping}
+use Rattle.crl_protocol.specs.Lifetimes.{Mapping, Cached, Lifetime}
+use Rattle.crl_protocol.specs.Node.{Node, Activity, is_mine, home_of, lifetime_of, with_home, with_lifetime, with_remote, with_mapping}
 use Rattle.crl_protocol.proofs.Fitting.{by_name, begun, Seen, seen, RecordFits, LiveFits, MappedHere, RemoteFits, MappedThere, OwnFits, QueueFits, AskingFits, GoingFits, WaitFits, Holds, IsCached, SizeIs, FreshFits, Fits, Apart, calm}
-use Rattle.crl_protocol.proofs.Tabling.{home_put, lease_put, home_none}
+use Rattle.crl_protocol.proofs.Tabling.{home_put, lifetime_put, home_none}
 
 -- The activity changes: for no name anything waited, or for this one it is done.
 pub fits_turn : (i : ℕ) (n : Node) (d e : Name → List ℕ) (a b : Activity) → ((q : Name) → Apart q a) → ((q : Name) → WaitFits q b (is_mine n q) (n.maps q)) → FreshFits b n.cache
@@ -26,7 +26,7 @@ fits_turn i n d e a b apart wait fresh same f = record {
 
 pub fits_leave : (i : ℕ) (n : Node) (d e : Name → List ℕ) (a b : Activity) (name : Name) → ((q : Name) → name_eq name q ≡ false → Apart q a)
     → ((q : Name) → WaitFits q b (is_mine n q) (n.maps q)) → FreshFits b n.cache
-    → QueueFits n.me name (home_of n name) b → AskingFits name (n.remotes name) b → GoingFits n.me name (lease_of n name).stage b
+    → QueueFits n.me name (home_of n name) b → AskingFits name (n.remotes name) b → GoingFits n.me name (lifetime_of n name).stage b
     → begun b e ≡ begun a d → Fits i (record n { activity = a }) d → Fits i (record n { activity = b }) e
 fits_leave i n d e a b name apart wait fresh queue asking going same f = record {
   me = f.me;
@@ -170,29 +170,29 @@ fits_mapping i n d name m rec own wait f = record {
     at_it : Holds n.me name n.activity (seen n d name) → Holds n.me name n.activity (record (seen n d name) { mapping = m })
     at_it x = record { sections = rec; draft = x.draft; own = own; queue = x.queue; asking = x.asking; going = x.going; waiting = wait }
 
--- A lease of one of its own regions.
-own_lease : (b : Bool) (v : Seen) (s : Stage) → b ≡ true → LiveFits s v.home → OwnFits b v → OwnFits b (record v { stage = s })
-own_lease true v s e live own = record { live = live; bytes = own.bytes; mapped = own.mapped; nothing = own.nothing }
-own_lease false v s e live own = cc
+-- A lifetime of one of its own regions.
+own_lifetime : (b : Bool) (v : Seen) (s : Stage) → b ≡ true → LiveFits s v.home → OwnFits b v → OwnFits b (record v { stage = s })
+own_lifetime true v s e live own = record { live = live; bytes = own.bytes; mapped = own.mapped; nothing = own.nothing }
+own_lifetime false v s e live own = cc
 
-pub fits_lease : (i : ℕ) (n : Node) (d : Name → List ℕ) (name : Name) (lease : Lease) → is_mine n name ≡ true → LiveFits lease.stage (home_of n name)
-    → GoingFits n.me name lease.stage n.activity
-    → Fits i n d → Fits i (with_lease name lease n) d
-fits_lease i n d name lease mine live going f = record {
+pub fits_lifetime : (i : ℕ) (n : Node) (d : Name → List ℕ) (name : Name) (lifetime : Lifetime) → is_mine n name ≡ true → LiveFits lifetime.stage (home_of n name)
+    → GoingFits n.me name lifetime.stage n.activity
+    → Fits i n d → Fits i (with_lifetime name lifetime n) d
+fits_lifetime i n d name lifetime mine live going f = record {
   me = f.me;
-  each = λ q. subst (λ (x : Lease). Holds n.me q n.activity (record (seen n d q) { stage = x.stage })) (sym (lease_put n name lease mine q))
-      (by_name name (λ b p. Holds n.me p n.activity (record (seen n d p) { stage = (if b then lease else lease_of n p).stage })) (at_it (f.each name)) (λ p w. f.each p) q);
+  each = λ q. subst (λ (x : Lifetime). Holds n.me q n.activity (record (seen n d q) { stage = x.stage })) (sym (lifetime_put n name lifetime mine q))
+      (by_name name (λ b p. Holds n.me p n.activity (record (seen n d p) { stage = (if b then lifetime else lifetime_of n p).stage })) (at_it (f.each name)) (λ p w. f.each p) q);
   cache = f.cache;
   fresh = f.fresh;
   inbox = f.inbox;
   outbox = f.outbox;
 }
   where
-    at_it : Holds n.me name n.activity (seen n d name) → Holds n.me name n.activity (record (seen n d name) { stage = lease.stage })
+    at_it : Holds n.me name n.activity (seen n d name) → Holds n.me name n.activity (record (seen n d name) { stage = lifetime.stage })
     at_it x = record {
       sections = x.sections;
       draft = x.draft;
-      own = own_lease (is_mine n name) (seen n d name) lease.stage mine live x.own;
+      own = own_lifetime (is_mine n name) (seen n d name) lifetime.stage mine live x.own;
       queue = x.queue;
       asking = x.asking;
       going = going;
@@ -200,7 +200,7 @@ fits_lease i n d name lease mine live going f = record {
     }
 
 -- The cache.
-pub fits_cache : (i : ℕ) (n : Node) (d : Name → List ℕ) (cache : List Kept)
+pub fits_cache : (i : ℕ) (n : Node) (d : Name → List ℕ) (cache : List Cached)
     → ((q : Name) (size : ℕ) → IsCached q size cache → SizeIs (n.remotes q) size) → FreshFits n.activity cache
     → Fits i n d → Fits i (record n { cache = cache }) d
 fits_cache i n d cache sizes fresh f = record { me = f.me; each = f.each; cache = sizes; fresh = fresh; inbox = f.inbox; outbox = f.outbox }

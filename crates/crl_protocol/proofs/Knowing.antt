@@ -5,16 +5,16 @@ use Rattle.std.proofs.Math.Logic.{◌⊎◌}
 use Rattle.std.specs.List.{AllByRecursion}
 use Rattle.std.proofs.lemmas.List.Elements.{All-from_recursion}
 use Rattle.crl_model.specs.declared.name.Name.{Name}
-use Rattle.crl_model.specs.declared.region.Stage.{Stage}
-use Rattle.crl_model.specs.declared.region.Stage.TheVariants as stage
+use Rattle.crl_model.specs.declared.stage.Stage.{Stage}
+use Rattle.crl_model.specs.declared.stage.Stage.TheVariants as stage
 use Rattle.crl_model.specs.declared.call.Call.{Call}
 use Rattle.crl_model.specs.declared.entry.What.{What}
 use Rattle.crl_model.specs.declared.event.Event.{Event}
 use Rattle.crl_model.specs.declared.message.Message.{Message}
 use Rattle.crl_model.specs.declared.message.Kind.{Kind}
-use Rattle.crl_protocol.specs.Parcels.{Piece, with_load, Key, Gathered}
-use Rattle.crl_protocol.specs.Leases.{Lease}
-use Rattle.crl_protocol.specs.Node.{Node, Activity, Outcome, is_mine, lease_of, with_lease, used}
+use Rattle.crl_protocol.specs.Parcels.{Piece, with_load, Key, PartsGathered}
+use Rattle.crl_protocol.specs.Lifetimes.{Lifetime}
+use Rattle.crl_protocol.specs.Node.{Node, Activity, Outcome, is_mine, lifetime_of, with_lifetime, serials_used}
 use Rattle.crl_protocol.specs.Calls.{creates}
 use Rattle.crl_protocol.specs.World.{World, new_world, step, is_enabled, IsRunFrom, world_after}
 use Rattle.crl_protocol.specs.Places.{put, Took}
@@ -30,26 +30,26 @@ use Rattle.crl_protocol.proofs.Turning.{Local}
 use Rattle.crl_protocol.proofs.Totals.{on_piece, weigh_took, sum, sum_part, load, Tokens, Balance, Balanced, token_turn}
 use Rattle.crl_protocol.proofs.Spans.{Span, part_same, keyed_none, came, span_copies, span_rounds, span_notes}
 
--- No lease stands past the serials that were used.
+-- No lifetime stands past the serials that were used.
 abbrev pub NoneYet : Node → Type 0
-NoneYet n = (s : ℕ) → used n < s → (n.leases s).stage ≡ stage.Unknown
+NoneYet n = (s : ℕ) → serials_used n < s → (n.lifetimes s).stage ≡ stage.Unknown
 
 length_end : {A : Type 0} (xs : List A) (x : A) → length (xs ++ x ∷ []) ≡ length xs + 1
 length_end [] x = refl
 length_end (y ∷ xs) x = let h = length_end xs x in omega arith
 
-own_lease : (n : Node) (name : Name) → is_mine n name ≡ true → lease_of n name ≡ n.leases name.serial
-own_lease n name mine = cond-true (is_mine n name) _ _ mine
+own_lifetime : (n : Node) (name : Name) → is_mine n name ≡ true → lifetime_of n name ≡ n.lifetimes name.serial
+own_lifetime n name mine = cond-true (is_mine n name) _ _ mine
 
-none_put : (n : Node) (name : Name) (lease : Lease) (t : Stage) → is_mine n name ≡ true → (lease_of n name).stage ≡ t → (t ≡ stage.Unknown → ⊥) → NoneYet n → NoneYet (with_lease name lease n)
-none_put n name lease t mine e other h s l =
-    cond_both (name.serial == s) _ _ (λ (x : Lease). x.stage ≡ stage.Unknown)
-    (λ w. absurd (other (sym e ∙ ap (λ (x : Lease). x.stage) (own_lease n name mine) ∙ h name.serial (let same = eqb-true name.serial s w in omega arith)))) (λ w. h s l)
+none_put : (n : Node) (name : Name) (lifetime : Lifetime) (t : Stage) → is_mine n name ≡ true → (lifetime_of n name).stage ≡ t → (t ≡ stage.Unknown → ⊥) → NoneYet n → NoneYet (with_lifetime name lifetime n)
+none_put n name lifetime t mine e other h s l =
+    cond_both (name.serial == s) _ _ (λ (x : Lifetime). x.stage ≡ stage.Unknown)
+    (λ w. absurd (other (sym e ∙ ap (λ (x : Lifetime). x.stage) (own_lifetime n name mine) ∙ h name.serial (let same = eqb-true name.serial s w in omega arith)))) (λ w. h s l)
 
 none_made : (n : Node) (size : ℕ) → NoneYet n → NoneYet (creates size n).node
 none_made n size h s l =
     let k = length_end n.homes (Some (new_home n.nodes size)) in
-    cond_both (used n + 1 == s) _ _ (λ (x : Lease). x.stage ≡ stage.Unknown) (λ w. let same = eqb-true (used n + 1) s w in absurd (omega arith)) (λ w. h s (omega arith))
+    cond_both (serials_used n + 1 == s) _ _ (λ (x : Lifetime). x.stage ≡ stage.Unknown) (λ w. let same = eqb-true (serials_used n + 1) s w in absurd (omega arith)) (λ w. h s (omega arith))
 
 none_lives : (n : Node) (cause : Cause) (o : Outcome) → Lives n cause o → NoneYet n → NoneYet o.node
 none_lives n cause o (made size e) h = none_made n size h
@@ -70,8 +70,8 @@ length_put (suc k) v [] = omega arith
 length_put zero v (x ∷ xs) = omega arith
 length_put (suc k) v (x ∷ xs) = let h = length_put k v xs in omega arith
 
-none_more : (n m : Node) → used n ≤ used m → m.leases ≡ n.leases → NoneYet n → NoneYet m
-none_more n m few same h s l = ap (λ (f : ℕ → Lease). (f s).stage) same ∙ h s (omega arith)
+none_more : (n m : Node) → serials_used n ≤ serials_used m → m.lifetimes ≡ n.lifetimes → NoneYet n → NoneYet m
+none_more n m few same h s l = ap (λ (f : ℕ → Lifetime). (f s).stage) same ∙ h s (omega arith)
 
 none_copies : (n : Node) (cause : Cause) (o : Outcome) → Copies n cause o → NoneYet n → NoneYet o.node
 none_copies n cause o (home_opens c write name h is e v x) k = none_more n o.node (length_put (name.serial - 1) _ n.homes) refl k
@@ -162,13 +162,13 @@ life_balanced i f g waits l w small x one = record {
   calls = λ j c o few free d. life_deed i f g waits l j (x.drafts j) (w.nodes j) (Calls c) o (w.nodes i).activity d (x.fits j) (x.none j).node tt free (λ e. same j e) (omega arith);
   hears = hearing;
   gathers = λ p key e. keyed_none f l.span.mail p.message.sender p.message.addressee p.message.kind key e;
-  carries = λ j p rest few took. l.near w.count p.message.sender p.message.addressee p.message.kind small (all_took (HeldOut (Plain w.count)) took (x.held j).outbox).0.1;
+  carriage = λ j p rest few took. l.near w.count p.message.sender p.message.addressee p.message.kind small (all_took (HeldOut (Plain w.count)) took (x.held j).outbox).0.1;
 }
   where
     same : (j : ℕ) → (w.nodes j).me ≡ i → (w.nodes i).activity ≡ (w.nodes j).activity
     same j e = ap (λ k. (w.nodes k).activity) (sym e ∙ (x.fits j).me)
 
-    hearing : (j : ℕ) (p : Piece) (rest : List Piece) (parcels : Gathered) (part : List ℕ) (o : Outcome) → j < w.count → Took p (w.nodes j).inbox rest
+    hearing : (j : ℕ) (p : Piece) (rest : List Piece) (parcels : PartsGathered) (part : List ℕ) (o : Outcome) → j < w.count → Took p (w.nodes j).inbox rest
         → Deed (record (w.nodes j) { inbox = rest; parcels = parcels }) (Hears p.message.sender (with_load part p.message.kind)) o
         → Balance f g waits i (record (w.nodes j) { inbox = rest; parcels = parcels }) (f p.message) o
     hearing j p rest parcels part o few took d =

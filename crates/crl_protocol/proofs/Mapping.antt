@@ -3,17 +3,17 @@ use Rattle.std.proofs.Common.{◌≡◌, ℕ, ◌≤◌, ◌<◌, ◌==◌, Bool
 use Rattle.std.proofs.lemmas.Bool.{cond-false, eqb-true, eq-eqb}
 use Rattle.std.proofs.Math.Logic.{◌⊎◌, inl, inr}
 use Rattle.crl_model.specs.declared.name.Name.{Name}
-use Rattle.crl_model.specs.declared.region.Stage.{Stage}
-use Rattle.crl_model.specs.declared.region.Stage.TheVariants as stage
+use Rattle.crl_model.specs.declared.stage.Stage.{Stage}
+use Rattle.crl_model.specs.declared.stage.Stage.TheVariants as stage
 use Rattle.crl_model.specs.declared.event.Event.{Event}
 use Rattle.crl_model.specs.declared.message.Message.{Message}
 use Rattle.crl_model.specs.declared.message.Kind.{Kind}
 use Rattle.crl_model.specs.declared.message.Kind.TheVariants as kind
 use Rattle.crl_model.specs.Names.{name_eq}
-use Rattle.crl_protocol.specs.Mail.{Mail, Ask, about}
-use Rattle.crl_protocol.specs.Node.{Node, ForMap, ForDelete, Activity, Free, Waiting, Outcome, message}
+use Rattle.crl_protocol.specs.Mail.{Mail, Ask, kind_about}
+use Rattle.crl_protocol.specs.Node.{Node, ForMap, ForDelete, Activity, Free, Waiting, Outcome, message_to}
 use Rattle.crl_protocol.specs.Handlers.{purges_waiting}
-use Rattle.crl_protocol.specs.World.{new_world, IsRun, world_of, boxed}
+use Rattle.crl_protocol.specs.World.{new_world, IsRun, world_of, pieces_in_boxes}
 use Rattle.crl_protocol.proofs.Fitting.{same_name, GoingFits, Fits}
 use Rattle.crl_protocol.proofs.Counting.{PlainKind}
 use Rattle.crl_protocol.proofs.Deeds.{FreeIf, Cause, Calls, Hears, parting, Lives, Idles, map_asks, map_comes, map_denied, unmaps_doomed, unmaps_evicting, deletes_own, delete_asks, deletes_for, delete_comes, drops, warns, ends_own}
@@ -39,7 +39,7 @@ waits_map r _ = 0
 abbrev none : Node → ℕ
 none n = 0
 
-mail_none : (i : ℕ) (r : Name) (from to : ℕ) (name : Name) (m : Mail) → token_kind i r from to (about name m) ≡ 0
+mail_none : (i : ℕ) (r : Name) (from to : ℕ) (name : Name) (m : Mail) → token_kind i r from to (kind_about name m) ≡ 0
 mail_none i r from to name (Ask write have) = refl
 mail_none i r from to name _ = refl
 
@@ -81,7 +81,7 @@ map_lives i r j d n cause o (delete_asks name other real) f free = let was = no_
 map_lives i r j d n cause o (deletes_for from name m ms mine live e) f free = even _ _ _ _ (purges_none _ _ _ (span i r) n name _) refl
 map_lives i r j d n cause o (delete_comes from name t e) f free = let was = no_wait_as (waits_map r) i n _ e refl in let now = no_wait (waits_map r) i o.node refl in omega arith
 map_lives i r j d n cause o (drops from name size e c) f free =
-    let a = weigh_append (token i r) (parting n name (n.remotes name)) (message n from (kind.Purged name) ∷ []) in let b = parting_none _ _ _ (span i r) n name (n.remotes name) in omega arith
+    let a = weigh_append (token i r) (parting n name (n.remotes name)) (message_to n from (kind.Purged name) ∷ []) in let b = parting_none _ _ _ (span i r) n name (n.remotes name) in omega arith
 map_lives i r j d n cause o (warns from name e c) f free = let same = ap (λ x. if n.me == i then x else 0) (warned r name n.activity) in omega arith
 map_lives i r j d n cause o (ends_own from name mine e missing last) f free =
     let was = no_wait_as (waits_map r) i n _ (going_own n.me name _ n.activity (f.each name).going e) refl in let now = no_wait (waits_map r) i o.node refl in omega arith
@@ -123,7 +123,7 @@ map_life i r = record {
 }
 
 pub who_maps_has_one : (count capacity : ℕ) (run : List Event) → IsRun count capacity run → (i : ℕ) (r : Name) → i < count
-    → weighs (token i r) (boxed (world_of count capacity run)) ≡ waits_map r ((world_of count capacity run).nodes i).activity
+    → weighs (token i r) (pieces_in_boxes (world_of count capacity run)) ≡ waits_map r ((world_of count capacity run).nodes i).activity
 who_maps_has_one count capacity run h i r small =
     boxed_sum (token i r) (world_of count capacity run)
     ∙ life_run i (token i r) none (waits_map r) (map_life i r) run (new_world count capacity) small h.enabled (known_start count capacity) (sum_new (load (token i r) none) count capacity (λ j. refl))

@@ -5,9 +5,9 @@ use Rattle.crl_model.specs.declared.name.Name.{Name}
 use Rattle.crl_model.specs.declared.call.Call.{Call}
 use Rattle.crl_model.specs.declared.call.Call.TheVariants as call
 use Rattle.crl_model.specs.declared.call.Refusal.{Refusal}
-use Rattle.crl_protocol.specs.Node.{Node, Free, is_mine, lease_of}
+use Rattle.crl_protocol.specs.Node.{Node, Free, is_mine, lifetime_of}
 use Rattle.crl_protocol.specs.Verdict.{refuse_if, verdict}
-use Rattle.crl_protocol.specs.Calls.{call_taken, called_as, called}
+use Rattle.crl_protocol.specs.Calls.{takes_call, call_or_refuse, node_calls}
 use Rattle.crl_protocol.proofs.Fitting.{Fits}
 use Rattle.crl_protocol.proofs.Opening.{free, fits_made}
 use Rattle.crl_protocol.proofs.Outcomes.{Good, good_only, good_recording}
@@ -23,12 +23,12 @@ of_true : (b : Bool) (x y : Option Refusal) → (if b then x else y) ≡ None �
 of_true true x y e w = e
 of_true false x y e w = cc
 
-good_taken : (i : ℕ) (d : Name → List ℕ) (n : Node) (c : Call) → verdict (free n) c ≡ None → is_call (free n) c None ≡ true → Fits i (free n) d → Good i d (call_taken c (free n))
-unfolding verdict call_taken
+good_taken : (i : ℕ) (d : Name → List ℕ) (n : Node) (c : Call) → verdict (free n) c ≡ None → is_call (free n) c None ≡ true → Fits i (free n) d → Good i d (takes_call c (free n))
+unfolding verdict takes_call
 good_taken i d n (call.Create size) v e f = record { node = fits_made i size (free n) d f; posts = tt }
 good_taken i d n (call.Delete name) v e f = good_delete i d n name f
 good_taken i d n (call.Map name) v e f =
-    good_map i d n name (n.maps name) refl (λ mine. live_by (lease_of n name).stage (none_of _ _ (of_true (is_mine n name) _ _ v mine)).0) f
+    good_map i d n name (n.maps name) refl (λ mine. live_by (lifetime_of n name).stage (none_of _ _ (of_true (is_mine n name) _ _ v mine)).0) f
 good_taken i d n (call.Unmap name) v e f =
     good_recording i d _ _ (good_unmap i d n name (n.maps name) refl (not-false _ (allowed_by _ _ (none_of _ _ v).1)) f)
 good_taken i d n (call.StartRead name) v e f = let m = mapped_by (n.maps name) (none_of _ _ v).0 in good_start i d n false name m.0 m.1 f
@@ -41,12 +41,12 @@ good_taken i d n (call.Flush name) v e f = good_flush i d (free n) name f
 good_taken i d n (call.Come part) v e f = good_come i d n part f
 
 good_as : (i : ℕ) (d : Name → List ℕ) (n : Node) (c : Call) (o : Option Refusal) → verdict (free n) c ≡ o → is_call (free n) c o ≡ true
-    → Fits i (free n) d → Good i d (called_as o c (free n))
+    → Fits i (free n) d → Good i d (call_or_refuse o c (free n))
 good_as i d n c None v e f = good_taken i d n c v e f
 good_as i d n c (Some why) v e f = good_refused i d (free n) why c f
 
-pub good_call : (i : ℕ) (d : Name → List ℕ) (n : Node) (c : Call) → n.activity ≡ Free → is_call n c (verdict n c) ≡ true → Fits i n d → Good i d (called c n)
+pub good_call : (i : ℕ) (d : Name → List ℕ) (n : Node) (c : Call) → n.activity ≡ Free → is_call n c (verdict n c) ≡ true → Fits i n d → Good i d (node_calls c n)
 good_call i d n c e =
     subst (λ a. is_call (record n { activity = a }) c (verdict (record n { activity = a }) c) ≡ true → Fits i (record n { activity = a }) d → Good i d
-    (called c (record n { activity = a }))) (sym e)
+    (node_calls c (record n { activity = a }))) (sym e)
     (λ w f. good_as i d n c (verdict (free n) c) refl w f)

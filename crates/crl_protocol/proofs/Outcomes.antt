@@ -9,13 +9,13 @@ use Rattle.crl_model.specs.declared.entry.What.{What}
 use Rattle.crl_model.specs.declared.message.Message.{Message}
 use Rattle.crl_model.specs.declared.message.Kind.TheVariants as kind
 use Rattle.crl_model.specs.Names.{name_eq}
-use Rattle.crl_protocol.specs.Mail.{Mail, Ask, Grant, Recall, Yield, Return, Release, Letter, about}
+use Rattle.crl_protocol.specs.Mail.{Mail, Ask, Grant, Recall, Yield, Return, Release, Letter, kind_about}
 use Rattle.crl_protocol.specs.Home.{Home}
-use Rattle.crl_protocol.specs.Remote.{Remote, Moved, remote_flushes}
-use Rattle.crl_protocol.specs.Leases.{Mapping, Kept, cached_size, dropped}
+use Rattle.crl_protocol.specs.Remote.{Remote, RemoteStep, remote_flushes}
+use Rattle.crl_protocol.specs.Lifetimes.{Mapping, Cached, cached_size, cache_without}
 use Rattle.crl_protocol.specs.Gathering.{Gathering}
-use Rattle.crl_protocol.specs.Node.{Node, Awaited, Free, Waiting, Outcome, only, Done, is_mine, home_of, message, letters, mails}
-use Rattle.crl_protocol.specs.Sectioning.{waits, recording, forgets_over, forgets, moved}
+use Rattle.crl_protocol.specs.Node.{Node, Awaited, Free, Waiting, Outcome, only, Done, is_mine, home_of, message_to, letter_messages, mail_messages}
+use Rattle.crl_protocol.specs.Sectioning.{waits, with_entry_first, forgets_over, forgets, after_remote}
 use Rattle.crl_protocol.specs.Calls.{results_from}
 use Rattle.crl_protocol.proofs.Fitting.{begins, seen, CopyFits, RemoteFits, HomeFits, OwnFits, OwnHere, OwnThere, MappedHere, MappedThere, QueueFits, AskingFits, WaitFits, IsCached, FreshFits, IsAway, Leaves, Fits, Apart, other_name, same_name}
 use Rattle.crl_protocol.proofs.Serving.{NoAsk, NoAsks, RemoteGoes}
@@ -33,7 +33,7 @@ good_if i d b x y f g = cond_both b x y (λ o. Good i d o) f g
 pub good_only : (i : ℕ) (d : Name → List ℕ) (n : Node) → Fits i n d → Good i d (only n Done)
 good_only i d n f = record { node = f; posts = tt }
 
-pub good_recording : (i : ℕ) (d : Name → List ℕ) (what : What) (o : Outcome) → Good i d o → Good i d (recording what o)
+pub good_recording : (i : ℕ) (d : Name → List ℕ) (what : What) (o : Outcome) → Good i d o → Good i d (with_entry_first what o)
 good_recording i d what o g = record { node = g.node; posts = g.posts }
 
 -- nothing waits at a node that is free
@@ -53,7 +53,7 @@ fits_rounds i d n rounds g f = record { me = f.me; each = f.each; cache = f.cach
 pub other_way : (a b : ℕ) → (a == b) ≡ false → (b == a) ≡ false
 other_way a b e = ne_eqb b a (λ w. eqb-false a b e (sym w))
 
-no_ask_leaves : (from to : ℕ) (name : Name) (m : Mail) → NoAsk m → IsAway from to (about name m)
+no_ask_leaves : (from to : ℕ) (name : Name) (m : Mail) → NoAsk m → IsAway from to (kind_about name m)
 no_ask_leaves from to name (Ask write have) h = absurd h
 no_ask_leaves from to name (Grant version granted) h = tt
 no_ask_leaves from to name (Recall version) h = tt
@@ -61,11 +61,11 @@ no_ask_leaves from to name (Yield version) h = tt
 no_ask_leaves from to name (Return version bytes) h = tt
 no_ask_leaves from to name (Release version bytes) h = tt
 
-pub letters_leave : (n : Node) (name : Name) (posts : List Letter) → NoAsks posts → AllByRecursion Leaves (letters n name posts)
+pub letters_leave : (n : Node) (name : Name) (posts : List Letter) → NoAsks posts → AllByRecursion Leaves (letter_messages n name posts)
 letters_leave n name [] h = tt
 letters_leave n name (l ∷ posts) h = (no_ask_leaves n.me l.to name l.mail h.0, letters_leave n name posts h.1)
 
-mail_leaves : (from to : ℕ) (name : Name) (m : Mail) → (from == to) ≡ false → IsAway from to (about name m)
+mail_leaves : (from to : ℕ) (name : Name) (m : Mail) → (from == to) ≡ false → IsAway from to (kind_about name m)
 mail_leaves from to name (Ask write have) h = h
 mail_leaves from to name (Grant version granted) h = tt
 mail_leaves from to name (Recall version) h = tt
@@ -73,7 +73,7 @@ mail_leaves from to name (Yield version) h = tt
 mail_leaves from to name (Return version bytes) h = tt
 mail_leaves from to name (Release version bytes) h = tt
 
-pub mails_leave : (n : Node) (name : Name) (posts : List Mail) → is_mine n name ≡ false → AllByRecursion Leaves (mails n name posts)
+pub mails_leave : (n : Node) (name : Name) (posts : List Mail) → is_mine n name ≡ false → AllByRecursion Leaves (mail_messages n name posts)
 mails_leave n name [] h = tt
 mails_leave n name (m ∷ posts) h = (mail_leaves n.me name.home name m (other_way name.home n.me h), mails_leave n name posts h)
 
@@ -81,7 +81,7 @@ pub results_leave : (n : Node) (m k round : ℕ) (fold : Fold) → AllByRecursio
 results_leave n m zero round fold = tt
 results_leave n m (suc k) round fold = (tt, results_leave n (m + 1) k round fold)
 
-pub purges_leave : (n : Node) (name : Name) (ms : List ℕ) → AllByRecursion Leaves (map (λ m. message n m (kind.Purge name)) ms)
+pub purges_leave : (n : Node) (name : Name) (ms : List ℕ) → AllByRecursion Leaves (map (λ m. message_to n m (kind.Purge name)) ms)
 purges_leave n name [] = tt
 purges_leave n name (m ∷ ms) = (tt, purges_leave n name ms)
 
@@ -129,8 +129,8 @@ mapped_remote i d n name r m e w f =
     subst (λ x. MappedThere (Some m) x) e (subst (λ y. MappedThere y (n.remotes name)) w (there_if i d n name (not_mine i d n name r e f) f).mapped)
 
 -- A node's side of a region moves on, or is forgotten.
-pub good_moved : (i : ℕ) (d : Name → List ℕ) (n : Node) (name : Name) (r : Remote) (s : Moved) → n.remotes name ≡ Some r → RemoteGoes r s → Fits i n d → Good i d (moved name s n)
-unfolding moved
+pub good_moved : (i : ℕ) (d : Name → List ℕ) (n : Node) (name : Name) (r : Remote) (s : RemoteStep) → n.remotes name ≡ Some r → RemoteGoes r s → Fits i n d → Good i d (after_remote name s n)
+unfolding after_remote
 good_moved i d n name r s e g f = record {
   node = fits_remote i n d name r s.remote e g.size (subst (λ z. CopyFits s.remote.copy z) (sym g.size) g.bytes) (asking_same (asking_of i d n name r e f)) f;
   posts = mails_leave n name s.posts (not_mine i d n name r e f);
@@ -149,7 +149,7 @@ unfolding forgets
 good_forgets i d n name f = good_forgets_over i d n name (n.remotes name) refl f
 
 -- The cache.
-pub is_cached : (name : Name) (cache : List Kept) (size : ℕ) → cached_size name cache ≡ Some size → IsCached name size cache
+pub is_cached : (name : Name) (cache : List Cached) (size : ℕ) → cached_size name cache ≡ Some size → IsCached name size cache
 is_cached name [] size e = cc
 is_cached name (kept ∷ cache) size e = either (name_eq kept.name name) refl e (is_cached name cache size)
   where
@@ -159,7 +159,7 @@ is_cached name (kept ∷ cache) size e = either (name_eq kept.name name) refl e 
     either true w k rest = inl (same_name kept.name name w, cc)
     either false w k rest = inr (rest k)
 
-pub not_cached : (name : Name) (cache : List Kept) → cached_size name cache ≡ None → (size : ℕ) → IsCached name size cache → ⊥
+pub not_cached : (name : Name) (cache : List Cached) → cached_size name cache ≡ None → (size : ℕ) → IsCached name size cache → ⊥
 not_cached name [] e size c = c
 not_cached name (kept ∷ cache) e size c = either (name_eq kept.name name) refl e (not_cached name cache) c
   where
@@ -170,17 +170,17 @@ not_cached name (kept ∷ cache) e size c = either (name_eq kept.name name) refl
     either false w k rest (inl h) = other_name kept.name name w h.0
     either false w k rest (inr h) = rest k size h
 
-pub kept_dropped : (name q : Name) (size : ℕ) (cache : List Kept) → IsCached q size (dropped name cache) → IsCached q size cache
+pub kept_dropped : (name q : Name) (size : ℕ) (cache : List Cached) → IsCached q size (cache_without name cache) → IsCached q size cache
 kept_dropped name q size [] c = c
 kept_dropped name q size (kept ∷ cache) c = either (name_eq kept.name name) (kept_dropped name q size cache) c
   where
-    either : (b : Bool) → (IsCached q size (dropped name cache) → IsCached q size cache)
-        → IsCached q size (if b then cache else kept ∷ dropped name cache) → IsCached q size (kept ∷ cache)
+    either : (b : Bool) → (IsCached q size (cache_without name cache) → IsCached q size cache)
+        → IsCached q size (if b then cache else kept ∷ cache_without name cache) → IsCached q size (kept ∷ cache)
     either true rest c = inr c
     either false rest (inl h) = inl h
     either false rest (inr h) = inr (rest h)
 
-pub kept_more : (q : Name) (size : ℕ) (new : Kept) (cache : List Kept) → IsCached q size (cache ++ new ∷ []) → ((new.name ≡ q) × (new.size ≡ size)) ⊎ IsCached q size cache
+pub kept_more : (q : Name) (size : ℕ) (new : Cached) (cache : List Cached) → IsCached q size (cache ++ new ∷ []) → ((new.name ≡ q) × (new.size ≡ size)) ⊎ IsCached q size cache
 kept_more q size new [] (inl h) = inl h
 kept_more q size new [] (inr h) = inr h
 kept_more q size new (kept ∷ cache) (inl h) = inr (inl h)

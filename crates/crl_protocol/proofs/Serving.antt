@@ -9,8 +9,8 @@ use Rattle.crl_model.specs.declared.directory.Asked.{Asked}
 use Rattle.crl_model.specs.declared.directory.Listing.{Listing}
 use Rattle.crl_protocol.specs.Places.{at}
 use Rattle.crl_protocol.specs.Mail.{Mail, Ask, Letter}
-use Rattle.crl_protocol.specs.Home.{Home, Served, is_servable, is_called, call_for, calls, open_own, grant_next, grant_for, opening, posting, serve, marked, home_asked, bytes_after, takes_return, bytes_fit, home_returned, is_lowered, home_released, takes_release, own_ask, is_empty, is_reading, home_starts, home_ends_read, home_ends_write, one_less}
-use Rattle.crl_protocol.specs.Remote.{Copy, Remote, Moved, remote_starts, starts_over, notes_due, is_newer, overtakes, recalled_in, recalled_over, remote_recalled, yields_in, yields_over, remote_yields, leaves_over, lowers_over, is_closed, remote_ends_read, written, remote_ends_write, flushes_over, remote_flushes, gives_back, lowers, quiet}
+use Rattle.crl_protocol.specs.Home.{Home, HomeStep, is_servable, is_to_mark, recall_or_yield, recalls_and_yields, open_own, grant_next, grant_for, opens_own_section, posts_first, serve, with_marks, home_takes_ask, bytes_after, return_fits, bytes_fit, home_takes_return, is_to_lower, home_takes_release, release_fits, own_ask, is_empty, is_reading, home_starts, home_ends_read, home_ends_write, one_section_less}
+use Rattle.crl_protocol.specs.Remote.{Copy, Remote, RemoteStep, remote_starts, starts_over, notes_due, is_newer, overtakes, recall_in, recall_over, remote_takes_recall, yield_in, yield_over, remote_takes_yield, leaves_over, lowers_over, is_closed, remote_ends_read, with_written, remote_ends_write, flushes_over, remote_flushes, gives_back, lowers, sends_nothing}
 use Rattle.crl_protocol.proofs.Fitting.{NoOwn, OneOwn, CopyFits}
 use Rattle.crl_protocol.proofs.Placing.{all_append}
 
@@ -27,7 +27,7 @@ no_is_one me [] h = tt
 no_is_one me (ask ∷ queue) h = rw h.0 (no_is_one me queue h.1)
 
 -- Serve, over a queue.
-record Serves (me : ℕ) (h : Home) (queue : List Asked) (s : Served) : Type 0 where
+record Serves (me : ℕ) (h : Home) (queue : List Asked) (s : HomeStep) : Type 0 where
   size : s.home.size ≡ h.size
   bytes : s.home.bytes ≡ h.bytes
   mail : NoAsks s.posts
@@ -36,19 +36,19 @@ record Serves (me : ℕ) (h : Home) (queue : List Asked) (s : Served) : Type 0 w
   one : OneOwn me queue → OneOwn me s.home.queue
   after : OneOwn me queue → s.opened ≡ true → NoOwn me s.home.queue
 
-call_mail : (ask : Asked) (version m : ℕ) → NoAsk (call_for ask version m).mail
+call_mail : (ask : Asked) (version m : ℕ) → NoAsk (recall_or_yield ask version m).mail
 call_mail ask version m = cond_both ask.write _ _ NoAsk (λ w. tt) (λ w. tt)
 
-calls_mail : (m : ℕ) (listed : List (Option Listing)) (ask : Asked) → NoAsks (calls m listed ask)
+calls_mail : (m : ℕ) (listed : List (Option Listing)) (ask : Asked) → NoAsks (recalls_and_yields m listed ask)
 calls_mail m [] ask = tt
 calls_mail m (None ∷ listed) ask = calls_mail (m + 1) listed ask
 calls_mail m (Some copy ∷ listed) ask =
-    cond_both (is_called m copy ask) _ _ NoAsks (λ w. (call_mail ask copy.version m, calls_mail (m + 1) listed ask)) (λ w. calls_mail (m + 1) listed ask)
+    cond_both (is_to_mark m copy ask) _ _ NoAsks (λ w. (call_mail ask copy.version m, calls_mail (m + 1) listed ask)) (λ w. calls_mail (m + 1) listed ask)
 
-served_next : (me : ℕ) (h : Home) (ask : Asked) (queue : List Asked) (x y : Served) (servable own : Bool) → (ask.node == me) ≡ own
+served_next : (me : ℕ) (h : Home) (ask : Asked) (queue : List Asked) (x y : HomeStep) (servable own : Bool) → (ask.node == me) ≡ own
     → Serves me (open_own h ask) queue x → Serves me (grant_next h ask) queue y
-    → Serves me h (ask ∷ queue) (if servable then (if own then opening x else posting (grant_for h ask) y)
-    else record { home = record h { listed = marked 0 h.listed ask; queue = ask ∷ queue }; posts = calls 0 h.listed ask; opened = false })
+    → Serves me h (ask ∷ queue) (if servable then (if own then opens_own_section x else posts_first (grant_for h ask) y)
+    else record { home = record h { listed = with_marks 0 h.listed ask; queue = ask ∷ queue }; posts = recalls_and_yields 0 h.listed ask; opened = false })
 served_next me h ask queue x y true true e fx fy = record {
   size = fx.size;
   bytes = fx.bytes;
@@ -84,7 +84,7 @@ serves me h (ask ∷ queue) =
     (serves me (open_own h ask) queue) (serves me (grant_next h ask) queue)
 
 -- An event at the home that isn't the start of one of its own sections.
-pub record HomeGoes (me : ℕ) (h : Home) (s : Served) : Type 0 where
+pub record HomeGoes (me : ℕ) (h : Home) (s : HomeStep) : Type 0 where
   pub size : s.home.size ≡ h.size
   pub bytes : length s.home.bytes ≡ h.size
   pub mail : NoAsks s.posts
@@ -126,8 +126,8 @@ one_more_own : (me : ℕ) (queue : List Asked) (ask : Asked) → NoOwn me queue 
 one_more_own me [] ask h = by_both (ask.node == me) _ _ tt tt
 one_more_own me (x ∷ queue) ask h = rw h.0 (one_more_own me queue ask h.1)
 
-pub asked_goes : (me : ℕ) (ask : Asked) (h : Home) → (ask.node == me) ≡ false → length h.bytes ≡ h.size → HomeGoes me h (home_asked me ask h)
-unfolding home_asked
+pub asked_goes : (me : ℕ) (ask : Asked) (h : Home) → (ask.node == me) ≡ false → length h.bytes ≡ h.size → HomeGoes me h (home_takes_ask me ask h)
+unfolding home_takes_ask
 asked_goes me ask h e b = goes me h h (h.queue ++ ask ∷ []) refl b (more_none me h.queue ask e) (more_one me h.queue ask e)
 
 after_length : (bytes : Option (List ℕ)) (old : List ℕ) (size : ℕ) (copy : Option Listing) → length old ≡ size → bytes_fit bytes copy size ≡ true
@@ -135,16 +135,16 @@ after_length : (bytes : Option (List ℕ)) (old : List ℕ) (size : ℕ) (copy :
 after_length None old size copy b f = b
 after_length (Some bytes) old size copy b f = eqb-true (length bytes) size f
 
-pub returned_goes : (me n version : ℕ) (bytes : Option (List ℕ)) (h : Home) → length h.bytes ≡ h.size → takes_return n version bytes h ≡ true
-    → HomeGoes me h (home_returned me n bytes h)
-unfolding home_returned
+pub returned_goes : (me n version : ℕ) (bytes : Option (List ℕ)) (h : Home) → length h.bytes ≡ h.size → return_fits n version bytes h ≡ true
+    → HomeGoes me h (home_takes_return me n bytes h)
+unfolding home_takes_return
 returned_goes me n version bytes h b f =
     goes me h _ h.queue refl (after_length bytes h.bytes h.size (at n h.listed) b (and_parts _ _ f).1) (λ w. w) (λ w. w)
 
-pub released_goes : (me n version : ℕ) (bytes : List ℕ) (h : Home) → length h.bytes ≡ h.size → takes_release bytes h ≡ true → HomeGoes me h (home_released me n version bytes h)
-unfolding home_released
+pub released_goes : (me n version : ℕ) (bytes : List ℕ) (h : Home) → length h.bytes ≡ h.size → release_fits bytes h ≡ true → HomeGoes me h (home_takes_release me n version bytes h)
+unfolding home_takes_release
 released_goes me n version bytes h b f =
-    cond_both (is_lowered version (at n h.listed)) _ _ (HomeGoes me h) (λ w. goes me h _ h.queue refl (eqb-true (length bytes) h.size f) (λ w. w) (λ w. w))
+    cond_both (is_to_lower version (at n h.listed)) _ _ (HomeGoes me h) (λ w. goes me h _ h.queue refl (eqb-true (length bytes) h.size f) (λ w. w) (λ w. w))
     (λ w. record { size = refl; bytes = b; mail = tt; none = λ w. w; silent = λ w. refl; one = λ w. w; after = λ w e. cc })
 
 pub read_goes : (me : ℕ) (h : Home) → length h.bytes ≡ h.size → HomeGoes me h (home_ends_read me h)
@@ -156,7 +156,7 @@ unfolding home_ends_write
 write_goes me bytes h b = goes me h _ h.queue refl b (λ w. w) (λ w. w)
 
 -- The start of an own section, where no own ask waits.
-pub record HomeStarts (me : ℕ) (h : Home) (s : Served) : Type 0 where
+pub record HomeStarts (me : ℕ) (h : Home) (s : HomeStep) : Type 0 where
   pub size : s.home.size ≡ h.size
   pub bytes : length s.home.bytes ≡ h.size
   pub mail : NoAsks s.posts
@@ -175,12 +175,12 @@ starts_fit me write h b none =
     (λ w. record { size = queued.size; bytes = ap (λ xs. length xs) queued.bytes ∙ b; mail = queued.mail; one = queued.one last; after = λ o. queued.after last o }))
 
 -- An event at another node's side that isn't the start of a section.
-pub record RemoteGoes (r : Remote) (s : Moved) : Type 0 where
+pub record RemoteGoes (r : Remote) (s : RemoteStep) : Type 0 where
   pub size : s.remote.size ≡ r.size
   pub bytes : CopyFits s.remote.copy r.size
   pub asking : s.remote.asking ≡ r.asking
 
-still : (r : Remote) → CopyFits r.copy r.size → RemoteGoes r (quiet r)
+still : (r : Remote) → CopyFits r.copy r.size → RemoteGoes r (sends_nothing r)
 still r f = record { size = refl; bytes = f; asking = refl }
 
 back : (copy : Copy) (r : Remote) → RemoteGoes r (gives_back copy r)
@@ -189,41 +189,41 @@ back copy r = record { size = refl; bytes = tt; asking = refl }
 lower : (copy : Copy) (r : Remote) → length copy.bytes ≡ r.size → RemoteGoes r (lowers copy r)
 lower copy r f = record { size = refl; bytes = f; asking = refl }
 
-noted : (version : ℕ) (yields : Bool) (asking : Option Bool) (r : Remote) → CopyFits r.copy r.size → RemoteGoes r (quiet (notes_due version yields asking r))
+noted : (version : ℕ) (yields : Bool) (asking : Option Bool) (r : Remote) → CopyFits r.copy r.size → RemoteGoes r (sends_nothing (notes_due version yields asking r))
 noted version yields None r f = still r f
 noted version yields (Some write) r f =
-    cond_both (is_newer version r.due) _ _ (λ x. RemoteGoes r (quiet x)) (λ w. record { size = refl; bytes = f; asking = refl }) (λ w. still r f)
+    cond_both (is_newer version r.due) _ _ (λ x. RemoteGoes r (sends_nothing x)) (λ w. record { size = refl; bytes = f; asking = refl }) (λ w. still r f)
 
 overtaken : (version old : ℕ) (yields : Bool) (r : Remote) → CopyFits r.copy r.size → RemoteGoes r (overtakes version old yields r)
-overtaken version old yields r f = cond_both (nat_lt old version) _ _ (λ x. RemoteGoes r (quiet x)) (λ w. noted version yields r.asking r f) (λ w. still r f)
+overtaken version old yields r f = cond_both (nat_lt old version) _ _ (λ x. RemoteGoes r (sends_nothing x)) (λ w. noted version yields r.asking r f) (λ w. still r f)
 
-recall_in : (here : Section) (copy : Copy) (r : Remote) → CopyFits r.copy r.size → RemoteGoes r (recalled_in here copy r)
-recall_in section.Closed copy r f = back copy r
-recall_in (section.Reading count) copy r f = record { size = refl; bytes = f; asking = refl }
-recall_in section.Writing copy r f = record { size = refl; bytes = f; asking = refl }
+recall_in_fits : (here : Section) (copy : Copy) (r : Remote) → CopyFits r.copy r.size → RemoteGoes r (recall_in here copy r)
+recall_in_fits section.Closed copy r f = back copy r
+recall_in_fits (section.Reading count) copy r f = record { size = refl; bytes = f; asking = refl }
+recall_in_fits section.Writing copy r f = record { size = refl; bytes = f; asking = refl }
 
-recall_over : (version : ℕ) (copy : Option Copy) (r : Remote) → CopyFits r.copy r.size → RemoteGoes r (recalled_over version copy r)
-recall_over version None r f = noted version false r.asking r f
-recall_over version (Some copy) r f =
-    cond_both (version == copy.version) _ _ (RemoteGoes r) (λ w. recall_in r.here copy r f) (λ w. overtaken version copy.version false r f)
+recall_over_fits : (version : ℕ) (copy : Option Copy) (r : Remote) → CopyFits r.copy r.size → RemoteGoes r (recall_over version copy r)
+recall_over_fits version None r f = noted version false r.asking r f
+recall_over_fits version (Some copy) r f =
+    cond_both (version == copy.version) _ _ (RemoteGoes r) (λ w. recall_in_fits r.here copy r f) (λ w. overtaken version copy.version false r f)
 
-pub recalled_goes : (version : ℕ) (r : Remote) → CopyFits r.copy r.size → RemoteGoes r (remote_recalled version r)
-unfolding remote_recalled
-recalled_goes version r f = recall_over version r.copy r f
+pub recalled_goes : (version : ℕ) (r : Remote) → CopyFits r.copy r.size → RemoteGoes r (remote_takes_recall version r)
+unfolding remote_takes_recall
+recalled_goes version r f = recall_over_fits version r.copy r f
 
-yield_in : (here : Section) (copy : Copy) (r : Remote) → CopyFits r.copy r.size → length copy.bytes ≡ r.size → RemoteGoes r (yields_in here copy r)
-yield_in section.Closed copy r f g = lower copy r g
-yield_in (section.Reading count) copy r f g = lower copy r g
-yield_in section.Writing copy r f g = record { size = refl; bytes = f; asking = refl }
+yield_in_fits : (here : Section) (copy : Copy) (r : Remote) → CopyFits r.copy r.size → length copy.bytes ≡ r.size → RemoteGoes r (yield_in here copy r)
+yield_in_fits section.Closed copy r f g = lower copy r g
+yield_in_fits (section.Reading count) copy r f g = lower copy r g
+yield_in_fits section.Writing copy r f g = record { size = refl; bytes = f; asking = refl }
 
-yield_over : (version : ℕ) (copy : Option Copy) (r : Remote) → CopyFits r.copy r.size → CopyFits copy r.size → RemoteGoes r (yields_over version copy r)
-yield_over version None r f g = noted version true r.asking r f
-yield_over version (Some copy) r f g =
-    cond_both ((version == copy.version) && copy.exclusive) _ _ (RemoteGoes r) (λ w. yield_in r.here copy r f g) (λ w. overtaken version copy.version true r f)
+yield_over_fits : (version : ℕ) (copy : Option Copy) (r : Remote) → CopyFits r.copy r.size → CopyFits copy r.size → RemoteGoes r (yield_over version copy r)
+yield_over_fits version None r f g = noted version true r.asking r f
+yield_over_fits version (Some copy) r f g =
+    cond_both ((version == copy.version) && copy.exclusive) _ _ (RemoteGoes r) (λ w. yield_in_fits r.here copy r f g) (λ w. overtaken version copy.version true r f)
 
-pub yields_goes : (version : ℕ) (r : Remote) → CopyFits r.copy r.size → RemoteGoes r (remote_yields version r)
-unfolding remote_yields
-yields_goes version r f = yield_over version r.copy r f f
+pub yields_goes : (version : ℕ) (r : Remote) → CopyFits r.copy r.size → RemoteGoes r (remote_takes_yield version r)
+unfolding remote_takes_yield
+yields_goes version r f = yield_over_fits version r.copy r f f
 
 leave_over : (copy : Option Copy) (r : Remote) → RemoteGoes r (leaves_over copy r)
 leave_over None r = record { size = refl; bytes = tt; asking = refl }
@@ -234,24 +234,24 @@ lower_over None r f g = still r f
 lower_over (Some copy) r f g = lower copy r g
 
 -- the step began with a part of it changed
-as_before : (r q : Remote) (s : Moved) → q.size ≡ r.size → q.asking ≡ r.asking → RemoteGoes q s → RemoteGoes r s
+as_before : (r q : Remote) (s : RemoteStep) → q.size ≡ r.size → q.asking ≡ r.asking → RemoteGoes q s → RemoteGoes r s
 as_before r q s e a g = record { size = g.size ∙ e; bytes = rw (← e) g.bytes; asking = g.asking ∙ a }
 
 pub read_ends : (r : Remote) → CopyFits r.copy r.size → RemoteGoes r (remote_ends_read r)
 unfolding remote_ends_read
 read_ends r f =
-    let after : Remote = record r { here = one_less r.here } in
+    let after : Remote = record r { here = one_section_less r.here } in
     cond_both (is_closed after.here && after.leaving) _ _ (RemoteGoes r) (λ w. as_before r after _ refl refl (leave_over r.copy after))
     (λ w. as_before r after _ refl refl (still after f))
 
-written_fits : (bytes : List ℕ) (copy : Option Copy) (size : ℕ) → length bytes ≡ size → CopyFits (written bytes copy) size
+written_fits : (bytes : List ℕ) (copy : Option Copy) (size : ℕ) → length bytes ≡ size → CopyFits (with_written bytes copy) size
 written_fits bytes None size e = tt
 written_fits bytes (Some copy) size e = e
 
 pub write_ends : (bytes : List ℕ) (r : Remote) → length bytes ≡ r.size → RemoteGoes r (remote_ends_write bytes r)
 unfolding remote_ends_write
 write_ends bytes r e =
-    let after : Remote = record r { here = section.Closed; copy = written bytes r.copy } in
+    let after : Remote = record r { here = section.Closed; copy = with_written bytes r.copy } in
     let f = written_fits bytes r.copy r.size e in
     cond_both r.leaving _ _ (RemoteGoes r) (λ w. as_before r after _ refl refl (leave_over after.copy after))
     (λ w. cond_both r.lowering _ _ (RemoteGoes r) (λ w. as_before r after _ refl refl (lower_over after.copy after f f))
@@ -266,7 +266,7 @@ unfolding remote_flushes
 flushes_goes r f = flush_over r.copy r f
 
 -- The start of a section at another node's side: it opens over the copy, or the node asks.
-pub record RemoteStarts (r : Remote) (s : Moved) : Type 0 where
+pub record RemoteStarts (r : Remote) (s : RemoteStep) : Type 0 where
   pub size : s.remote.size ≡ r.size
   pub copy : s.remote.copy ≡ r.copy
   pub asking : s.opened ≡ true → s.remote.asking ≡ r.asking

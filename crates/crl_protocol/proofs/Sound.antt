@@ -4,24 +4,24 @@ use Rattle.std.specs.List.{All, AllByRecursion}
 use Rattle.std.proofs.lemmas.Bool.{cond_both, eqb-true, and_parts}
 use Rattle.std.proofs.lemmas.List.Elements.{recursion_from_All}
 use Rattle.crl_model.specs.declared.name.Name.{Name}
-use Rattle.crl_model.specs.declared.region.Stage.TheVariants as stage
+use Rattle.crl_model.specs.declared.stage.Stage.TheVariants as stage
 use Rattle.crl_model.specs.declared.event.Event.{Event}
 use Rattle.crl_model.specs.declared.event.Event.TheVariants as event
 use Rattle.crl_model.specs.declared.message.Message.{Message}
 use Rattle.crl_model.specs.declared.message.Kind.{Kind}
 use Rattle.crl_model.specs.declared.message.Kind.TheVariants as kind
 use Rattle.crl_pieces.specs.Pieces.{count, cut, fresh, Cell, left_from, is_missing, is_complete, joined}
-use Rattle.crl_protocol.specs.Parcels.{Piece, load_of, with_load, piece_of, pieces_of, pieces_in, Key, key_of, Gathered, slots_or, at_key, fits_size}
-use Rattle.crl_protocol.specs.Receiving.{size_for, slots_with, gathers_piece, receives, received_as, received}
+use Rattle.crl_protocol.specs.Parcels.{Piece, load_of, with_load, piece_of, pieces_of, pieces_in, Key, key_of, PartsGathered, slots_or, at_key, fits_size}
+use Rattle.crl_protocol.specs.Receiving.{size_for, slots_with, gathers_piece, receives_part, receives_as, receives}
 use Rattle.crl_model.specs.declared.statement.Statement.{Statement}
 use Rattle.crl_model.specs.Names.{at_node}
 use Rattle.crl_protocol.specs.Places.{Taken, behind, take_out}
 use Rattle.crl_protocol.specs.Home.{Home}
-use Rattle.crl_protocol.specs.Leases.{no_lease}
+use Rattle.crl_protocol.specs.Lifetimes.{no_lifetime}
 use Rattle.crl_protocol.specs.Node.{Node, new_node, Answer, Made, Mapped, Reading, Writing, Done, Came, Refused, Wait, Activity, Free, Waiting, Ready, Outcome}
-use Rattle.crl_protocol.specs.Calls.{called}
-use Rattle.crl_protocol.specs.World.{committed, stepped, collected, handled_at, put_in, carried, note, step, is_enabled, is_free}
-use Rattle.crl_protocol.specs.Chosen.{Actor, Running, block_of, running, given, going_on, goes_on}
+use Rattle.crl_protocol.specs.Calls.{node_calls}
+use Rattle.crl_protocol.specs.World.{commits, steps_node, collects, handles_at, put_in, carries, note, step, is_enabled, is_free}
+use Rattle.crl_protocol.specs.Chosen.{Actor, Running, block_of, running, takes_guard, going_on, goes_on}
 use Rattle.crl_protocol.specs.Laws.{IsStatement, AreStatements, node_of}
 use Rattle.crl_protocol.proofs.Fitting.{begins, seen, OwnFits, Holds, Comes, Leaves, IsAway, Fits}
 use Rattle.crl_protocol.proofs.Placing.{all_append}
@@ -56,7 +56,7 @@ no_table true true = refl
 no_table true false = refl
 no_table false c = refl
 
-no_stage : (b : Bool) → (if b then no_lease else no_lease).stage ≡ stage.Unknown
+no_stage : (b : Bool) → (if b then no_lifetime else no_lifetime).stage ≡ stage.Unknown
 no_stage true = refl
 no_stage false = refl
 
@@ -118,10 +118,10 @@ pieces_leave [] h = tt
 pieces_leave (m ∷ ms) h = all_append LeavesIn (pieces_of m) (pieces_in ms) (left_leave m (count (length (load_of m.kind))) 0 (fresh (cut (load_of m.kind))) h.0) (pieces_leave ms h.1)
 
 -- A piece comes.
-fits_parcels : (i : ℕ) (d : Name → List ℕ) (n : Node) (parcels : Gathered) → Fits i n d → Fits i (record n { parcels = parcels }) d
+fits_parcels : (i : ℕ) (d : Name → List ℕ) (n : Node) (parcels : PartsGathered) → Fits i n d → Fits i (record n { parcels = parcels }) d
 fits_parcels i d n parcels f = record { me = f.me; each = f.each; cache = f.cache; fresh = f.fresh; inbox = f.inbox; outbox = f.outbox }
 
-good_piece : (i : ℕ) (d : Name → List ℕ) (n : Node) (o : Option Key) (p : Piece) → Comes n.me p.message → Fits i n d → Good i d (received_as o p n)
+good_piece : (i : ℕ) (d : Name → List ℕ) (n : Node) (o : Option Key) (p : Piece) → Comes n.me p.message → Fits i n d → Good i d (receives_as o p n)
 good_piece i d n None p h f = good_message i d n p.message.sender p.message.kind h f
 good_piece i d n (Some key) p h f = go (size_for key.load key.name n)
   where
@@ -131,16 +131,16 @@ good_piece i d n (Some key) p h f = go (size_for key.load key.name n)
         (λ w. good_message i d (record n { parcels = at_key n.parcels key None }) p.message.sender (with_load (joined slots) p.message.kind) (subst (λ (x : Type 0). x) (away_load p.message.sender n.me (joined slots) p.message.kind) h)
         (fits_parcels i d n (at_key n.parcels key None) f)) (λ w. good_only i d (record n { parcels = at_key n.parcels key (Some slots) }) (fits_parcels i d n (at_key n.parcels key (Some slots)) f))
 
-    go : (size : Option ℕ) → Good i d (receives key p size n)
+    go : (size : Option ℕ) → Good i d (receives_part key p size n)
     go None = good_only i d n f
     go (Some size) = cond_both (fits_size size p && is_missing p.index (slots_or p.pieces (n.parcels key))) _ _ (λ (x : Outcome). Good i d x) (λ w. gathers (slots_with p (n.parcels key))) (λ w. good_only i d n f)
 
 -- An outcome is committed, and its answer given.
-fits_committed : (i position : ℕ) (d : Name → List ℕ) (e : Event) (o : Outcome) → Good i d o → Fits i (committed position e o) (begins o.answer d)
+fits_committed : (i position : ℕ) (d : Name → List ℕ) (e : Event) (o : Outcome) → Good i d o → Fits i (commits position e o) (begins o.answer d)
 fits_committed i position d e o g =
     let f = g.node in record { me = f.me; each = f.each; cache = f.cache; fresh = f.fresh; inbox = f.inbox; outbox = all_append LeavesIn o.node.outbox (pieces_in o.posts) f.outbox (pieces_leave o.posts g.posts) }
 
-given_drafts : (answer : Answer) (a : Actor) → (given answer a).drafts ≡ begins answer a.drafts
+given_drafts : (answer : Answer) (a : Actor) → (takes_guard answer a).drafts ≡ begins answer a.drafts
 given_drafts (Made name) a = refl
 given_drafts (Mapped name size) a = refl
 given_drafts (Reading guard) a = refl
@@ -150,7 +150,7 @@ given_drafts (Came round fold) a = refl
 given_drafts (Refused why) a = refl
 given_drafts Wait a = refl
 
-given_left : (answer : Answer) (a : Actor) → (given answer a).left ≡ a.left
+given_left : (answer : Answer) (a : Actor) → (takes_guard answer a).left ≡ a.left
 given_left (Made name) a = refl
 given_left (Mapped name size) a = refl
 given_left (Reading guard) a = refl
@@ -160,15 +160,15 @@ given_left (Came round fold) a = refl
 given_left (Refused why) a = refl
 given_left Wait a = refl
 
-left_given : (r : Running) (i : ℕ) (answer : Answer) → Sound r → (j : ℕ) → AllByRecursion IsStatement (at_node r.actors i (given answer (r.actors i)) j).left
+left_given : (r : Running) (i : ℕ) (answer : Answer) → Sound r → (j : ℕ) → AllByRecursion IsStatement (at_node r.actors i (takes_guard answer (r.actors i)) j).left
 left_given r i answer s =
-    by_node i (λ b j. AllByRecursion IsStatement (if b then given answer (r.actors i) else r.actors j).left)
+    by_node i (λ b j. AllByRecursion IsStatement (if b then takes_guard answer (r.actors i) else r.actors j).left)
     (subst (λ x. AllByRecursion IsStatement x) (sym (given_left answer (r.actors i))) (s.left i)) s.left
 
-sound_stepped : (r : Running) (i : ℕ) (e f : Event) (o : Outcome) → Good i (r.actors i).drafts o → Sound r → Sound (going_on i f (stepped i e o r.world) r)
+sound_stepped : (r : Running) (i : ℕ) (e f : Event) (o : Outcome) → Good i (r.actors i).drafts o → Sound r → Sound (going_on i f (steps_node i e o r.world) r)
 sound_stepped r i e f o g s = record {
-  fits = by_node i (λ b j. Fits j (if b then committed r.world.events e o else r.world.nodes j) (if b then given o.answer (r.actors i) else r.actors j).drafts)
-      (subst (λ x. Fits i (committed r.world.events e o) x) (sym (given_drafts o.answer (r.actors i))) (fits_committed i r.world.events (r.actors i).drafts e o g)) s.fits;
+  fits = by_node i (λ b j. Fits j (if b then commits r.world.events e o else r.world.nodes j) (if b then takes_guard o.answer (r.actors i) else r.actors j).drafts)
+      (subst (λ x. Fits i (commits r.world.events e o) x) (sym (given_drafts o.answer (r.actors i))) (fits_committed i r.world.events (r.actors i).drafts e o g)) s.fits;
   left = left_given r i o.answer s;
 }
 
@@ -188,7 +188,7 @@ all_taken P zero (x ∷ xs) t e h =
 all_taken P (suc place) (x ∷ xs) t e h = all_behind P x (take_out place xs) t e h.0 (λ u w. all_taken P place xs u w h.1)
 
 sound_handled : (r : Running) (i place : ℕ) (e f : Event) (o : Option (Taken Piece)) → take_out place (r.world.nodes i).inbox ≡ o → Sound r
-    → Sound (going_on i f (handled_at i e o r.world) r)
+    → Sound (going_on i f (handles_at i e o r.world) r)
 sound_handled r i place e f None w s = record {
   fits = by_node i (λ b j. Fits j (r.world.nodes j) (if b then r.actors i else r.actors j).drafts) (s.fits i) s.fits;
   left = left_given r i Done s;
@@ -199,9 +199,9 @@ sound_handled r i place e f (Some t) w s =
     let parts = all_taken (λ (p : Piece). Comes n.me p.message) place n.inbox t w fits.inbox in
     let taken : Node = record n { inbox = t.rest } in
     let g : Fits i taken (r.actors i).drafts = record { me = fits.me; each = fits.each; cache = fits.cache; fresh = fits.fresh; inbox = parts.1; outbox = fits.outbox } in
-    sound_stepped r i e f (received t.taken taken) (good_piece i (r.actors i).drafts taken (key_of t.taken.message) t.taken parts.0 g) s
+    sound_stepped r i e f (receives t.taken taken) (good_piece i (r.actors i).drafts taken (key_of t.taken.message) t.taken parts.0 g) s
 
-good_collected : (i : ℕ) (d : Name → List ℕ) (n : Node) (a : Activity) → n.activity ≡ a → Fits i n d → Good i d (collected a n)
+good_collected : (i : ℕ) (d : Name → List ℕ) (n : Node) (a : Activity) → n.activity ≡ a → Fits i n d → Good i d (collects a n)
 good_collected i d n Free e f = good_only i d n f
 good_collected i d n (Waiting awaited) e f = good_only i d n f
 good_collected i d n (Ready answer) e f = record {
@@ -210,7 +210,7 @@ good_collected i d n (Ready answer) e f = record {
 }
 
 sound_carried : (r : Running) (i place : ℕ) (e f : Event) (o : Option (Taken Piece)) → take_out place (r.world.nodes i).outbox ≡ o → Sound r
-    → Sound (going_on i f (carried i e o r.world) r)
+    → Sound (going_on i f (carries i e o r.world) r)
 sound_carried r i place e f None w s = record {
   fits = by_node i (λ b j. Fits j (r.world.nodes j) (if b then r.actors i else r.actors j).drafts) (s.fits i) s.fits;
   left = left_given r i Done s;
@@ -259,9 +259,9 @@ pub sound_event : (r : Running) (e : Event) → is_enabled e r.world ≡ true �
 unfolding step is_enabled
 sound_event r (event.Call i c) h s =
     let parts = and_parts _ _ (and_parts _ _ h).1 in
-    sound_stepped r i _ (event.Call i c) (called c (r.world.nodes i)) (good_call i (r.actors i).drafts (r.world.nodes i) c (is_freed (r.world.nodes i).activity parts.0) parts.1 (s.fits i)) s
+    sound_stepped r i _ (event.Call i c) (node_calls c (r.world.nodes i)) (good_call i (r.actors i).drafts (r.world.nodes i) c (is_freed (r.world.nodes i).activity parts.0) parts.1 (s.fits i)) s
 sound_event r (event.Collect i) h s =
-    sound_stepped r i _ (event.Collect i) (collected (r.world.nodes i).activity (r.world.nodes i))
+    sound_stepped r i _ (event.Collect i) (collects (r.world.nodes i).activity (r.world.nodes i))
     (good_collected i (r.actors i).drafts (r.world.nodes i) (r.world.nodes i).activity refl (s.fits i)) s
 sound_event r (event.Handle i place) h s = sound_handled r i place (event.Handle i place) (event.Handle i place) (take_out place (r.world.nodes i).inbox) refl s
 sound_event r (event.Carry i place) h s = sound_carried r i place (event.Carry i place) (event.Carry i place) (take_out place (r.world.nodes i).outbox) refl s

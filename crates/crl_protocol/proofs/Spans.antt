@@ -11,13 +11,13 @@ use Rattle.crl_model.specs.declared.message.Message.{Message}
 use Rattle.crl_model.specs.declared.message.Kind.{Kind}
 use Rattle.crl_model.specs.declared.message.Kind.TheVariants as kind
 use Rattle.crl_pieces.specs.Pieces.{count, cut, Cell, fresh, left_from}
-use Rattle.crl_protocol.specs.Parcels.{regranted, rereturned, load_of, with_load, piece_of, pieces_of, Key, key_in}
-use Rattle.crl_protocol.specs.Mail.{Mail, Ask, Grant, Recall, Yield, Return, Release, Letter, about}
-use Rattle.crl_protocol.specs.Home.{Home, Served}
-use Rattle.crl_protocol.specs.Remote.{Remote, Moved, remote_flushes}
-use Rattle.crl_protocol.specs.Node.{Node, Answer, ForSection, ForRound, Activity, Free, Waiting, Ready, Outcome, letters, mails, message}
+use Rattle.crl_protocol.specs.Parcels.{grant_with, return_with, load_of, with_load, piece_of, pieces_of, Key, key_in}
+use Rattle.crl_protocol.specs.Mail.{Mail, Ask, Grant, Recall, Yield, Return, Release, Letter, kind_about}
+use Rattle.crl_protocol.specs.Home.{Home, HomeStep}
+use Rattle.crl_protocol.specs.Remote.{Remote, RemoteStep, remote_flushes}
+use Rattle.crl_protocol.specs.Node.{Node, Answer, ForSection, ForRound, Activity, Free, Waiting, Ready, Outcome, letter_messages, mail_messages, message_to}
 use Rattle.crl_protocol.specs.Calls.{results_from}
-use Rattle.crl_model.specs.Rounds.{fold_of}
+use Rattle.crl_model.specs.FoldOf.{fold_of}
 use Rattle.crl_protocol.proofs.Fitting.{IsAway, Leaves, Fits}
 use Rattle.crl_protocol.proofs.Serving.{HomeGoes, asked_goes, returned_goes, released_goes}
 use Rattle.crl_protocol.proofs.Outcomes.{home_bytes, queue_of, asking_of}
@@ -27,14 +27,14 @@ use Rattle.crl_protocol.proofs.Deeds.{FreeIf, Cause, Calls, Hears, parting, Copi
 use Rattle.crl_protocol.proofs.Totals.{weigh, weighs, waited, none_to, Balance}
 
 abbrev pub NoMail : (Message → ℕ) → Type 0
-NoMail f = (from to : ℕ) (name : Name) (m : Mail) → f (record { sender = from; addressee = to; kind = about name m }) ≡ 0
+NoMail f = (from to : ℕ) (name : Name) (m : Mail) → f (record { sender = from; addressee = to; kind = kind_about name m }) ≡ 0
 
 pub record Span (f : Message → ℕ) (g : Node → ℕ) (waits : Activity → ℕ) : Type 0 where
   pub mail : NoMail f
   pub comes : (from to round : ℕ) (part : Part) → f (record { sender = from; addressee = to; kind = kind.Come round part }) ≡ 0
   pub results : (from to round : ℕ) (fold : Fold) → f (record { sender = from; addressee = to; kind = kind.Result round fold }) ≡ 0
   pub purges : (from to : ℕ) (name : Name) → f (record { sender = from; addressee = to; kind = kind.Purge name }) ≡ 0
-  pub kept : (n m : Node) → m.me ≡ n.me → m.leases ≡ n.leases → g m ≡ g n
+  pub kept : (n m : Node) → m.me ≡ n.me → m.lifetimes ≡ n.lifetimes → g m ≡ g n
   pub section : (name : Name) → waits (Waiting (ForSection name)) ≡ 0
   pub round : (k : ℕ) (c : CallKind) → waits (Waiting (ForRound k c)) ≡ 0
   pub free : waits Free ≡ 0
@@ -54,17 +54,17 @@ pub whole_of : (f : Message → ℕ) → NoMail f → (from to : ℕ) (k : Kind)
     → weighs f (pieces_of (record { sender = from; addressee = to; kind = k })) ≡ f (record { sender = from; addressee = to; kind = k })
 unfolding cut
 whole_of f h from to (kind.Grant name version x) =
-    pieces_none f (record { sender = from; addressee = to; kind = kind.Grant name version x }) (λ part. h from to name (Grant version (regranted part x))) ∙ sym (h from to name (Grant version x))
+    pieces_none f (record { sender = from; addressee = to; kind = kind.Grant name version x }) (λ part. h from to name (Grant version (grant_with part x))) ∙ sym (h from to name (Grant version x))
 whole_of f h from to (kind.Return name version x) =
-    pieces_none f (record { sender = from; addressee = to; kind = kind.Return name version x }) (λ part. h from to name (Return version (rereturned part x))) ∙ sym (h from to name (Return version x))
+    pieces_none f (record { sender = from; addressee = to; kind = kind.Return name version x }) (λ part. h from to name (Return version (return_with part x))) ∙ sym (h from to name (Return version x))
 whole_of f h from to (kind.Release name version x) =
     pieces_none f (record { sender = from; addressee = to; kind = kind.Release name version x }) (λ part. h from to name (Release version part)) ∙ sym (h from to name (Release version x))
 whole_of f h from to _ = omega arith
 
 pub part_same : (f : Message → ℕ) → NoMail f → (from to : ℕ) (part : List ℕ) (k : Kind)
     → f (record { sender = from; addressee = to; kind = with_load part k }) ≡ f (record { sender = from; addressee = to; kind = k })
-part_same f h from to part (kind.Grant name version x) = h from to name (Grant version (regranted part x)) ∙ sym (h from to name (Grant version x))
-part_same f h from to part (kind.Return name version x) = h from to name (Return version (rereturned part x)) ∙ sym (h from to name (Return version x))
+part_same f h from to part (kind.Grant name version x) = h from to name (Grant version (grant_with part x)) ∙ sym (h from to name (Grant version x))
+part_same f h from to part (kind.Return name version x) = h from to name (Return version (return_with part x)) ∙ sym (h from to name (Return version x))
 part_same f h from to part (kind.Release name version x) = h from to name (Release version part) ∙ sym (h from to name (Release version x))
 part_same f h from to part _ = refl
 
@@ -80,11 +80,11 @@ no_wait waits i n e = ap (λ x. if n.me == i then x else 0) e ∙ none_to (n.me 
 pub no_wait_as : (waits : Activity → ℕ) (i : ℕ) (n : Node) (a : Activity) → n.activity ≡ a → waits a ≡ 0 → waited waits i n ≡ 0
 no_wait_as waits i n a e z = no_wait waits i n (ap waits e ∙ z)
 
-letters_none : (f : Message → ℕ) (g : Node → ℕ) (waits : Activity → ℕ) → Span f g waits → (n : Node) (name : Name) (posts : List Letter) → weigh f (letters n name posts) ≡ 0
+letters_none : (f : Message → ℕ) (g : Node → ℕ) (waits : Activity → ℕ) → Span f g waits → (n : Node) (name : Name) (posts : List Letter) → weigh f (letter_messages n name posts) ≡ 0
 letters_none f g waits s n name [] = refl
 letters_none f g waits s n name (l ∷ posts) = let h = letters_none f g waits s n name posts in let k = s.mail n.me l.to name l.mail in omega arith
 
-pub mails_none : (f : Message → ℕ) (g : Node → ℕ) (waits : Activity → ℕ) → Span f g waits → (n : Node) (name : Name) (posts : List Mail) → weigh f (mails n name posts) ≡ 0
+pub mails_none : (f : Message → ℕ) (g : Node → ℕ) (waits : Activity → ℕ) → Span f g waits → (n : Node) (name : Name) (posts : List Mail) → weigh f (mail_messages n name posts) ≡ 0
 mails_none f g waits s n name [] = refl
 mails_none f g waits s n name (m ∷ posts) = let h = mails_none f g waits s n name posts in let k = s.mail n.me name.home name m in omega arith
 
@@ -96,20 +96,20 @@ results_none : (f : Message → ℕ) (g : Node → ℕ) (waits : Activity → �
 results_none f g waits s n m zero round fold = refl
 results_none f g waits s n m (suc k) round fold = let h = results_none f g waits s n (m + 1) k round fold in let e = s.results n.me m round fold in omega arith
 
-pub purges_none : (f : Message → ℕ) (g : Node → ℕ) (waits : Activity → ℕ) → Span f g waits → (n : Node) (name : Name) (ms : List ℕ) → weigh f (map (λ m. message n m (kind.Purge name)) ms) ≡ 0
+pub purges_none : (f : Message → ℕ) (g : Node → ℕ) (waits : Activity → ℕ) → Span f g waits → (n : Node) (name : Name) (ms : List ℕ) → weigh f (map (λ m. message_to n m (kind.Purge name)) ms) ≡ 0
 purges_none f g waits s n name [] = refl
 purges_none f g waits s n name (m ∷ ms) = let h = purges_none f g waits s n name ms in let e = s.purges n.me m name in omega arith
 
-serves_none : (f : Message → ℕ) (g : Node → ℕ) (waits : Activity → ℕ) → Span f g waits → (n : Node) (h : Home) (to from : ℕ) (k : Kind) (name : Name) (x : Served) → Serves n h from k name x → f (record { sender = from; addressee = to; kind = k }) ≡ 0
+serves_none : (f : Message → ℕ) (g : Node → ℕ) (waits : Activity → ℕ) → Span f g waits → (n : Node) (h : Home) (to from : ℕ) (k : Kind) (name : Name) (x : HomeStep) → Serves n h from k name x → f (record { sender = from; addressee = to; kind = k }) ≡ 0
 serves_none f g waits s n h to from k name x (ask_comes y q write have e) = s.mail from to q (Ask write have)
 serves_none f g waits s n h to from k name x (copy_returns y q version bytes e) = s.mail from to q (Return version bytes)
 serves_none f g waits s n h to from k name x (copy_lowers y q version bytes e) = s.mail from to q (Release version bytes)
 
-back_none : (f : Message → ℕ) (g : Node → ℕ) (waits : Activity → ℕ) → Span f g waits → (r : Remote) (to from : ℕ) (k : Kind) (name : Name) (x : Moved) → CallsBack r k name x → f (record { sender = from; addressee = to; kind = k }) ≡ 0
+back_none : (f : Message → ℕ) (g : Node → ℕ) (waits : Activity → ℕ) → Span f g waits → (r : Remote) (to from : ℕ) (k : Kind) (name : Name) (x : RemoteStep) → CallsBack r k name x → f (record { sender = from; addressee = to; kind = k }) ≡ 0
 back_none f g waits s r to from k name x (wholly q version) = s.mail from to q (Recall version)
 back_none f g waits s r to from k name x (to_share q version) = s.mail from to q (Yield version)
 
-serves_goes : (n : Node) (h : Home) (from : ℕ) (k : Kind) (name : Name) (s : Served) → Serves n h from k name s → IsAway from n.me k → length h.bytes ≡ h.size → HomeGoes n.me h s
+serves_goes : (n : Node) (h : Home) (from : ℕ) (k : Kind) (name : Name) (s : HomeStep) → Serves n h from k name s → IsAway from n.me k → length h.bytes ≡ h.size → HomeGoes n.me h s
 serves_goes n h from k name s (ask_comes f q write have free) away b = asked_goes n.me (record { node = from; write = write; have = have }) h away b
 serves_goes n h from k name s (copy_returns f q version bytes fits) away b = returned_goes n.me from version bytes h b fits
 serves_goes n h from k name s (copy_lowers f q version bytes fits) away b = released_goes n.me from version bytes h b fits

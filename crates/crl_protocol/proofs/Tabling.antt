@@ -1,12 +1,12 @@
--- The tables and leases of a home by name, where one of them was changed or added.
+-- The tables and lifetimes of a home by name, where one of them was changed or added.
 use Rattle.std.proofs.Common.{◌≡◌, ℕ, zero, suc, ◌+◌, ◌-◌, ◌==◌, Bool, true, false, None, Some, Option, List, [], ◌∷◌, ◌++◌, length, if◌then◌else◌, refl, ap, sym, ◌∙◌, arith}
 use Rattle.std.proofs.lemmas.Bool.{cond-true, cond-false, eq-eqb, ne_eqb, eqb-true, eqb-false, and_from}
 use Rattle.crl_model.specs.declared.name.Name.{Name}
 use Rattle.crl_model.specs.Names.{name_eq, at_node, at_name}
 use Rattle.crl_protocol.specs.Places.{at, put}
 use Rattle.crl_protocol.specs.Home.{Home}
-use Rattle.crl_protocol.specs.Leases.{Lease, no_lease}
-use Rattle.crl_protocol.specs.Node.{Node, at_serial, is_mine, home_of, lease_of, with_home, with_lease, next_name}
+use Rattle.crl_protocol.specs.Lifetimes.{Lifetime, no_lifetime}
+use Rattle.crl_protocol.specs.Node.{Node, at_serial, is_mine, home_of, lifetime_of, with_home, with_lifetime, next_name}
 use Rattle.crl_protocol.proofs.Fitting.{same_name}
 
 at_put_same : {A : Type 0} (n : ℕ) (v : Option A) (xs : List (Option A)) → at n (put n v xs) ≡ v
@@ -90,9 +90,9 @@ home_put n name h g e =
     found_at n.me None (λ s. at_serial s n.homes) (λ s. at_serial s (put (name.serial - 1) (Some g) n.homes)) name (Some g) f.0
     (cond-false (name.serial == 0) _ _ f.1 ∙ at_put_same (name.serial - 1) (Some g) n.homes) (λ s d. serial_put name (Some g) n.homes s f.1 d)
 
-pub lease_put : (n : Node) (name : Name) (lease : Lease) → is_mine n name ≡ true → (q : Name) → lease_of (with_lease name lease n) q ≡ at_name (lease_of n) name lease q
-lease_put n name lease mine =
-    found_at n.me no_lease n.leases (at_node n.leases name.serial lease) name lease mine (cond-true (name.serial == name.serial) _ _ (eq-eqb _ _ refl))
+pub lifetime_put : (n : Node) (name : Name) (lifetime : Lifetime) → is_mine n name ≡ true → (q : Name) → lifetime_of (with_lifetime name lifetime n) q ≡ at_name (lifetime_of n) name lifetime q
+lifetime_put n name lifetime mine =
+    found_at n.me no_lifetime n.lifetimes (at_node n.lifetimes name.serial lifetime) name lifetime mine (cond-true (name.serial == name.serial) _ _ (eq-eqb _ _ refl))
     (λ s d. cond-false (name.serial == s) _ _ (ne_eqb name.serial s d))
 
 serial_end : {A : Type 0} (v : Option A) (xs : List (Option A)) (s : ℕ) → (length xs + 1 ≡ s → ⊥) → at_serial s (xs ++ v ∷ []) ≡ at_serial s xs

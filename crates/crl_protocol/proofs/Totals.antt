@@ -7,12 +7,12 @@ use Rattle.crl_model.specs.declared.call.Call.{Call}
 use Rattle.crl_model.specs.declared.event.Event.{Event}
 use Rattle.crl_model.specs.declared.message.Message.{Message}
 use Rattle.crl_model.specs.Names.{at_node}
-use Rattle.crl_protocol.specs.Parcels.{Piece, with_load, pieces_of, pieces_in, Key, key_of, Gathered}
+use Rattle.crl_protocol.specs.Parcels.{Piece, with_load, pieces_of, pieces_in, Key, key_of, PartsGathered}
 use Rattle.crl_protocol.specs.Places.{Took, here, there}
 use Rattle.crl_protocol.specs.Node.{Node, new_node, Recorded, Note, Answer, Done, Activity, Free, Ready, Outcome, only}
-use Rattle.crl_protocol.specs.World.{World, Stepped, new_world, boxes_from, boxed, note, put_in, committed, stepped, carried}
+use Rattle.crl_protocol.specs.World.{World, WorldStep, new_world, boxes_from, pieces_in_boxes, note, put_in, commits, steps_node, carries}
 use Rattle.crl_protocol.proofs.Deeds.{Calls, Hears, Deed}
-use Rattle.crl_protocol.proofs.Turning.{Frame, Turn, calls, hears, gathers, answers, carries, rests, deed_frame, each_at}
+use Rattle.crl_protocol.proofs.Turning.{Frame, Turn, calls, hears, gathers, answers, carriage, rests, deed_frame, each_at}
 
 -- A sum over nodes, where one of them changes.
 abbrev pub sum_from : (Node → ℕ) → ℕ → ℕ → (ℕ → Node) → ℕ
@@ -114,7 +114,7 @@ waited waits i n = if n.me == i then waits n.activity else 0
 
 pub record Tokens (f : Message → ℕ) (g : Node → ℕ) (waits : Activity → ℕ) : Type 0 where
   pub whole : Whole f
-  pub blind : (n : Node) (inbox outbox : List Piece) (parcels : Gathered) (records : List Recorded) (notes : List Note) (posted : ℕ) → g (record n { inbox = inbox; outbox = outbox; parcels = parcels; records = records; notes = notes; posted = posted }) ≡ g n
+  pub blind : (n : Node) (inbox outbox : List Piece) (parcels : PartsGathered) (records : List Recorded) (notes : List Note) (posted : ℕ) → g (record n { inbox = inbox; outbox = outbox; parcels = parcels; records = records; notes = notes; posted = posted }) ≡ g n
   pub answered : (n : Node) → g (record n { activity = Free }) ≡ g n
   pub free : waits Free ≡ 0
   pub ready : (answer : Answer) → waits (Ready answer) ≡ 0
@@ -126,11 +126,11 @@ Balance f g waits i n came o = (weigh f o.posts + g o.node) + waited waits i n �
 pub record Balanced (f : Message → ℕ) (g : Node → ℕ) (waits : Activity → ℕ) (i : ℕ) (w : World) : Type 0 where
   pub me : (j : ℕ) → (w.nodes j).me ≡ j
   pub calls : (j : ℕ) (c : Call) (o : Outcome) → j < w.count → (w.nodes j).activity ≡ Free → Deed (w.nodes j) (Calls c) o → Balance f g waits i (w.nodes j) 0 o
-  pub hears : (j : ℕ) (p : Piece) (rest : List Piece) (parcels : Gathered) (part : List ℕ) (o : Outcome) → j < w.count → Took p (w.nodes j).inbox rest
+  pub hears : (j : ℕ) (p : Piece) (rest : List Piece) (parcels : PartsGathered) (part : List ℕ) (o : Outcome) → j < w.count → Took p (w.nodes j).inbox rest
       → Deed (record (w.nodes j) { inbox = rest; parcels = parcels }) (Hears p.message.sender (with_load part p.message.kind)) o
       → Balance f g waits i (record (w.nodes j) { inbox = rest; parcels = parcels }) (f p.message) o
   pub gathers : (p : Piece) (key : Key) → key_of p.message ≡ Some key → f p.message ≡ 0
-  pub carries : (j : ℕ) (p : Piece) (rest : List Piece) → j < w.count → Took p (w.nodes j).outbox rest → (f p.message ≡ 0) ⊎ (p.message.addressee < w.count)
+  pub carriage : (j : ℕ) (p : Piece) (rest : List Piece) → j < w.count → Took p (w.nodes j).outbox rest → (f p.message ≡ 0) ⊎ (p.message.addressee < w.count)
 
 pub none_to : (b : Bool) (z : ℕ) → (if b then z else z) ≡ z
 none_to true z = refl
@@ -138,36 +138,36 @@ none_to false z = refl
 
 token_outcome : (f : Message → ℕ) (g : Node → ℕ) (waits : Activity → ℕ) → Tokens f g waits → (i : ℕ) (w : World) (j : ℕ) (before : Node) (e : Event) (came : ℕ) (o : Outcome) → j < w.count → Frame before o.node → before.me ≡ j
     → before.activity ≡ (w.nodes j).activity → load f g (w.nodes j) ≡ came + load f g before → Balance f g waits i before came o → sum (load f g) w ≡ waits (w.nodes i).activity
-    → sum (load f g) (stepped j e o w).world ≡ waits ((stepped j e o w).world.nodes i).activity
+    → sum (load f g) (steps_node j e o w).world ≡ waits ((steps_node j e o w).world.nodes i).activity
 token_outcome f g waits t i w j before e came o few frame me same boxes b one =
-    let changes = sum_with (load f g) w.count j w.nodes (committed w.events e o) few in
+    let changes = sum_with (load f g) w.count j w.nodes (commits w.events e o) few in
     let sent = weigh_append (on_piece f) o.node.outbox (pieces_in o.posts) in
     let posts = weighs_posted f t.whole o.posts in
     let inbox = ap (weighs f) frame.inbox in
     let outbox = ap (weighs f) frame.outbox in
-    let kept = t.blind o.node o.node.inbox (committed w.events e o).outbox o.node.parcels (committed w.events e o).records (committed w.events e o).notes (committed w.events e o).posted in
+    let kept = t.blind o.node o.node.inbox (commits w.events e o).outbox o.node.parcels (commits w.events e o).records (commits w.events e o).notes (commits w.events e o).posted in
     let was : waited waits i before ≡ (if j == i then waits (w.nodes j).activity else 0) = ap (λ x. if x == i then waits before.activity else 0) me ∙ ap (λ x. if j == i then waits x else 0) same in
     let now : waited waits i o.node ≡ (if j == i then waits o.node.activity else 0) = ap (λ x. if x == i then waits o.node.activity else 0) (frame.me ∙ me) in
     go (j == i) refl (omega arith)
   where
     go : (b : Bool) → (j == i) ≡ b
-        → sum (load f g) (stepped j e o w).world + (if j == i then waits (w.nodes j).activity else 0) ≡ sum (load f g) w + (if j == i then waits o.node.activity else 0)
-        → sum (load f g) (stepped j e o w).world ≡ waits ((stepped j e o w).world.nodes i).activity
+        → sum (load f g) (steps_node j e o w).world + (if j == i then waits (w.nodes j).activity else 0) ≡ sum (load f g) w + (if j == i then waits o.node.activity else 0)
+        → sum (load f g) (steps_node j e o w).world ≡ waits ((steps_node j e o w).world.nodes i).activity
     go true x s =
         let here = cond-true (j == i) (waits (w.nodes j).activity) 0 x in
         let there = cond-true (j == i) (waits o.node.activity) 0 x in
         let it : waits (w.nodes j).activity ≡ waits (w.nodes i).activity = ap (λ k. waits (w.nodes k).activity) (eqb-true j i x) in
-        let after : waits ((stepped j e o w).world.nodes i).activity ≡ waits o.node.activity = ap (λ (n : Node). waits n.activity) (cond-true (j == i) (committed w.events e o) (w.nodes i) x) in
+        let after : waits ((steps_node j e o w).world.nodes i).activity ≡ waits o.node.activity = ap (λ (n : Node). waits n.activity) (cond-true (j == i) (commits w.events e o) (w.nodes i) x) in
         omega arith
     go false x s =
         let here = cond-false (j == i) (waits (w.nodes j).activity) 0 x in
         let there = cond-false (j == i) (waits o.node.activity) 0 x in
-        let after : waits ((stepped j e o w).world.nodes i).activity ≡ waits (w.nodes i).activity = ap (λ (n : Node). waits n.activity) (cond-false (j == i) (committed w.events e o) (w.nodes i) x) in
+        let after : waits ((steps_node j e o w).world.nodes i).activity ≡ waits (w.nodes i).activity = ap (λ (n : Node). waits n.activity) (cond-false (j == i) (commits w.events e o) (w.nodes i) x) in
         omega arith
 
 -- a message that is carried, to a node of the world where it has a weight
 sum_carried : (f : Message → ℕ) (g : Node → ℕ) (waits : Activity → ℕ) → Tokens f g waits → (w : World) (i : ℕ) (e : Event) (p : Piece) (rest : List Piece) → i < w.count → Took p (w.nodes i).outbox rest → ((f p.message ≡ 0) ⊎ (p.message.addressee < w.count))
-    → sum (load f g) (carried i e (Some (record { taken = p; rest = rest })) w).world ≡ sum (load f g) w
+    → sum (load f g) (carries i e (Some (record { taken = p; rest = rest })) w).world ≡ sum (load f g) w
 sum_carried f g waits t w i e p rest few took near =
     let took_out = weigh_took (on_piece f) took in
     let kept = t.blind (w.nodes i) (w.nodes i).inbox rest (w.nodes i).parcels (w.nodes i).records after.notes (w.nodes i).posted in
@@ -181,7 +181,7 @@ sum_carried f g waits t w i e p rest few took near =
     sent = at_node w.nodes i after
 
     go : (p.message.addressee < w.count) ⊎ (w.count ≤ p.message.addressee) → (f p.message ≡ 0) ⊎ (p.message.addressee < w.count) → sum_from (load f g) 0 w.count sent + f p.message ≡ sum (load f g) w
-        → sum (load f g) (carried i e (Some (record { taken = p; rest = rest })) w).world ≡ sum (load f g) w
+        → sum (load f g) (carries i e (Some (record { taken = p; rest = rest })) w).world ≡ sum (load f g) w
     go (inl l) k one =
         let n = sent p.message.addressee in
         let two = sum_with (load f g) w.count p.message.addressee sent (put_in p n) l in
@@ -191,7 +191,7 @@ sum_carried f g waits t w i e p rest few took near =
     go (inr l) (inr k) one = absurd (omega arith)
 
 -- a carriage changes no activity
-carried_activity : (w : World) (i j : ℕ) (e : Event) (p : Piece) (rest : List Piece) → ((carried i e (Some (record { taken = p; rest = rest })) w).world.nodes j).activity ≡ (w.nodes j).activity
+carried_activity : (w : World) (i j : ℕ) (e : Event) (p : Piece) (rest : List Piece) → ((carries i e (Some (record { taken = p; rest = rest })) w).world.nodes j).activity ≡ (w.nodes j).activity
 carried_activity w i j e p rest =
     let n = note w.events e (record (w.nodes i) { outbox = rest }) in
     let f = at_node w.nodes i n in
@@ -199,7 +199,7 @@ carried_activity w i j e p rest =
     each_at (λ k n. n.activity ≡ (w.nodes k).activity) f p.message.addressee (put_in p (f p.message.addressee)) sent (sent p.message.addressee) j
 
 -- Where every outcome is balanced, there are as many tokens as are waited for.
-pub token_turn : (f : Message → ℕ) (g : Node → ℕ) (waits : Activity → ℕ) → Tokens f g waits → (i : ℕ) (w : World) (v : Stepped) → Turn w v → Balanced f g waits i w → sum (load f g) w ≡ waits (w.nodes i).activity → sum (load f g) v.world ≡ waits (v.world.nodes i).activity
+pub token_turn : (f : Message → ℕ) (g : Node → ℕ) (waits : Activity → ℕ) → Tokens f g waits → (i : ℕ) (w : World) (v : WorldStep) → Turn w v → Balanced f g waits i w → sum (load f g) w ≡ waits (w.nodes i).activity → sum (load f g) v.world ≡ waits (v.world.nodes i).activity
 token_turn f g waits t i w v (calls j e c o few free may d) b one = token_outcome f g waits t i w j (w.nodes j) e 0 o few (deed_frame _ _ _ d) (b.me j) refl (omega arith) (b.calls j c o few free d) one
 token_turn f g waits t i w v (hears j e p rest parcels part o few took d) b one =
     let took_out = weigh_took (on_piece f) took in
@@ -220,8 +220,8 @@ token_turn f g waits t i w v (answers j e answer few ready) b one =
     let was : waited waits i n ≡ 0 = ap (λ x. if n.me == i then x else 0) (ap waits ready ∙ t.ready answer) ∙ none_to (n.me == i) 0 in
     let now : waited waits i o.node ≡ 0 = ap (λ x. if n.me == i then x else 0) t.free ∙ none_to (n.me == i) 0 in
     token_outcome f g waits t i w j n e 0 o few (record { me = refl; nodes = refl; capacity = refl; inbox = refl; outbox = refl; parcels = refl }) (b.me j) refl (omega arith) (omega arith) one
-token_turn f g waits t i w v (carries j e p rest few took) b one =
-    sum_carried f g waits t w j e p rest few took (b.carries j p rest few took) ∙ one ∙ sym (ap waits (carried_activity w j i e p rest))
+token_turn f g waits t i w v (carriage j e p rest few took) b one =
+    sum_carried f g waits t w j e p rest few took (b.carriage j p rest few took) ∙ one ∙ sym (ap waits (carried_activity w j i e p rest))
 token_turn f g waits t i w v rests b one = one
 
 -- it is the weight of the pieces in the boxes
@@ -232,5 +232,5 @@ boxed_from f i (suc k) nodes =
     let a = weigh_append (on_piece f) ((nodes i).inbox ++ (nodes i).outbox) (boxes_from (i + 1) k nodes) in
     let b = weigh_append (on_piece f) (nodes i).inbox (nodes i).outbox in omega arith
 
-pub boxed_sum : (f : Message → ℕ) (w : World) → weighs f (boxed w) ≡ sum (load f (λ n. 0)) w
+pub boxed_sum : (f : Message → ℕ) (w : World) → weighs f (pieces_in_boxes w) ≡ sum (load f (λ n. 0)) w
 boxed_sum f w = boxed_from f 0 w.count w.nodes

@@ -13,30 +13,30 @@ use Rattle.crl_model.specs.declared.message.Kind.TheVariants as kind
 use Rattle.crl_model.specs.declared.message.Granted.TheVariants.{Shared, Exclusive, Upgrade}
 use Rattle.crl_model.specs.Names.{at_node}
 use Rattle.crl_pieces.specs.Pieces.{count, cut, Cell, fresh, left_from, is_missing, is_complete, joined}
-use Rattle.crl_protocol.specs.Parcels.{Piece, load_of, with_load, piece_of, pieces_of, pieces_in, Key, key_of, Gathered, slots_or, at_key, fits_size}
-use Rattle.crl_protocol.specs.Receiving.{size_for, slots_with, gathers_piece, receives, received_as, received}
+use Rattle.crl_protocol.specs.Parcels.{Piece, load_of, with_load, piece_of, pieces_of, pieces_in, Key, key_of, PartsGathered, slots_or, at_key, fits_size}
+use Rattle.crl_protocol.specs.Receiving.{size_for, slots_with, gathers_piece, receives_part, receives_as, receives}
 use Rattle.crl_protocol.specs.Places.{Took, here, there, Taken, behind, take_out}
 use Rattle.crl_protocol.specs.Node.{Node, Recorded, Note, Answer, Done, Activity, Free, Waiting, Ready, Outcome, only}
-use Rattle.crl_protocol.specs.Calls.{called}
-use Rattle.crl_protocol.specs.Handlers.{handled}
+use Rattle.crl_protocol.specs.Calls.{node_calls}
+use Rattle.crl_protocol.specs.Handlers.{node_handles}
 use Rattle.crl_protocol.specs.Verdict.{verdict}
-use Rattle.crl_protocol.specs.World.{World, Stepped, is_call, collected, carried, stepped, handled_at, stays, step, is_free, is_ready, is_enabled, IsRunFrom, world_after, noted_call}
+use Rattle.crl_protocol.specs.World.{World, WorldStep, is_call, collects, carries, steps_node, handles_at, stays, step, is_free, is_ready, is_enabled, IsRunFrom, world_after, noted_call}
 use Rattle.crl_protocol.proofs.Placing.{all_append}
 use Rattle.crl_protocol.proofs.Deeds.{Cause, Calls, Hears, Copies, Lives, Rounds, Notes, Deed, copies, lives, rounds, notes, home_opens, made, comes_away, flushes_own}
 use Rattle.crl_protocol.proofs.Deeding.{call_deed}
 use Rattle.crl_protocol.proofs.Hearing.{message_deed}
 
 -- The turns.
-pub data Turn (w : World) : Stepped → Type 0 where
-  calls : (i : ℕ) (e : Event) (c : Call) (o : Outcome) → i < w.count → (w.nodes i).activity ≡ Free → is_call (w.nodes i) c (verdict (w.nodes i) c) ≡ true → Deed (w.nodes i) (Calls c) o → Turn w (stepped i e o w)
-  hears : (i : ℕ) (e : Event) (p : Piece) (rest : List Piece) (parcels : Gathered) (part : List ℕ) (o : Outcome) → i < w.count → Took p (w.nodes i).inbox rest
-      → Deed (record (w.nodes i) { inbox = rest; parcels = parcels }) (Hears p.message.sender (with_load part p.message.kind)) o → Turn w (stepped i e o w)
-  gathers : (i : ℕ) (e : Event) (p : Piece) (rest : List Piece) (parcels : Gathered) (key : Key) → i < w.count → Took p (w.nodes i).inbox rest → key_of p.message ≡ Some key
-      → Turn w (stepped i e (only (record (w.nodes i) { inbox = rest; parcels = parcels }) Done) w)
+pub data Turn (w : World) : WorldStep → Type 0 where
+  calls : (i : ℕ) (e : Event) (c : Call) (o : Outcome) → i < w.count → (w.nodes i).activity ≡ Free → is_call (w.nodes i) c (verdict (w.nodes i) c) ≡ true → Deed (w.nodes i) (Calls c) o → Turn w (steps_node i e o w)
+  hears : (i : ℕ) (e : Event) (p : Piece) (rest : List Piece) (parcels : PartsGathered) (part : List ℕ) (o : Outcome) → i < w.count → Took p (w.nodes i).inbox rest
+      → Deed (record (w.nodes i) { inbox = rest; parcels = parcels }) (Hears p.message.sender (with_load part p.message.kind)) o → Turn w (steps_node i e o w)
+  gathers : (i : ℕ) (e : Event) (p : Piece) (rest : List Piece) (parcels : PartsGathered) (key : Key) → i < w.count → Took p (w.nodes i).inbox rest → key_of p.message ≡ Some key
+      → Turn w (steps_node i e (only (record (w.nodes i) { inbox = rest; parcels = parcels }) Done) w)
   answers : (i : ℕ) (e : Event) (answer : Answer) → i < w.count → (w.nodes i).activity ≡ Ready answer
-      → Turn w (stepped i e (record { node = record (w.nodes i) { activity = Free }; answer = answer; entries = []; posts = [] }) w)
-  carries : (i : ℕ) (e : Event) (p : Piece) (rest : List Piece) → i < w.count → Took p (w.nodes i).outbox rest
-      → Turn w (carried i e (Some (record { taken = p; rest = rest })) w)
+      → Turn w (steps_node i e (record { node = record (w.nodes i) { activity = Free }; answer = answer; entries = []; posts = [] }) w)
+  carriage : (i : ℕ) (e : Event) (p : Piece) (rest : List Piece) → i < w.count → Took p (w.nodes i).outbox rest
+      → Turn w (carries i e (Some (record { taken = p; rest = rest })) w)
   rests : Turn w (stays w)
 
 took_behind : {A : Type 0} (y : A) (ys : List A) (o : Option (Taken A)) → ((t : Taken A) → o ≡ Some t → Took t.taken ys t.rest) → (t : Taken A) → behind y o ≡ Some t → Took t.taken (y ∷ ys) t.rest
@@ -63,27 +63,27 @@ whole (kind.Return name version (Some bytes)) = refl
 whole (kind.Release name version bytes) = refl
 whole _ = refl
 
-piece_turn : (w : World) (i : ℕ) (e : Event) (p : Piece) (rest : List Piece) → i < w.count → Took p (w.nodes i).inbox rest → Turn w (stepped i e (received p (record (w.nodes i) { inbox = rest })) w)
+piece_turn : (w : World) (i : ℕ) (e : Event) (p : Piece) (rest : List Piece) → i < w.count → Took p (w.nodes i).inbox rest → Turn w (steps_node i e (receives p (record (w.nodes i) { inbox = rest })) w)
 piece_turn w i e p rest few took = by_key (key_of p.message) refl
   where
     n : Node
     n = record (w.nodes i) { inbox = rest }
 
-    of_slots : (key : Key) → key_of p.message ≡ Some key → (slots : List (Option (List ℕ))) → Turn w (stepped i e (gathers_piece key p slots n) w)
+    of_slots : (key : Key) → key_of p.message ≡ Some key → (slots : List (Option (List ℕ))) → Turn w (steps_node i e (gathers_piece key p slots n) w)
     of_slots key h slots =
-        cond_both (is_complete slots) _ _ (λ (x : Outcome). Turn w (stepped i e x w))
+        cond_both (is_complete slots) _ _ (λ (x : Outcome). Turn w (steps_node i e x w))
         (λ v. hears i e p rest (at_key n.parcels key None) (joined slots) _ few took (message_deed (record n { parcels = at_key n.parcels key None }) p.message.sender (with_load (joined slots) p.message.kind)))
         (λ v. gathers i e p rest (at_key n.parcels key (Some slots)) key few took h)
 
-    of_size : (key : Key) → key_of p.message ≡ Some key → (size : Option ℕ) → Turn w (stepped i e (receives key p size n) w)
+    of_size : (key : Key) → key_of p.message ≡ Some key → (size : Option ℕ) → Turn w (steps_node i e (receives_part key p size n) w)
     of_size key h None = gathers i e p rest n.parcels key few took h
     of_size key h (Some size) =
-        cond_both (fits_size size p && is_missing p.index (slots_or p.pieces (n.parcels key))) _ _ (λ (x : Outcome). Turn w (stepped i e x w))
+        cond_both (fits_size size p && is_missing p.index (slots_or p.pieces (n.parcels key))) _ _ (λ (x : Outcome). Turn w (steps_node i e x w))
         (λ v. of_slots key h (slots_with p (n.parcels key))) (λ v. gathers i e p rest n.parcels key few took h)
 
-    by_key : (o : Option Key) → key_of p.message ≡ o → Turn w (stepped i e (received_as o p n) w)
+    by_key : (o : Option Key) → key_of p.message ≡ o → Turn w (steps_node i e (receives_as o p n) w)
     by_key None h = hears i e p rest n.parcels (load_of p.message.kind) _ few took
-        (subst (λ k. Deed n (Hears p.message.sender k) (handled p.message.sender p.message.kind n)) (sym (whole p.message.kind)) (message_deed n p.message.sender p.message.kind))
+        (subst (λ k. Deed n (Hears p.message.sender k) (node_handles p.message.sender p.message.kind n)) (sym (whole p.message.kind)) (message_deed n p.message.sender p.message.kind))
     by_key (Some key) h = of_size key h (size_for key.load key.name n)
 
 pub turn_of : (w : World) (e : Event) → is_enabled e w ≡ true → Turn w (step e w)
@@ -91,13 +91,13 @@ unfolding is_enabled step
 turn_of w (event.Call i c) h =
     let parts = and_parts _ _ h in
     let free = free_is (w.nodes i).activity (and_parts _ _ parts.1).0 in
-    calls i (event.Call i (noted_call (verdict (w.nodes i) c) c)) c (called c (w.nodes i)) (ltb-true _ _ parts.0) free (and_parts _ _ parts.1).1 (call_deed (w.nodes i) c)
+    calls i (event.Call i (noted_call (verdict (w.nodes i) c) c)) c (node_calls c (w.nodes i)) (ltb-true _ _ parts.0) free (and_parts _ _ parts.1).1 (call_deed (w.nodes i) c)
 turn_of w (event.Collect i) h = let parts = and_parts _ _ h in go (w.nodes i).activity refl parts.1
   where
     few : i < w.count
     few = ltb-true _ _ (and_parts _ _ h).0
 
-    go : (a : Activity) → (w.nodes i).activity ≡ a → is_ready a ≡ true → Turn w (stepped i (event.Collect i) (collected a (w.nodes i)) w)
+    go : (a : Activity) → (w.nodes i).activity ≡ a → is_ready a ≡ true → Turn w (steps_node i (event.Collect i) (collects a (w.nodes i)) w)
     go Free x r = cc
     go (Waiting awaited) x r = cc
     go (Ready answer) x r = answers i (event.Collect i) answer few x
@@ -106,7 +106,7 @@ turn_of w (event.Handle i place) h = go (take_out place (w.nodes i).inbox) refl
     few : i < w.count
     few = ltb-true _ _ (and_parts _ _ h).0
 
-    go : (o : Option (Taken Piece)) → take_out place (w.nodes i).inbox ≡ o → Turn w (handled_at i (event.Handle i place) o w)
+    go : (o : Option (Taken Piece)) → take_out place (w.nodes i).inbox ≡ o → Turn w (handles_at i (event.Handle i place) o w)
     go None x = rests
     go (Some t) x = piece_turn w i (event.Handle i place) t.taken t.rest few (took_at place (w.nodes i).inbox t x)
 turn_of w (event.Carry i place) h = go (take_out place (w.nodes i).outbox) refl
@@ -114,9 +114,9 @@ turn_of w (event.Carry i place) h = go (take_out place (w.nodes i).outbox) refl
     few : i < w.count
     few = ltb-true _ _ (and_parts _ _ h).0
 
-    go : (o : Option (Taken Piece)) → take_out place (w.nodes i).outbox ≡ o → Turn w (carried i (event.Carry i place) o w)
+    go : (o : Option (Taken Piece)) → take_out place (w.nodes i).outbox ≡ o → Turn w (carries i (event.Carry i place) o w)
     go None x = rests
-    go (Some t) x = carries i (event.Carry i place) t.taken t.rest few (took_at place (w.nodes i).outbox t x)
+    go (Some t) x = carriage i (event.Carry i place) t.taken t.rest few (took_at place (w.nodes i).outbox t x)
 
 -- What a deed leaves alone.
 pub record Frame (n m : Node) : Type 0 where
@@ -161,7 +161,7 @@ Parts Q = (m : Message) (part : List ℕ) → Q m → Q (record m { kind = with_
 
 pub record Local (count : ℕ) (P : ℕ → Node → Type 0) (Q : Message → Type 0) : Type 0 where
   pub deed : (i : ℕ) (n : Node) (cause : Cause) (o : Outcome) → i < count → Deed n cause o → Came Q i cause → P i n → P i o.node × AllByRecursion Q o.posts
-  pub boxes : (i : ℕ) (n : Node) (inbox outbox : List Piece) (parcels : Gathered) (records : List Recorded) (notes : List Note) (posted : ℕ) → P i n
+  pub boxes : (i : ℕ) (n : Node) (inbox outbox : List Piece) (parcels : PartsGathered) (records : List Recorded) (notes : List Note) (posted : ℕ) → P i n
       → P i (record n { inbox = inbox; outbox = outbox; parcels = parcels; records = records; notes = notes; posted = posted })
   pub answered : (i : ℕ) (n : Node) (answer : Answer) → n.activity ≡ Ready answer → P i n → P i (record n { activity = Free })
   pub parts : Parts Q
@@ -200,7 +200,7 @@ pieces_held Q parts (m ∷ ms) h =
     all_append (HeldOut Q) (pieces_of m) (pieces_in ms) (left_held Q parts m (count (length (load_of m.kind))) 0 (fresh (cut (load_of m.kind))) h.0) (pieces_held Q parts ms h.1)
 
 held_deed : (count : ℕ) (P : ℕ → Node → Type 0) (Q : Message → Type 0) → Local count P Q → (w : World) (i : ℕ) (n : Node) (e : Event) (cause : Cause) (o : Outcome) → i < count → Deed n cause o → Came Q i cause
-    → Held P Q w → HeldAt P Q i n → Held P Q (stepped i e o w).world
+    → Held P Q w → HeldAt P Q i n → Held P Q (steps_node i e o w).world
 held_deed count P Q l w i n e cause o few d came h k =
     let after = l.deed i n cause o few d came k.node in
     let frame = deed_frame n cause o d in
@@ -210,7 +210,7 @@ held_deed count P Q l w i n e cause o few d came h k =
       outbox = all_append (HeldOut Q) o.node.outbox (pieces_in o.posts) (subst (AllByRecursion (HeldOut Q)) (sym frame.outbox) k.outbox) (pieces_held Q l.parts o.posts after.1);
     })
 
-pub held_turn : (P : ℕ → Node → Type 0) (Q : Message → Type 0) (w : World) (v : Stepped) → Turn w v → Local w.count P Q → Held P Q w → Held P Q v.world
+pub held_turn : (P : ℕ → Node → Type 0) (Q : Message → Type 0) (w : World) (v : WorldStep) → Turn w v → Local w.count P Q → Held P Q w → Held P Q v.world
 held_turn P Q w v (calls i e c o few free may d) l h = held_deed w.count P Q l w i (w.nodes i) e (Calls c) o few d tt h (h i)
 held_turn P Q w v (hears i e p rest parcels part o few took d) l h =
     let parts = all_took (HeldIn Q i) took (h i).inbox in
@@ -222,7 +222,7 @@ held_turn P Q w v (gathers i e p rest parcels key few took keyed) l h =
     each_at (HeldAt P Q) w.nodes i _ h (record { node = l.boxes i (w.nodes i) _ _ _ _ _ _ (h i).node; inbox = parts.1; outbox = all_append (HeldOut Q) (w.nodes i).outbox [] (h i).outbox tt })
 held_turn P Q w v (answers i e answer few ready) l h =
     each_at (HeldAt P Q) w.nodes i _ h (record { node = l.boxes i _ _ _ _ _ _ _ (l.answered i (w.nodes i) answer ready (h i).node); inbox = (h i).inbox; outbox = all_append (HeldOut Q) (w.nodes i).outbox [] (h i).outbox tt })
-held_turn P Q w v (carries i e p rest few took) l h =
+held_turn P Q w v (carriage i e p rest few took) l h =
     let parts = all_took (HeldOut Q) took (h i).outbox in
     let sent : Held P Q (record w { nodes = at_node w.nodes i _ }) = each_at (HeldAt P Q) w.nodes i _ h (record { node = l.boxes i (w.nodes i) _ _ _ _ _ _ (h i).node; inbox = (h i).inbox; outbox = parts.1 }) in
     each_at (HeldAt P Q) _ p.message.addressee _ sent (record {
@@ -232,7 +232,7 @@ held_turn P Q w v (carries i e p rest few took) l h =
     })
 held_turn P Q w v rests l h = h
 
-pub turn_count : (w : World) (v : Stepped) → Turn w v → v.world.count ≡ w.count
+pub turn_count : (w : World) (v : WorldStep) → Turn w v → v.world.count ≡ w.count
 turn_count w v (calls i e c o few free may d) = refl
 turn_count w v _ = refl
 

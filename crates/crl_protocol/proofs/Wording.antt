@@ -9,7 +9,7 @@ use Rattle.crl_protocol.specs.Parcels.{Piece}
 use Rattle.crl_model.specs.declared.statement.Statement.{Statement}
 use Rattle.crl_protocol.specs.Node.{Activity, Free, Waiting, Ready}
 use Rattle.crl_protocol.specs.World.{is_enabled, is_ready}
-use Rattle.crl_protocol.specs.Chosen.{Running, next_of, nexts_from, handles_of, handles_from, carries_of, choices, goes_on, states, takes, takes_at, turn, turns_from}
+use Rattle.crl_protocol.specs.Chosen.{Running, next_of, nexts_from, handles_of, handles_from, carries_of, choices, goes_on, takes_statement, takes_choice, takes_choice_at, turn, turns_from}
 use Rattle.crl_protocol.specs.Laws.{IsNext, node_of, is_call_event, Follows, ended, changes, calls, happens}
 use Rattle.crl_protocol.proofs.Placing.{At, at_head, at_tail, at_left, at_right, at_gathered, chosen_at}
 use Rattle.crl_protocol.proofs.Following.{nexts_gather, handles_gather, carries_gather, stated, states_is}
@@ -59,21 +59,21 @@ at_statement i s left all a e free = rw (e, free) (at_head (choice.Statement i) 
 abbrev Reaches : Running → Running → Type 0
 Reaches r next = (word : ℕ) × (turn word r ≡ next)
 
-takes_at_place : (c : Choice) (cs : List Choice) (r : Running) (h : At c cs) → takes_at h.place cs r ≡ takes c r
+takes_at_place : (c : Choice) (cs : List Choice) (r : Running) (h : At c cs) → takes_choice_at h.place cs r ≡ takes_choice c r
 takes_at_place c [] r h = let k = h.within in absurd (omega arith)
-takes_at_place c (y ∷ ys) r h = ap (λ x. takes x r) (chosen_at c y ys h)
+takes_at_place c (y ∷ ys) r h = ap (λ x. takes_choice x r) (chosen_at c y ys h)
 
-reaches : (c : Choice) (r : Running) → At c (choices r) → Reaches r (takes c r)
+reaches : (c : Choice) (r : Running) → At c (choices r) → Reaches r (takes_choice c r)
 reaches c r h = (h.place, takes_at_place c (choices r) r h)
 
 reaches_statement : (r : Running) (i : ℕ) (s : Statement) (left : List Statement) → i < r.world.count → IsNext r i s left → Reaches r (stated r i s left)
-unfolding takes
+unfolding takes_choice
 reaches_statement r i s left h n =
     let found = reaches (choice.Statement i) r (among_nexts r i (choice.Statement i) h (at_statement i s left (r.actors i).left (r.world.nodes i).activity n.0 n.1)) in
-    (found.0, found.1 ∙ ap (λ ls. states i ls r) n.0 ∙ states_is r i s left)
+    (found.0, found.1 ∙ ap (λ ls. takes_statement i ls r) n.0 ∙ states_is r i s left)
 
 reaches_event : (r : Running) (e : Event) → is_call_event e ≡ false → is_enabled e r.world ≡ true → Reaches r (goes_on (node_of e) e r)
-unfolding takes is_enabled
+unfolding takes_choice is_enabled
 reaches_event r (event.Call i c) b h = cc
 reaches_event r (event.Collect i) b h =
     let parts = and_parts _ _ h in

@@ -19,7 +19,7 @@ use Rattle.crl_model.specs.Names.{at_node, at_name}
 use Rattle.crl_model.specs.Patches.{put_at}
 use Rattle.crl_protocol.specs.Node.{Node, Answer, Activity, Free, Waiting, Ready, Writing}
 use Rattle.crl_protocol.specs.Verdict.{verdict}
-use Rattle.crl_protocol.specs.World.{World, new_world, Stepped, step}
+use Rattle.crl_protocol.specs.World.{World, new_world, WorldStep, step}
 
 -- A node's place in its script: the statements that are left, and per open write section the bytes that the
 -- changes inside it have made of those with which it began.
@@ -81,12 +81,12 @@ abbrev pub choices : Running → List Choice
 choices r = nexts_from 0 r.world.count r ++ (handles_from 0 r.world.count r ++ carries_from 0 r.world.count r)
 
 -- The call of a statement. A write section that may end leaves its draft.
-abbrev pub left_by : Option Refusal → Name → Actor → List ℕ
-left_by None name a = a.drafts name
-left_by (Some why) name a = []
+abbrev pub draft_of : Option Refusal → Name → Actor → List ℕ
+draft_of None name a = a.drafts name
+draft_of (Some why) name a = []
 
 abbrev pub call_with : Node → Actor → Call → Call
-call_with n a (call.EndWrite name after) = call.EndWrite name (left_by (verdict n (call.EndWrite name after)) name a)
+call_with n a (call.EndWrite name after) = call.EndWrite name (draft_of (verdict n (call.EndWrite name after)) name a)
 call_with n a c = c
 
 abbrev pub call_of : Node → Actor → Statement → Call
@@ -98,13 +98,13 @@ call_of n a (statement.Add name offset number) = call.Add name offset
 abbrev pub eight_at : ℕ → List ℕ → List ℕ
 eight_at offset bytes = take 8 (drop offset bytes)
 
-abbrev pub added : ℕ → ℕ → List ℕ → List ℕ
-added offset number bytes = put_at offset (to_be_bytes w64 ((from_be_bytes w64 (eight_at offset bytes) + number) % 2 ^ 64)) bytes
+abbrev pub with_sum : ℕ → ℕ → List ℕ → List ℕ
+with_sum offset number bytes = put_at offset (to_be_bytes w64 ((from_be_bytes w64 (eight_at offset bytes) + number) % 2 ^ 64)) bytes
 
-abbrev pub changed : Statement → Actor → Actor
-changed (statement.Call c) a = a
-changed (statement.Put name offset bytes) a = record a { drafts = at_name a.drafts name (put_at offset bytes (a.drafts name)) }
-changed (statement.Add name offset number) a = record a { drafts = at_name a.drafts name (added offset number (a.drafts name)) }
+abbrev pub after_change : Statement → Actor → Actor
+after_change (statement.Call c) a = a
+after_change (statement.Put name offset bytes) a = record a { drafts = at_name a.drafts name (put_at offset bytes (a.drafts name)) }
+after_change (statement.Add name offset number) a = record a { drafts = at_name a.drafts name (with_sum offset number (a.drafts name)) }
 
 -- a change that isn't refused: it takes a turn and is no event
 abbrev pub is_change : Statement → Bool
@@ -117,15 +117,15 @@ is_allowed None = true
 is_allowed (Some why) = false
 
 -- a write section that opens begins its draft
-abbrev pub given : Answer → Actor → Actor
-given (Writing guard) a = record a { drafts = at_name a.drafts guard.name guard.bytes }
-given _ a = a
+abbrev pub takes_guard : Answer → Actor → Actor
+takes_guard (Writing guard) a = record a { drafts = at_name a.drafts guard.name guard.bytes }
+takes_guard _ a = a
 
 -- an event of the run
-abbrev pub going_on : ℕ → Event → Stepped → Running → Running
+abbrev pub going_on : ℕ → Event → WorldStep → Running → Running
 going_on i e s r = record {
   world = s.world;
-  actors = at_node r.actors i (given s.answer (r.actors i));
+  actors = at_node r.actors i (takes_guard s.answer (r.actors i));
   events = r.events ++ e ∷ [];
   entries = r.entries ++ s.entries;
 }
@@ -137,30 +137,30 @@ abbrev pub with_actor : ℕ → Actor → Running → Running
 with_actor i a r = record r { actors = at_node r.actors i a }
 
 -- the next statement of a node is taken
-abbrev pub states_call : ℕ → Statement → Call → Running → Running
-states_call i s c r =
+abbrev pub makes_call : ℕ → Statement → Call → Running → Running
+makes_call i s c r =
     if is_change s then (if is_allowed (verdict (r.world.nodes i) c)
-    then with_actor i (changed s (r.actors i)) r
+    then with_actor i (after_change s (r.actors i)) r
     else goes_on i (event.Call i c) r)
     else goes_on i (event.Call i c) r
 
-abbrev pub states : ℕ → List Statement → Running → Running
-states i [] r = r
-states i (s ∷ left) r = states_call i s (call_of (r.world.nodes i) (r.actors i) s) (with_actor i (record (r.actors i) { left = left }) r)
+abbrev pub takes_statement : ℕ → List Statement → Running → Running
+takes_statement i [] r = r
+takes_statement i (s ∷ left) r = makes_call i s (call_of (r.world.nodes i) (r.actors i) s) (with_actor i (record (r.actors i) { left = left }) r)
 
-unfoldable pub takes : Choice → Running → Running
-takes (choice.Statement i) r = states i (r.actors i).left r
-takes (choice.Collect i) r = goes_on i (event.Collect i) r
-takes (choice.Handle i place) r = goes_on i (event.Handle i place) r
-takes (choice.Carry i place) r = goes_on i (event.Carry i place) r
+unfoldable pub takes_choice : Choice → Running → Running
+takes_choice (choice.Statement i) r = takes_statement i (r.actors i).left r
+takes_choice (choice.Collect i) r = goes_on i (event.Collect i) r
+takes_choice (choice.Handle i place) r = goes_on i (event.Handle i place) r
+takes_choice (choice.Carry i place) r = goes_on i (event.Carry i place) r
 
 -- One turn: of the choices the one at the place that the word gives. Without a choice nothing happens.
-abbrev pub takes_at : ℕ → List Choice → Running → Running
-takes_at word [] r = r
-takes_at word (c ∷ cs) r = takes (slice_index_or (c ∷ cs) (word % length (c ∷ cs)) c) r
+abbrev pub takes_choice_at : ℕ → List Choice → Running → Running
+takes_choice_at word [] r = r
+takes_choice_at word (c ∷ cs) r = takes_choice (slice_index_or (c ∷ cs) (word % length (c ∷ cs)) c) r
 
 abbrev pub turn : ℕ → Running → Running
-turn word r = takes_at word (choices r) r
+turn word r = takes_choice_at word (choices r) r
 
 -- So many turns, by the words of the order from the p-th on.
 abbrev pub turns_from : (ℕ → ℕ) → ℕ → ℕ → Running → Running
@@ -174,9 +174,9 @@ pub record IsChosen (count capacity : ℕ) (blocks : List (List Statement)) (wor
   pub finished : choices end ≡ []
 
 -- The orders: always the first choice; the values of a list, and then the first choice.
-abbrev pub first : ℕ → ℕ
-first p = 0
+abbrev pub always_first : ℕ → ℕ
+always_first p = 0
 
-abbrev pub picks : List ℕ → ℕ → ℕ
-picks values zero = 0
-picks values (suc p) = slice_index_or values p 0
+abbrev pub pick_at : List ℕ → ℕ → ℕ
+pick_at values zero = 0
+pick_at values (suc p) = slice_index_or values p 0

@@ -2,6 +2,8 @@
 use Rattle.std.specs.Prelude.{◌≡◌, ℕ, zero, suc, ◌+◌, ◌==◌, nat_lt, Bool, true, false, not, ◌&&◌, if◌then◌else◌, List, [], ◌∷◌, ◌++◌, length}
 use Rattle.std.specs.declared.option.Option.{Option}
 use Rattle.std.specs.declared.option.Option.TheVariants.{None, Some}
+pub use Rattle.crl_model.specs.declared.report.FinalRegion.{FinalRegion}
+pub use Rattle.crl_model.specs.Reports.{Reported}
 use Rattle.crl_model.specs.declared.name.Name.{Name}
 use Rattle.crl_model.specs.declared.blocked.Blocked.{Blocked}
 use Rattle.crl_model.specs.declared.blocked.Blocked.TheVariants as blocked
@@ -10,8 +12,8 @@ use Rattle.crl_model.specs.Stages.{is_there}
 use Rattle.crl_protocol.specs.Home.{Home, is_empty}
 use Rattle.crl_protocol.specs.Remote.{Copy, Remote, is_closed}
 use Rattle.crl_protocol.specs.Sections.{section_at}
-use Rattle.crl_protocol.specs.Node.{Node, Activity, Free, Waiting, Ready, ForSection, ForMap, ForDelete, ForRound, home_of, lease_of}
-use Rattle.crl_protocol.specs.World.{World, boxed, sent, is_free}
+use Rattle.crl_protocol.specs.Node.{Node, Activity, Free, Waiting, Ready, ForSection, ForMap, ForDelete, ForRound, home_of, lifetime_of}
+use Rattle.crl_protocol.specs.World.{World, pieces_in_boxes, messages_sent, is_free}
 use Rattle.crl_protocol.specs.Chosen.{Running}
 
 -- The bytes of a region where no message is under way: those of the exclusive copy, where there is one, else
@@ -33,34 +35,30 @@ bytes_from name bytes i zero nodes = bytes
 bytes_from name bytes i (suc k) nodes =
     first_some (exclusive_bytes (copy_of ((nodes i).remotes name))) (bytes_from name bytes (i + 1) k nodes)
 
-abbrev pub bytes_of : Name → World → Option Home → Option (List ℕ)
-bytes_of name w None = None
-bytes_of name w (Some h) = Some (bytes_from name h.bytes 0 w.count w.nodes)
+abbrev pub region_bytes : Name → World → Option Home → Option (List ℕ)
+region_bytes name w None = None
+region_bytes name w (Some h) = Some (bytes_from name h.bytes 0 w.count w.nodes)
 
 abbrev pub final_bytes : Name → World → Option (List ℕ)
 final_bytes name w =
     let n = w.nodes name.home in
-    if nat_lt name.home w.count && is_there (lease_of n name).stage then bytes_of name w (home_of n name) else None
+    if nat_lt name.home w.count && is_there (lifetime_of n name).stage then region_bytes name w (home_of n name) else None
 
 -- the regions that are there, by name
-pub record Region : Type 0 where
-  pub name : Name
-  pub bytes : List ℕ
-
-abbrev pub region_line : Name → Option (List ℕ) → List Region
+abbrev pub region_line : Name → Option (List ℕ) → List FinalRegion
 region_line name None = []
 region_line name (Some bytes) = record { name = name; bytes = bytes } ∷ []
 
-abbrev pub regions_of : ℕ → ℕ → List (Option Home) → World → List Region
+abbrev pub regions_of : ℕ → ℕ → List (Option Home) → World → List FinalRegion
 regions_of i serial [] w = []
 regions_of i serial (h ∷ homes) w =
     let name : Name = record { home = i; serial = serial } in region_line name (final_bytes name w) ++ regions_of i (serial + 1) homes w
 
-abbrev pub regions_from : ℕ → ℕ → World → List Region
+abbrev pub regions_from : ℕ → ℕ → World → List FinalRegion
 regions_from i zero w = []
 regions_from i (suc k) w = regions_of i 1 (w.nodes i).homes w ++ regions_from (i + 1) k w
 
-abbrev pub regions : World → List Region
+abbrev pub regions : World → List FinalRegion
 regions w = regions_from 0 w.count w
 
 -- A node that waits for a section is blocked by the least other node that has one open; one that waits in a
@@ -71,12 +69,12 @@ holds_open i name m n = not (m == i) && not (is_closed (section_at name n.sectio
 abbrev pub is_absent : ℕ → ℕ → Node → Bool
 is_absent round m n = nat_lt n.rounds round
 
-abbrev pub least_from : (ℕ → Node → Bool) → ℕ → ℕ → (ℕ → Node) → Option ℕ
-least_from test m zero nodes = None
-least_from test m (suc k) nodes = if test m (nodes m) then Some m else least_from test (m + 1) k nodes
+abbrev pub least_node_from : (ℕ → Node → Bool) → ℕ → ℕ → (ℕ → Node) → Option ℕ
+least_node_from test m zero nodes = None
+least_node_from test m (suc k) nodes = if test m (nodes m) then Some m else least_node_from test (m + 1) k nodes
 
-abbrev pub least : (ℕ → Node → Bool) → World → Option ℕ
-least test w = least_from test 0 w.count w.nodes
+abbrev pub least_node : (ℕ → Node → Bool) → World → Option ℕ
+least_node test w = least_node_from test 0 w.count w.nodes
 
 abbrev pub by_holder : ℕ → Name → Option ℕ → Option Blocked
 by_holder i name None = None
@@ -87,8 +85,8 @@ by_absent i round None = None
 by_absent i round (Some absent) = Some (blocked.Round i round absent)
 
 abbrev pub blocked_while : ℕ → Activity → World → Option Blocked
-blocked_while i (Waiting (ForSection name)) w = by_holder i name (least (holds_open i name) w)
-blocked_while i (Waiting (ForRound round kind)) w = by_absent i round (least (is_absent round) w)
+blocked_while i (Waiting (ForSection name)) w = by_holder i name (least_node (holds_open i name) w)
+blocked_while i (Waiting (ForRound round kind)) w = by_absent i round (least_node (is_absent round) w)
 blocked_while i (Waiting (ForMap name purged)) w = None
 blocked_while i (Waiting (ForDelete name)) w = None
 blocked_while i Free w = None
@@ -104,17 +102,10 @@ is_finished i r = is_free (r.world.nodes i).activity && is_empty (r.actors i).le
 
 abbrev pub IsTrulyStuck : Running → Type 0
 IsTrulyStuck r =
-    (boxed r.world ≡ []) × ((i : ℕ) → is_finished i r ≡ false → nat_lt i r.world.count ≡ true → (b : Blocked) × (blocked_at i r.world ≡ Some b))
+    (pieces_in_boxes r.world ≡ []) × ((i : ℕ) → is_finished i r ≡ false → nat_lt i r.world.count ≡ true → (b : Blocked) × (blocked_at i r.world ≡ Some b))
 
 -- What is printed of a run: its account, the regions or else what blocks each unfinished node, and the
 -- numbers of events and messages.
-pub record Report : Type 0 where
-  pub entries : List Entry
-  pub regions : List Region
-  pub blocked : List Blocked
-  pub events : ℕ
-  pub messages : ℕ
-
 abbrev pub blocked_line : Option Blocked → List Blocked
 blocked_line None = []
 blocked_line (Some b) = b ∷ []
@@ -130,11 +121,11 @@ all_finished i (suc k) r = is_finished i r && all_finished (i + 1) k r
 abbrev pub is_stuck : Running → Bool
 is_stuck r = not (all_finished 0 r.world.count r)
 
-abbrev pub report : Running → Report
+abbrev pub report : Running → Reported
 report r = record {
   entries = r.entries;
   regions = if is_stuck r then [] else regions r.world;
   blocked = if is_stuck r then blocked_from 0 r.world.count r else [];
   events = length r.events;
-  messages = sent r.world;
+  messages = messages_sent r.world;
 }

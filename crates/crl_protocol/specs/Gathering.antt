@@ -5,7 +5,7 @@ use Rattle.std.specs.declared.option.Option.TheVariants.{None, Some}
 use Rattle.crl_model.specs.declared.collective.Part.{Part}
 use Rattle.crl_model.specs.declared.collective.Fold.{Fold}
 use Rattle.crl_model.specs.Names.{at_node}
-use Rattle.crl_model.specs.Rounds.{fold_of}
+use Rattle.crl_model.specs.FoldOf.{fold_of}
 
 -- the round that is being gathered, from 1, and the parts with which nodes came to it
 pub record Gathering : Type 0 where
@@ -29,18 +29,18 @@ all_parts m zero parts = Some []
 all_parts m (suc k) parts = with_part (parts m) (all_parts (m + 1) k parts)
 
 -- A node comes to the round. With the last of all nodes the round gives its fold, and the next one begins.
-pub record Gathered : Type 0 where
+pub record RoundStep : Type 0 where
   pub gathering : Gathering
   pub fold : Option Fold
 
-abbrev pub gathered_all : Option (List Part) → Gathering → Gathered
-gathered_all None g = record { gathering = g; fold = None }
-gathered_all (Some parts) g = record { gathering = record { round = g.round + 1; parts = no_parts }; fold = Some (fold_of parts) }
+abbrev pub after_parts : Option (List Part) → Gathering → RoundStep
+after_parts None g = record { gathering = g; fold = None }
+after_parts (Some parts) g = record { gathering = record { round = g.round + 1; parts = no_parts }; fold = Some (fold_of parts) }
 
-unfoldable pub gathers : ℕ → ℕ → Part → Gathering → Gathered
+unfoldable pub gathers : ℕ → ℕ → Part → Gathering → RoundStep
 gathers nodes n part g =
     let parts = at_node g.parts n (Some part) in
-    gathered_all (all_parts 0 nodes parts) (record g { parts = parts })
+    after_parts (all_parts 0 nodes parts) (record g { parts = parts })
 
 -- the node hasn't come to the round
 abbrev pub awaits : ℕ → Gathering → Bool

@@ -21,7 +21,7 @@ use Rattle.crl_protocol.specs.Places.{Taken, take_out}
 use Rattle.crl_protocol.specs.Node.{Free}
 use Rattle.crl_protocol.specs.Verdict.{verdict, word_of}
 use Rattle.crl_protocol.specs.World.{World, is_enabled}
-use Rattle.crl_protocol.specs.Chosen.{Running, goes_on, with_actor, changed, is_change, is_allowed, call_of}
+use Rattle.crl_protocol.specs.Chosen.{Running, goes_on, with_actor, after_change, is_change, is_allowed, call_of}
 
 -- An event touches its node; a carriage touches the sender and the addressee.
 abbrev pub goes_to : ℕ → Option (Taken Piece) → Bool
@@ -92,8 +92,8 @@ IsDecided (event.Carry i place) w e = ⊥
 abbrev pub IsNext : Running → ℕ → Statement → List Statement → Type 0
 IsNext r i s left = ((r.actors i).left ≡ s ∷ left) × ((r.world.nodes i).activity ≡ Free)
 
-abbrev pub passed : Running → ℕ → List Statement → Running
-passed r i left = with_actor i (record (r.actors i) { left = left }) r
+abbrev pub past_statement : Running → ℕ → List Statement → Running
+past_statement r i left = with_actor i (record (r.actors i) { left = left }) r
 
 abbrev pub next_call : Running → ℕ → Statement → Call
 next_call r i s = call_of (r.world.nodes i) (r.actors i) s
@@ -115,9 +115,9 @@ is_call_event _ = false
 pub data Follows : Running → List Event → Running → Type 0 where
   ended : {r : Running} → Follows r [] r
   changes : {r end : Running} {es : List Event} (i : ℕ) (s : Statement) (left : List Statement) → (i < r.world.count) → IsNext r i s left
-      → is_inside r i s ≡ true → Follows (with_actor i (changed s (record (r.actors i) { left = left })) r) es end → Follows r es end
+      → is_inside r i s ≡ true → Follows (with_actor i (after_change s (record (r.actors i) { left = left })) r) es end → Follows r es end
   calls : {r end : Running} {es : List Event} (i : ℕ) (s : Statement) (left : List Statement) → (i < r.world.count) → IsNext r i s left
-      → is_inside r i s ≡ false → Follows (goes_on i (event.Call i (next_call r i s)) (passed r i left)) es end
+      → is_inside r i s ≡ false → Follows (goes_on i (event.Call i (next_call r i s)) (past_statement r i left)) es end
       → Follows r (event.Call i (next_call r i s) ∷ es) end
   happens : {r end : Running} {es : List Event} (i : ℕ) (e : Event) → node_of e ≡ i → is_call_event e ≡ false → is_enabled e r.world ≡ true
       → Follows (goes_on i e r) es end → Follows r (e ∷ es) end

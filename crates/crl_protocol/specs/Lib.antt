@@ -6,7 +6,7 @@ pub mod Gathering
 pub mod Handlers
 pub mod Home
 pub mod Laws
-pub mod Leases
+pub mod Lifetimes
 pub mod Mail
 pub mod Node
 pub mod Parcels

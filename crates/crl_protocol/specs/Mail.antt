@@ -25,10 +25,10 @@ pub record Letter : Type 0 where
   pub mail : Mail
 
 -- the kind of the message that it is under the region's name
-abbrev pub about : Name → Mail → Kind
-about name (Ask write have) = kind.Ask name write have
-about name (Grant version granted) = kind.Grant name version granted
-about name (Recall version) = kind.Recall name version
-about name (Yield version) = kind.Yield name version
-about name (Return version bytes) = kind.Return name version bytes
-about name (Release version bytes) = kind.Release name version bytes
+abbrev pub kind_about : Name → Mail → Kind
+kind_about name (Ask write have) = kind.Ask name write have
+kind_about name (Grant version granted) = kind.Grant name version granted
+kind_about name (Recall version) = kind.Recall name version
+kind_about name (Yield version) = kind.Yield name version
+kind_about name (Return version bytes) = kind.Return name version bytes
+kind_about name (Release version bytes) = kind.Release name version bytes

@@ -18,34 +18,34 @@ pub record Piece : Type 0 where
   pub index : ℕ
 
 -- the bytes that travel in pieces
-abbrev pub granted_load : Granted → List ℕ
-granted_load (Shared bytes) = bytes
-granted_load (Exclusive bytes) = bytes
-granted_load Upgrade = []
+abbrev pub load_of_grant : Granted → List ℕ
+load_of_grant (Shared bytes) = bytes
+load_of_grant (Exclusive bytes) = bytes
+load_of_grant Upgrade = []
 
-abbrev pub returned_load : Option (List ℕ) → List ℕ
-returned_load None = []
-returned_load (Some bytes) = bytes
+abbrev pub load_of_return : Option (List ℕ) → List ℕ
+load_of_return None = []
+load_of_return (Some bytes) = bytes
 
 abbrev pub load_of : Kind → List ℕ
-load_of (kind.Grant name version granted) = granted_load granted
-load_of (kind.Return name version bytes) = returned_load bytes
+load_of (kind.Grant name version granted) = load_of_grant granted
+load_of (kind.Return name version bytes) = load_of_return bytes
 load_of (kind.Release name version bytes) = bytes
 load_of _ = []
 
 -- the same with other bytes
-abbrev pub regranted : List ℕ → Granted → Granted
-regranted part (Shared bytes) = Shared part
-regranted part (Exclusive bytes) = Exclusive part
-regranted part Upgrade = Upgrade
+abbrev pub grant_with : List ℕ → Granted → Granted
+grant_with part (Shared bytes) = Shared part
+grant_with part (Exclusive bytes) = Exclusive part
+grant_with part Upgrade = Upgrade
 
-abbrev pub rereturned : List ℕ → Option (List ℕ) → Option (List ℕ)
-rereturned part None = None
-rereturned part (Some bytes) = Some part
+abbrev pub return_with : List ℕ → Option (List ℕ) → Option (List ℕ)
+return_with part None = None
+return_with part (Some bytes) = Some part
 
 abbrev pub with_load : List ℕ → Kind → Kind
-with_load part (kind.Grant name version granted) = kind.Grant name version (regranted part granted)
-with_load part (kind.Return name version bytes) = kind.Return name version (rereturned part bytes)
+with_load part (kind.Grant name version granted) = kind.Grant name version (grant_with part granted)
+with_load part (kind.Return name version bytes) = kind.Return name version (return_with part bytes)
 with_load part (kind.Release name version bytes) = kind.Release name version part
 with_load part k = k
 
@@ -80,19 +80,19 @@ pub record Key : Type 0 where
 abbrev pub key_eq : Key → Key → Bool
 key_eq a b = (a.sender == b.sender) && (name_eq a.name b.name && (load_eq a.load b.load && (a.version == b.version)))
 
-abbrev pub granted_key : ℕ → Name → ℕ → Granted → Option Key
-granted_key sender name version (Shared bytes) = Some (record { sender = sender; name = name; load = OfGrant; version = version })
-granted_key sender name version (Exclusive bytes) = Some (record { sender = sender; name = name; load = OfGrant; version = version })
-granted_key sender name version Upgrade = None
+abbrev pub key_of_grant : ℕ → Name → ℕ → Granted → Option Key
+key_of_grant sender name version (Shared bytes) = Some (record { sender = sender; name = name; load = OfGrant; version = version })
+key_of_grant sender name version (Exclusive bytes) = Some (record { sender = sender; name = name; load = OfGrant; version = version })
+key_of_grant sender name version Upgrade = None
 
-abbrev pub returned_key : ℕ → Name → ℕ → Option (List ℕ) → Option Key
-returned_key sender name version None = None
-returned_key sender name version (Some bytes) = Some (record { sender = sender; name = name; load = OfReturn; version = version })
+abbrev pub key_of_return : ℕ → Name → ℕ → Option (List ℕ) → Option Key
+key_of_return sender name version None = None
+key_of_return sender name version (Some bytes) = Some (record { sender = sender; name = name; load = OfReturn; version = version })
 
 -- none for a message without bytes
 abbrev pub key_in : ℕ → Kind → Option Key
-key_in sender (kind.Grant name version granted) = granted_key sender name version granted
-key_in sender (kind.Return name version bytes) = returned_key sender name version bytes
+key_in sender (kind.Grant name version granted) = key_of_grant sender name version granted
+key_in sender (kind.Return name version bytes) = key_of_return sender name version bytes
 key_in sender (kind.Release name version bytes) = Some (record { sender = sender; name = name; load = OfRelease; version = version })
 key_in sender _ = None
 
@@ -100,14 +100,14 @@ abbrev pub key_of : Message → Option Key
 key_of m = key_in m.sender m.kind
 
 -- A node's gathering: the pieces that came, by key.
-abbrev pub Gathered : Type 0
-Gathered = Key → Option (List (Option (List ℕ)))
+abbrev pub PartsGathered : Type 0
+PartsGathered = Key → Option (List (Option (List ℕ)))
 
 abbrev pub slots_or : ℕ → Option (List (Option (List ℕ))) → List (Option (List ℕ))
 slots_or n None = nothing_came n
 slots_or n (Some slots) = slots
 
-abbrev pub at_key : Gathered → Key → Option (List (Option (List ℕ))) → Gathered
+abbrev pub at_key : PartsGathered → Key → Option (List (Option (List ℕ))) → PartsGathered
 at_key g key v k = if key_eq k key then v else g k
 
 -- the piece is one of a region of this size

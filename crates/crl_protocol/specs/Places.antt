@@ -36,6 +36,6 @@ pub data Took {A : Type 0} : A → List A → List A → Type 0 where
   there : {x y : A} {xs ys : List A} → Took x xs ys → Took x (y ∷ xs) (y ∷ ys)
 
 -- what the selector finds, in order
-abbrev pub picks : {A B : Type 0} → (A → Option B) → List A → List B
-picks f [] = []
-picks f (x ∷ xs) = elim (f x) [ None ↦ picks f xs | Some y ↦ y ∷ picks f xs ]
+abbrev pub find_all : {A B : Type 0} → (A → Option B) → List A → List B
+find_all f [] = []
+find_all f (x ∷ xs) = elim (f x) [ None ↦ find_all f xs | Some y ↦ y ∷ find_all f xs ]

@@ -8,7 +8,7 @@ use Rattle.crl_protocol.specs.Parcels.{Piece, load_of, with_load, Load, OfGrant,
 use Rattle.crl_protocol.specs.Home.{Home}
 use Rattle.crl_protocol.specs.Remote.{Remote}
 use Rattle.crl_protocol.specs.Node.{Node, Done, Outcome, only, home_of}
-use Rattle.crl_protocol.specs.Handlers.{ignored, handled}
+use Rattle.crl_protocol.specs.Handlers.{ignores, node_handles}
 
 -- the size that the node knows of the region: that of its own side for a grant, else that of its home
 abbrev pub remote_size : Option Remote → Option ℕ
@@ -30,19 +30,19 @@ slots_with p o = with_piece p.index (load_of p.message.kind) (slots_or p.pieces 
 abbrev pub gathers_piece : Key → Piece → List (Option (List ℕ)) → Node → Outcome
 gathers_piece key p slots n =
     if is_complete slots
-    then handled p.message.sender (with_load (joined slots) p.message.kind) (record n { parcels = at_key n.parcels key None })
+    then node_handles p.message.sender (with_load (joined slots) p.message.kind) (record n { parcels = at_key n.parcels key None })
     else only (record n { parcels = at_key n.parcels key (Some slots) }) Done
 
-abbrev pub receives : Key → Piece → Option ℕ → Node → Outcome
-receives key p None n = ignored n
-receives key p (Some size) n =
+abbrev pub receives_part : Key → Piece → Option ℕ → Node → Outcome
+receives_part key p None n = ignores n
+receives_part key p (Some size) n =
     if fits_size size p && is_missing p.index (slots_or p.pieces (n.parcels key))
     then gathers_piece key p (slots_with p (n.parcels key)) n
-    else ignored n
+    else ignores n
 
-abbrev pub received_as : Option Key → Piece → Node → Outcome
-received_as None p n = handled p.message.sender p.message.kind n
-received_as (Some key) p n = receives key p (size_for key.load key.name n) n
+abbrev pub receives_as : Option Key → Piece → Node → Outcome
+receives_as None p n = node_handles p.message.sender p.message.kind n
+receives_as (Some key) p n = receives_part key p (size_for key.load key.name n) n
 
-abbrev pub received : Piece → Node → Outcome
-received p n = received_as (key_of p.message) p n
+abbrev pub receives : Piece → Node → Outcome
+receives p n = receives_as (key_of p.message) p n

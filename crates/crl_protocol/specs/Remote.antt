@@ -8,7 +8,7 @@ use Rattle.crl_model.specs.declared.directory.Due.{Due}
 use Rattle.crl_model.specs.declared.message.Granted.{Granted}
 use Rattle.crl_model.specs.declared.message.Granted.TheVariants.{Shared, Exclusive, Upgrade}
 use Rattle.crl_protocol.specs.Mail.{Mail, Ask, Return, Release}
-use Rattle.crl_protocol.specs.Home.{one_more, one_less}
+use Rattle.crl_protocol.specs.Home.{one_section_more, one_section_less}
 
 pub record Copy : Type 0 where
   pub exclusive : Bool
@@ -31,13 +31,13 @@ pub record Remote : Type 0 where
   pub due : Option Due
 
 -- what a step leaves: the node's side, its mail for the home, and whether the section that starts opened
-pub record Moved : Type 0 where
+pub record RemoteStep : Type 0 where
   pub remote : Remote
   pub posts : List Mail
   pub opened : Bool
 
-abbrev pub quiet : Remote → Moved
-quiet r = record { remote = r; posts = []; opened = false }
+abbrev pub sends_nothing : Remote → RemoteStep
+sends_nothing r = record { remote = r; posts = []; opened = false }
 
 -- mapped anew
 abbrev pub new_remote : ℕ → Remote
@@ -50,11 +50,11 @@ bytes_back given copy = if copy.exclusive || given then Some copy.bytes else Non
 abbrev pub without_copy : Remote → Remote
 without_copy r = record r { copy = None; given = false; leaving = false; lowering = false }
 
-abbrev pub gives_back : Copy → Remote → Moved
+abbrev pub gives_back : Copy → Remote → RemoteStep
 gives_back copy r = record { remote = without_copy r; posts = Return copy.version (bytes_back r.given copy) ∷ []; opened = false }
 
 -- The exclusive copy becomes a shared one, and its bytes go to the home.
-abbrev pub lowers : Copy → Remote → Moved
+abbrev pub lowers : Copy → Remote → RemoteStep
 lowers copy r = record {
   remote = record r { copy = Some (record copy { exclusive = false }); given = true; lowering = false };
   posts = Release copy.version copy.bytes ∷ [];
@@ -62,32 +62,32 @@ lowers copy r = record {
 }
 
 -- A start: it opens over a copy that suffices, else the node asks for one.
-abbrev pub opens : Section → Remote → Moved
-opens section r = record { remote = record r { here = section }; posts = []; opened = true }
+abbrev pub opens_here : Section → Remote → RemoteStep
+opens_here section r = record { remote = record r { here = section }; posts = []; opened = true }
 
-abbrev pub asks : Bool → ℕ → Remote → Moved
-asks write have r = record { remote = record r { asking = Some write; due = None }; posts = Ask write have ∷ []; opened = false }
+abbrev pub asks_home : Bool → ℕ → Remote → RemoteStep
+asks_home write have r = record { remote = record r { asking = Some write; due = None }; posts = Ask write have ∷ []; opened = false }
 
-abbrev pub starts_over : Bool → Option Copy → Remote → Moved
-starts_over write None r = asks write 0 r
+abbrev pub starts_over : Bool → Option Copy → Remote → RemoteStep
+starts_over write None r = asks_home write 0 r
 starts_over write (Some copy) r =
-    if not write then opens (one_more r.here) r
-    else if copy.exclusive then opens Writing r
-    else asks true copy.version r
+    if not write then opens_here (one_section_more r.here) r
+    else if copy.exclusive then opens_here Writing r
+    else asks_home true copy.version r
 
-unfoldable pub remote_starts : Bool → Remote → Moved
+unfoldable pub remote_starts : Bool → Remote → RemoteStep
 remote_starts write r = starts_over write r.copy r
 
 -- A grant comes, and the section opens for which the node waits.
-abbrev pub granted_copy : ℕ → Granted → Option Copy → Option Copy
-granted_copy version (Shared bytes) old = Some (record { exclusive = false; version = version; bytes = bytes })
-granted_copy version (Exclusive bytes) old = Some (record { exclusive = true; version = version; bytes = bytes })
-granted_copy version Upgrade None = None
-granted_copy version Upgrade (Some copy) = Some (record { exclusive = true; version = version; bytes = copy.bytes })
+abbrev pub copy_after_grant : ℕ → Granted → Option Copy → Option Copy
+copy_after_grant version (Shared bytes) old = Some (record { exclusive = false; version = version; bytes = bytes })
+copy_after_grant version (Exclusive bytes) old = Some (record { exclusive = true; version = version; bytes = bytes })
+copy_after_grant version Upgrade None = None
+copy_after_grant version Upgrade (Some copy) = Some (record { exclusive = true; version = version; bytes = copy.bytes })
 
-abbrev pub opened_by : Option Bool → Section
-opened_by None = Closed
-opened_by (Some write) = if write then Writing else Reading 1
+abbrev pub section_asked : Option Bool → Section
+section_asked None = Closed
+section_asked (Some write) = if write then Writing else Reading 1
 
 -- a recall of this version is due, and a yield
 abbrev pub is_recall_due : ℕ → Option Due → Bool
@@ -98,12 +98,12 @@ abbrev pub is_yield_due : ℕ → Option Due → Bool
 is_yield_due version None = false
 is_yield_due version (Some due) = (due.version == version) && due.yields
 
-unfoldable pub remote_granted : ℕ → Granted → Remote → Remote
-remote_granted version granted r = record {
+unfoldable pub remote_takes_grant : ℕ → Granted → Remote → Remote
+remote_takes_grant version granted r = record {
   size = r.size;
-  copy = granted_copy version granted r.copy;
+  copy = copy_after_grant version granted r.copy;
   given = false;
-  here = opened_by r.asking;
+  here = section_asked r.asking;
   leaving = is_recall_due version r.due;
   lowering = is_yield_due version r.due;
   asking = None;
@@ -124,10 +124,10 @@ abbrev pub is_shared : Option Copy → Bool
 is_shared None = false
 is_shared (Some copy) = not copy.exclusive
 
-abbrev pub takes_grant : Granted → Remote → Bool
-takes_grant (Shared bytes) r = asks_to_read r.asking && (length bytes == r.size)
-takes_grant (Exclusive bytes) r = asks_to_write r.asking && (length bytes == r.size)
-takes_grant Upgrade r = asks_to_write r.asking && is_shared r.copy
+abbrev pub grant_fits : Granted → Remote → Bool
+grant_fits (Shared bytes) r = asks_to_read r.asking && (length bytes == r.size)
+grant_fits (Exclusive bytes) r = asks_to_write r.asking && (length bytes == r.size)
+grant_fits Upgrade r = asks_to_write r.asking && is_shared r.copy
 
 -- A recall or a yield that may have overtaken its grant is kept until a grant comes, the newest of them. It
 -- counts where it is of that grant's version; else it was late, and is dropped.
@@ -143,43 +143,43 @@ notes_due version yields None r = r
 notes_due version yields (Some write) r = with_due version yields r
 
 -- of another version than the copy's: of a later one it is due, of an earlier one it is stale
-abbrev pub overtakes : ℕ → ℕ → Bool → Remote → Moved
-overtakes version old yields r = quiet (if nat_lt old version then notes_due version yields r.asking r else r)
+abbrev pub overtakes : ℕ → ℕ → Bool → Remote → RemoteStep
+overtakes version old yields r = sends_nothing (if nat_lt old version then notes_due version yields r.asking r else r)
 
 -- A recall comes. A copy that is in use goes back at the end of its last section.
-abbrev pub recalled_in : Section → Copy → Remote → Moved
-recalled_in Closed copy r = gives_back copy r
-recalled_in (Reading count) copy r = quiet (record r { leaving = true })
-recalled_in Writing copy r = quiet (record r { leaving = true })
+abbrev pub recall_in : Section → Copy → Remote → RemoteStep
+recall_in Closed copy r = gives_back copy r
+recall_in (Reading count) copy r = sends_nothing (record r { leaving = true })
+recall_in Writing copy r = sends_nothing (record r { leaving = true })
 
-abbrev pub recalled_over : ℕ → Option Copy → Remote → Moved
-recalled_over version None r = quiet (notes_due version false r.asking r)
-recalled_over version (Some copy) r = if version == copy.version then recalled_in r.here copy r else overtakes version copy.version false r
+abbrev pub recall_over : ℕ → Option Copy → Remote → RemoteStep
+recall_over version None r = sends_nothing (notes_due version false r.asking r)
+recall_over version (Some copy) r = if version == copy.version then recall_in r.here copy r else overtakes version copy.version false r
 
-unfoldable pub remote_recalled : ℕ → Remote → Moved
-remote_recalled version r = recalled_over version r.copy r
+unfoldable pub remote_takes_recall : ℕ → Remote → RemoteStep
+remote_takes_recall version r = recall_over version r.copy r
 
 -- A yield comes. A copy that is being written becomes a shared one at the end of the section.
-abbrev pub yields_in : Section → Copy → Remote → Moved
-yields_in Closed copy r = lowers copy r
-yields_in (Reading count) copy r = lowers copy r
-yields_in Writing copy r = quiet (record r { lowering = true })
+abbrev pub yield_in : Section → Copy → Remote → RemoteStep
+yield_in Closed copy r = lowers copy r
+yield_in (Reading count) copy r = lowers copy r
+yield_in Writing copy r = sends_nothing (record r { lowering = true })
 
-abbrev pub yields_over : ℕ → Option Copy → Remote → Moved
-yields_over version None r = quiet (notes_due version true r.asking r)
-yields_over version (Some copy) r =
-    if (version == copy.version) && copy.exclusive then yields_in r.here copy r else overtakes version copy.version true r
+abbrev pub yield_over : ℕ → Option Copy → Remote → RemoteStep
+yield_over version None r = sends_nothing (notes_due version true r.asking r)
+yield_over version (Some copy) r =
+    if (version == copy.version) && copy.exclusive then yield_in r.here copy r else overtakes version copy.version true r
 
-unfoldable pub remote_yields : ℕ → Remote → Moved
-remote_yields version r = yields_over version r.copy r
+unfoldable pub remote_takes_yield : ℕ → Remote → RemoteStep
+remote_takes_yield version r = yield_over version r.copy r
 
 -- The end of a section. A copy that leaves is not made a shared one before.
-abbrev pub leaves_over : Option Copy → Remote → Moved
-leaves_over None r = quiet (without_copy r)
+abbrev pub leaves_over : Option Copy → Remote → RemoteStep
+leaves_over None r = sends_nothing (without_copy r)
 leaves_over (Some copy) r = gives_back copy r
 
-abbrev pub lowers_over : Option Copy → Remote → Moved
-lowers_over None r = quiet r
+abbrev pub lowers_over : Option Copy → Remote → RemoteStep
+lowers_over None r = sends_nothing r
 lowers_over (Some copy) r = lowers copy r
 
 abbrev pub is_closed : Section → Bool
@@ -187,26 +187,26 @@ is_closed Closed = true
 is_closed (Reading count) = false
 is_closed Writing = false
 
-unfoldable pub remote_ends_read : Remote → Moved
+unfoldable pub remote_ends_read : Remote → RemoteStep
 remote_ends_read r =
-    let after = record r { here = one_less r.here } in
-    if is_closed after.here && after.leaving then leaves_over after.copy after else quiet after
+    let after = record r { here = one_section_less r.here } in
+    if is_closed after.here && after.leaving then leaves_over after.copy after else sends_nothing after
 
-abbrev pub written : List ℕ → Option Copy → Option Copy
-written bytes None = None
-written bytes (Some copy) = Some (record copy { bytes = bytes })
+abbrev pub with_written : List ℕ → Option Copy → Option Copy
+with_written bytes None = None
+with_written bytes (Some copy) = Some (record copy { bytes = bytes })
 
-unfoldable pub remote_ends_write : List ℕ → Remote → Moved
+unfoldable pub remote_ends_write : List ℕ → Remote → RemoteStep
 remote_ends_write bytes r =
-    let after = record r { here = Closed; copy = written bytes r.copy } in
+    let after = record r { here = Closed; copy = with_written bytes r.copy } in
     if after.leaving then leaves_over after.copy after
     else if after.lowering then lowers_over after.copy after
-    else quiet after
+    else sends_nothing after
 
 -- A flush sends the copy back. A name that is forgotten sends it back too, and then nothing is left here.
-abbrev pub flushes_over : Option Copy → Remote → Moved
-flushes_over None r = quiet r
+abbrev pub flushes_over : Option Copy → Remote → RemoteStep
+flushes_over None r = sends_nothing r
 flushes_over (Some copy) r = gives_back copy r
 
-unfoldable pub remote_flushes : Remote → Moved
+unfoldable pub remote_flushes : Remote → RemoteStep
 remote_flushes r = flushes_over r.copy r

@@ -6,16 +6,16 @@ use Rattle.crl_model.specs.declared.name.Name.{Name}
 use Rattle.crl_model.specs.declared.directory.Section.{Section}
 use Rattle.crl_model.specs.declared.directory.Section.TheVariants.{Closed, Reading, Writing}
 use Rattle.crl_model.specs.Names.{at_name}
-use Rattle.crl_protocol.specs.Home.{one_more, one_less}
+use Rattle.crl_protocol.specs.Home.{one_section_more, one_section_less}
 
 -- The sections of one region. Read sections inside each other have one number.
-pub record Record : Type 0 where
+pub record OpenSection : Type 0 where
   pub section : Section
   pub number : ℕ
   pub bytes : List ℕ
 
 pub record Sections : Type 0 where
-  pub records : Name → Option Record
+  pub records : Name → Option OpenSection
   -- the last number given
   pub last : ℕ
 
@@ -29,19 +29,19 @@ pub record Guard : Type 0 where
   pub number : ℕ
   pub bytes : List ℕ
 
-abbrev pub section_of : Option Record → Section
+abbrev pub section_of : Option OpenSection → Section
 section_of None = Closed
 section_of (Some r) = r.section
 
 abbrev pub section_at : Name → Sections → Section
 section_at name s = section_of (s.records name)
 
-abbrev pub record_bytes : Option Record → List ℕ
-record_bytes None = []
-record_bytes (Some r) = r.bytes
+abbrev pub section_bytes : Option OpenSection → List ℕ
+section_bytes None = []
+section_bytes (Some r) = r.bytes
 
 abbrev pub bytes_at : Name → Sections → List ℕ
-bytes_at name s = record_bytes (s.records name)
+bytes_at name s = section_bytes (s.records name)
 
 abbrev pub count_of : Section → ℕ
 count_of Closed = 0
@@ -54,11 +54,11 @@ is_writing (Reading count) = false
 is_writing Writing = true
 
 -- A section begins with these bytes: a read section inside another, or one with the next number.
-pub record Begun : Type 0 where
+pub record SectionStart : Type 0 where
   pub sections : Sections
   pub number : ℕ
 
-abbrev pub begins_anew : Name → Section → List ℕ → Sections → Begun
+abbrev pub begins_anew : Name → Section → List ℕ → Sections → SectionStart
 begins_anew name section bytes s = record {
   sections = record {
     records = at_name s.records name (Some (record { section = section; number = s.last + 1; bytes = bytes }));
@@ -67,25 +67,25 @@ begins_anew name section bytes s = record {
   number = s.last + 1;
 }
 
-abbrev pub begins_in : Name → Record → Sections → Begun
+abbrev pub begins_in : Name → OpenSection → Sections → SectionStart
 begins_in name r s = record {
-  sections = record s { records = at_name s.records name (Some (record r { section = one_more r.section })) };
+  sections = record s { records = at_name s.records name (Some (record r { section = one_section_more r.section })) };
   number = r.number;
 }
 
-abbrev pub begins_to_read : Name → Option Record → List ℕ → Sections → Begun
+abbrev pub begins_to_read : Name → Option OpenSection → List ℕ → Sections → SectionStart
 begins_to_read name None bytes s = begins_anew name (Reading 1) bytes s
 begins_to_read name (Some r) bytes s = begins_in name r s
 
-unfoldable pub section_begins : Bool → Name → List ℕ → Sections → Begun
+unfoldable pub section_begins : Bool → Name → List ℕ → Sections → SectionStart
 section_begins write name bytes s =
     if write then begins_anew name Writing bytes s else begins_to_read name (s.records name) bytes s
 
 -- The newest section of the region ends.
-abbrev pub ends_over : Name → Option Record → Sections → Sections
+abbrev pub ends_over : Name → Option OpenSection → Sections → Sections
 ends_over name None s = s
 ends_over name (Some r) s = record s {
-  records = at_name s.records name (elim (one_less r.section) [
+  records = at_name s.records name (elim (one_section_less r.section) [
     | Closed ↦ None
     | Reading count ↦ Some (record r { section = Reading count })
     | Writing ↦ None

@@ -24,38 +24,38 @@ pub data Heard : Type 0 where
   Collected : (answer : Answer) → Heard
 
 -- of the events from this world on, those of node n
-abbrev pub heard_of : ℕ → Event → Answer → List Heard
-heard_of n (event.Call i c) answer = if i == n then Called c answer ∷ [] else []
-heard_of n (event.Collect i) answer = if i == n then Collected answer ∷ [] else []
-heard_of n (event.Handle i place) answer = []
-heard_of n (event.Carry i place) answer = []
+abbrev pub hears_of : ℕ → Event → Answer → List Heard
+hears_of n (event.Call i c) answer = if i == n then Called c answer ∷ [] else []
+hears_of n (event.Collect i) answer = if i == n then Collected answer ∷ [] else []
+hears_of n (event.Handle i place) answer = []
+hears_of n (event.Carry i place) answer = []
 
-abbrev pub heard : ℕ → World → List Event → List Heard
-heard n w [] = []
-heard n w (e ∷ es) = heard_of n e (step e w).answer ++ heard n (step e w).world es
+abbrev pub hears : ℕ → World → List Event → List Heard
+hears n w [] = []
+hears n w (e ∷ es) = hears_of n e (step e w).answer ++ hears n (step e w).world es
 
 -- A node's calls, each with its answer: the call's own, or the one that was collected after it. The last call
 -- may have none yet.
-pub record Told : Type 0 where
+pub record ToldCall : Type 0 where
   pub call : Call
   pub answer : Option Answer
 
-abbrev pub collected_next : List Heard → Option Answer
-collected_next [] = None
-collected_next (Called c answer ∷ hs) = None
-collected_next (Collected answer ∷ hs) = Some answer
+abbrev pub next_collected : List Heard → Option Answer
+next_collected [] = None
+next_collected (Called c answer ∷ hs) = None
+next_collected (Collected answer ∷ hs) = Some answer
 
 abbrev pub answer_to : Answer → List Heard → Option Answer
-answer_to Wait hs = collected_next hs
+answer_to Wait hs = next_collected hs
 answer_to answer hs = Some answer
 
-abbrev pub told : List Heard → List Told
-told [] = []
-told (Called c answer ∷ hs) = record { call = c; answer = answer_to answer hs } ∷ told hs
-told (Collected answer ∷ hs) = told hs
+abbrev pub calls_told : List Heard → List ToldCall
+calls_told [] = []
+calls_told (Called c answer ∷ hs) = record { call = c; answer = answer_to answer hs } ∷ calls_told hs
+calls_told (Collected answer ∷ hs) = calls_told hs
 
-abbrev pub talk : ℕ → World → List Event → List Told
-talk n w es = told (heard n w es)
+abbrev pub talk : ℕ → World → List Event → List ToldCall
+talk n w es = calls_told (hears n w es)
 
 -- The lines of node n's call with this answer. Call and answer don't fix the bytes with which a section began, the
 -- serial of a refused create, and the round of a refused collective call: there some line of the form is meant.
@@ -104,16 +104,16 @@ AreLines n _ _ lines = ⊥
 abbrev pub ArePart : ℕ → Call → List What → Type 0
 ArePart n c front = (answer : Answer) × (rest : List What) × AreLines n c answer (front ++ rest)
 
-pub data AreLinesOf (n : ℕ) : List Told → List What → Type 0 where
+pub data AreLinesOf (n : ℕ) : List ToldCall → List What → Type 0 where
   nothing : AreLinesOf n [] []
-  answered : {calls : List Told} {lines : List What} (c : Call) (answer : Answer) (its : List What)
+  answered : {calls : List ToldCall} {lines : List What} (c : Call) (answer : Answer) (its : List What)
       → AreLines n c answer its → AreLinesOf n calls lines → AreLinesOf n (record { call = c; answer = Some answer } ∷ calls) (its ++ lines)
   waiting : (c : Call) (its : List What) → ArePart n c its → AreLinesOf n (record { call = c; answer = None } ∷ []) its
 
 -- the lines of node n in an account
-abbrev pub lines_of : ℕ → List Entry → List What
-lines_of n [] = []
-lines_of n (e ∷ es) = if e.node == n then e.what ∷ lines_of n es else lines_of n es
+abbrev pub lines_of_node : ℕ → List Entry → List What
+lines_of_node n [] = []
+lines_of_node n (e ∷ es) = if e.node == n then e.what ∷ lines_of_node n es else lines_of_node n es
 
 -- The most messages that a run may send, by its calls: six for each section, two for each map and each
 -- collective call, and two per node for each delete.

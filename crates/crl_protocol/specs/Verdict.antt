@@ -4,8 +4,8 @@ use Rattle.std.specs.declared.option.Option.{Option}
 use Rattle.std.specs.declared.option.Option.TheVariants.{None, Some}
 use Rattle.crl_model.specs.declared.TheConstants.{REGION_LIMIT, BROADCAST_LIMIT}
 use Rattle.crl_model.specs.declared.name.Name.{Name}
-use Rattle.crl_model.specs.declared.region.Stage.{Stage}
-use Rattle.crl_model.specs.declared.region.Stage.TheVariants as stage
+use Rattle.crl_model.specs.declared.stage.Stage.{Stage}
+use Rattle.crl_model.specs.declared.stage.Stage.TheVariants as stage
 use Rattle.crl_model.specs.declared.directory.Section.{Section}
 use Rattle.crl_model.specs.declared.collective.Part.{Part}
 use Rattle.crl_model.specs.declared.collective.Part.TheVariants as part
@@ -19,10 +19,10 @@ use Rattle.crl_model.specs.declared.entry.Place.{Place}
 use Rattle.crl_model.specs.declared.entry.Place.TheVariants.{Region, Round}
 use Rattle.crl_model.specs.declared.entry.What.TheVariants as what
 use Rattle.crl_model.specs.Calls.{kind_of}
-use Rattle.crl_protocol.specs.Leases.{Mapping, cached_size}
+use Rattle.crl_protocol.specs.Lifetimes.{Mapping, cached_size}
 use Rattle.crl_protocol.specs.Sections.{section_at, count_of, is_writing}
 use Rattle.crl_protocol.specs.Remote.{is_closed}
-use Rattle.crl_protocol.specs.Node.{Node, Outcome, Refused, COUNT_LIMIT, used, is_mine, lease_of, map_count, is_real, entry}
+use Rattle.crl_protocol.specs.Node.{Node, Outcome, Refused, COUNT_LIMIT, serials_used, is_mine, lifetime_of, map_count, is_real, entry_of}
 
 -- the first reason of two
 abbrev pub else_if : Option Refusal → Option Refusal → Option Refusal
@@ -53,14 +53,14 @@ of_mapped n name None = of_cached n name (cached_size name n.cache)
 
 abbrev pub of_map : Node → Name → Option Refusal
 of_map n name =
-    if is_mine n name then else_if (by_stage (lease_of n name).stage) (of_more (map_count (n.maps name)))
+    if is_mine n name then else_if (by_stage (lifetime_of n name).stage) (of_more (map_count (n.maps name)))
     else of_mapped n name (n.maps name)
 
 abbrev pub of_delete : Node → Name → Option Refusal
-of_delete n name = if is_mine n name then by_stage (lease_of n name).stage else refuse_if (not (is_real n name)) Unknown
+of_delete n name = if is_mine n name then by_stage (lifetime_of n name).stage else refuse_if (not (is_real n name)) Unknown
 
 abbrev pub of_create : Node → ℕ → Option Refusal
-of_create n size = else_if (refuse_if ((size == 0) || nat_lt REGION_LIMIT size) BadSize) (refuse_if (used n == COUNT_LIMIT) NamesSpent)
+of_create n size = else_if (refuse_if ((size == 0) || nat_lt REGION_LIMIT size) BadSize) (refuse_if (serials_used n == COUNT_LIMIT) NamesSpent)
 
 -- of a call about a region that has to be mapped
 abbrev pub of_unmapped : Node → Name → Option Refusal
@@ -127,7 +127,7 @@ word_of (call.Come part) = kind_of part
 
 -- The serial of a refused create: the next one, which is used up with it, or 0 where all are.
 abbrev pub refused_serial : Node → ℕ
-refused_serial n = if used n == COUNT_LIMIT then 0 else used n + 1
+refused_serial n = if serials_used n == COUNT_LIMIT then 0 else serials_used n + 1
 
 -- what a refused call was about
 abbrev pub place_of : Node → Call → Place
@@ -144,28 +144,28 @@ place_of n (call.Add name offset) = Region name
 place_of n (call.Flush name) = Region name
 place_of n (call.Come part) = Round (n.rounds + 1)
 
-abbrev pub used_up : Node → Node
-used_up n = if used n == COUNT_LIMIT then n else record n { homes = n.homes ++ None ∷ [] }
+abbrev pub uses_serial : Node → Node
+uses_serial n = if serials_used n == COUNT_LIMIT then n else record n { homes = n.homes ++ None ∷ [] }
 
-abbrev pub refused_node : Call → Node → Node
-refused_node (call.Create size) n = used_up n
-refused_node (call.Delete name) n = n
-refused_node (call.Map name) n = n
-refused_node (call.Unmap name) n = n
-refused_node (call.StartRead name) n = n
-refused_node (call.EndRead name) n = n
-refused_node (call.StartWrite name) n = n
-refused_node (call.EndWrite name after) n = n
-refused_node (call.Put name offset len) n = n
-refused_node (call.Add name offset) n = n
-refused_node (call.Flush name) n = n
-refused_node (call.Come part) n = n
+abbrev pub after_refusal : Call → Node → Node
+after_refusal (call.Create size) n = uses_serial n
+after_refusal (call.Delete name) n = n
+after_refusal (call.Map name) n = n
+after_refusal (call.Unmap name) n = n
+after_refusal (call.StartRead name) n = n
+after_refusal (call.EndRead name) n = n
+after_refusal (call.StartWrite name) n = n
+after_refusal (call.EndWrite name after) n = n
+after_refusal (call.Put name offset len) n = n
+after_refusal (call.Add name offset) n = n
+after_refusal (call.Flush name) n = n
+after_refusal (call.Come part) n = n
 
 -- A refused call leaves its entry, and a refused create uses its serial.
-unfoldable pub call_refused : Refusal → Call → Node → Outcome
-call_refused why c n = record {
-  node = refused_node c n;
+unfoldable pub refuses_call : Refusal → Call → Node → Outcome
+refuses_call why c n = record {
+  node = after_refusal c n;
   answer = Refused why;
-  entries = entry n.me (what.Refused (word_of c) (place_of n c) why) ∷ [];
+  entries = entry_of n.me (what.Refused (word_of c) (place_of n c) why) ∷ [];
   posts = [];
 }

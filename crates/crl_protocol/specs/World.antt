@@ -14,8 +14,8 @@ use Rattle.crl_protocol.specs.Places.{Taken, take_out}
 use Rattle.crl_protocol.specs.Sections.{bytes_at}
 use Rattle.crl_protocol.specs.Node.{Node, new_node, Recorded, Answer, Done, Activity, Free, Waiting, Ready, Outcome, only}
 use Rattle.crl_protocol.specs.Verdict.{verdict}
-use Rattle.crl_protocol.specs.Calls.{called}
-use Rattle.crl_protocol.specs.Receiving.{received}
+use Rattle.crl_protocol.specs.Calls.{node_calls}
+use Rattle.crl_protocol.specs.Receiving.{receives}
 
 -- the nodes, and how many events there were
 pub record World : Type 0 where
@@ -42,65 +42,65 @@ abbrev pub note : ℕ → Event → Node → Node
 note position e n = record n { notes = n.notes ++ record { position = position; event = e } ∷ [] }
 
 -- what an event leaves
-pub record Stepped : Type 0 where
+pub record WorldStep : Type 0 where
   pub world : World
   pub answer : Answer
   pub entries : List Entry
 
 -- The outcome of a node's event at its position: the messages go into the outbox, the entries and the
 -- event into the node's lists.
-abbrev pub recorded : ℕ → List Entry → List Recorded
-recorded position entries = map (λ e. record { position = position; entry = e }) entries
+abbrev pub records_of : ℕ → List Entry → List Recorded
+records_of position entries = map (λ e. record { position = position; entry = e }) entries
 
-abbrev pub committed : ℕ → Event → Outcome → Node
-committed position e o = note position e (record o.node {
+abbrev pub commits : ℕ → Event → Outcome → Node
+commits position e o = note position e (record o.node {
   outbox = o.node.outbox ++ pieces_in o.posts;
-  records = o.node.records ++ recorded position o.entries;
+  records = o.node.records ++ records_of position o.entries;
   posted = o.node.posted + length (pieces_in o.posts);
 })
 
-abbrev pub stepped : ℕ → Event → Outcome → World → Stepped
-stepped i e o w = record {
-  world = record w { nodes = at_node w.nodes i (committed w.events e o); events = w.events + 1 };
+abbrev pub steps_node : ℕ → Event → Outcome → World → WorldStep
+steps_node i e o w = record {
+  world = record w { nodes = at_node w.nodes i (commits w.events e o); events = w.events + 1 };
   answer = o.answer;
   entries = o.entries;
 }
 
 -- nothing happens
-abbrev pub stays : World → Stepped
+abbrev pub stays : World → WorldStep
 stays w = record { world = w; answer = Done; entries = [] }
 
 -- The answer is taken for which the node waited.
-abbrev pub collected : Activity → Node → Outcome
-collected (Ready answer) n = only (record n { activity = Free }) answer
-collected Free n = only n Done
-collected (Waiting awaited) n = only n Done
+abbrev pub collects : Activity → Node → Outcome
+collects (Ready answer) n = only (record n { activity = Free }) answer
+collects Free n = only n Done
+collects (Waiting awaited) n = only n Done
 
 -- A message of the inbox is handled.
-abbrev pub handled_at : ℕ → Event → Option (Taken Piece) → World → Stepped
-handled_at i e None w = stays w
-handled_at i e (Some t) w = stepped i e (received t.taken (record (w.nodes i) { inbox = t.rest })) w
+abbrev pub handles_at : ℕ → Event → Option (Taken Piece) → World → WorldStep
+handles_at i e None w = stays w
+handles_at i e (Some t) w = steps_node i e (receives t.taken (record (w.nodes i) { inbox = t.rest })) w
 
 -- A message goes from its sender's outbox into its addressee's inbox. The sender notes it.
 abbrev pub put_in : Piece → Node → Node
 put_in p n = record n { inbox = n.inbox ++ p ∷ [] }
 
-abbrev pub carried_to : Piece → World → World
-carried_to p w = with_node p.message.addressee (put_in p (w.nodes p.message.addressee)) w
+abbrev pub carries_to : Piece → World → World
+carries_to p w = with_node p.message.addressee (put_in p (w.nodes p.message.addressee)) w
 
-abbrev pub carried : ℕ → Event → Option (Taken Piece) → World → Stepped
-carried i e None w = stays w
-carried i e (Some t) w = record {
-  world = record (carried_to t.taken (with_node i (note w.events e (record (w.nodes i) { outbox = t.rest })) w)) { events = w.events + 1 };
+abbrev pub carries : ℕ → Event → Option (Taken Piece) → World → WorldStep
+carries i e None w = stays w
+carries i e (Some t) w = record {
+  world = record (carries_to t.taken (with_node i (note w.events e (record (w.nodes i) { outbox = t.rest })) w)) { events = w.events + 1 };
   answer = Done;
   entries = [];
 }
 
-unfoldable pub step : Event → World → Stepped
-step (event.Call i c) w = stepped i (event.Call i (noted_call (verdict (w.nodes i) c) c)) (called c (w.nodes i)) w
-step (event.Collect i) w = stepped i (event.Collect i) (collected (w.nodes i).activity (w.nodes i)) w
-step (event.Handle i place) w = handled_at i (event.Handle i place) (take_out place (w.nodes i).inbox) w
-step (event.Carry i place) w = carried i (event.Carry i place) (take_out place (w.nodes i).outbox) w
+unfoldable pub step : Event → World → WorldStep
+step (event.Call i c) w = steps_node i (event.Call i (noted_call (verdict (w.nodes i) c) c)) (node_calls c (w.nodes i)) w
+step (event.Collect i) w = steps_node i (event.Collect i) (collects (w.nodes i).activity (w.nodes i)) w
+step (event.Handle i place) w = handles_at i (event.Handle i place) (take_out place (w.nodes i).inbox) w
+step (event.Carry i place) w = carries i (event.Carry i place) (take_out place (w.nodes i).outbox) w
 
 -- An event may come: a call of a node that is free, a collect of one that is ready, a message that is there.
 -- A change is an event only where it is refused, and a write section leaves as many bytes as it began with.
@@ -156,13 +156,13 @@ abbrev pub boxes_from : ℕ → ℕ → (ℕ → Node) → List Piece
 boxes_from i zero nodes = []
 boxes_from i (suc k) nodes = ((nodes i).inbox ++ (nodes i).outbox) ++ boxes_from (i + 1) k nodes
 
-abbrev pub boxed : World → List Piece
-boxed w = boxes_from 0 w.count w.nodes
+abbrev pub pieces_in_boxes : World → List Piece
+pieces_in_boxes w = boxes_from 0 w.count w.nodes
 
 -- how many messages were sent
-abbrev pub sent_from : ℕ → ℕ → (ℕ → Node) → ℕ
-sent_from i zero nodes = 0
-sent_from i (suc k) nodes = (nodes i).posted + sent_from (i + 1) k nodes
+abbrev pub messages_sent_from : ℕ → ℕ → (ℕ → Node) → ℕ
+messages_sent_from i zero nodes = 0
+messages_sent_from i (suc k) nodes = (nodes i).posted + messages_sent_from (i + 1) k nodes
 
-abbrev pub sent : World → ℕ
-sent w = sent_from 0 w.count w.nodes
+abbrev pub messages_sent : World → ℕ
+messages_sent w = messages_sent_from 0 w.count w.nodes

@@ -3,5 +3,5 @@
 //! contracts are laws of the definitions.
 #![tactic(auto)]
 
-pub mod laws;
+pub mod theorems;
 pub mod worked;

@@ -1,5 +1,5 @@
 //! Worked runs, which the definitions compute: of each a script, an order of steps and the report.
-ghost use Rattle.crl_protocol.specs.Chosen.{first};
+ghost use Rattle.crl_protocol.specs.Chosen.{always_first};
 ghost use Rattle.crl_protocol.specs.Worked.Words.{Gives};
 ghost use Rattle.crl_protocol.specs.Worked.Copies.{write_elsewhere_script, write_elsewhere_report, nested_reads_script, nested_reads_report, nested_reads_order, early_recall_script, early_recall_report, early_recall_order, stale_recall_script, stale_recall_report, stale_recall_order, recall_before_map_script, recall_before_map_report, recall_before_map_order, ask_before_return_script, ask_before_return_report, ask_before_return_order, flush_then_read_script, flush_then_read_report, flush_then_read_order};
 ghost use Rattle.crl_protocol.specs.Worked.Upgrades.{two_upgrades_script, two_upgrades_report, downgrade_script, downgrade_report, return_before_release_script, return_before_release_report, return_before_release_order};
@@ -11,7 +11,7 @@ ghost use Rattle.crl_protocol.specs.Worked.Blocked.{reader_blocks_script, reader
 
 /// Copies that go back and forth, with messages that overtake each other.
 pub fn copies()
-    ensures write_elsewhere { Gives 2 16 write_elsewhere_script first write_elsewhere_report }
+    ensures write_elsewhere { Gives 2 16 write_elsewhere_script always_first write_elsewhere_report }
     ensures nested_reads { Gives 2 16 nested_reads_script nested_reads_order nested_reads_report }
     ensures early_recall { Gives 2 16 early_recall_script early_recall_order early_recall_report }
     ensures stale_recall { Gives 2 0 stale_recall_script stale_recall_order stale_recall_report }
@@ -22,45 +22,45 @@ pub fn copies()
 
 /// Copies that change their kind.
 pub fn upgrades()
-    ensures two_upgrades { Gives 3 16 two_upgrades_script first two_upgrades_report }
-    ensures downgrade { Gives 2 16 downgrade_script first downgrade_report }
+    ensures two_upgrades { Gives 3 16 two_upgrades_script always_first two_upgrades_report }
+    ensures downgrade { Gives 2 16 downgrade_script always_first downgrade_report }
     ensures return_before_release { Gives 2 16 return_before_release_script return_before_release_order return_before_release_report }
 {}
 
 /// Regions that are unmapped, and the cache.
 pub fn caches()
-    ensures eviction { Gives 2 1 eviction_script first eviction_report }
-    ensures no_cache { Gives 2 0 no_cache_script first no_cache_report }
-    ensures roomy_cache { Gives 2 16 roomy_cache_script first roomy_cache_report }
+    ensures eviction { Gives 2 1 eviction_script always_first eviction_report }
+    ensures no_cache { Gives 2 0 no_cache_script always_first no_cache_report }
+    ensures roomy_cache { Gives 2 16 roomy_cache_script always_first roomy_cache_report }
 {}
 
 /// Deletes.
 pub fn deletes()
-    ensures delete_of_cached { Gives 2 16 delete_of_cached_script first delete_of_cached_report }
-    ensures delete_of_mapped { Gives 2 16 delete_of_mapped_script first delete_of_mapped_report }
+    ensures delete_of_cached { Gives 2 16 delete_of_cached_script always_first delete_of_cached_report }
+    ensures delete_of_mapped { Gives 2 16 delete_of_mapped_script always_first delete_of_mapped_report }
     ensures purge_before_answer { Gives 2 16 purge_before_answer_script purge_before_answer_order purge_before_answer_report }
-    ensures delete_before_map { Gives 2 16 delete_before_map_script first delete_before_map_report }
-    ensures delete_by_another { Gives 2 16 delete_by_another_script first delete_by_another_report }
+    ensures delete_before_map { Gives 2 16 delete_before_map_script always_first delete_before_map_report }
+    ensures delete_by_another { Gives 2 16 delete_by_another_script always_first delete_by_another_report }
 {}
 
 /// Maps, rounds and changes.
 pub fn rounds()
     ensures map_before_create { Gives 2 16 map_before_create_script map_before_create_order map_before_create_report }
-    ensures barrier_then_read { Gives 2 16 barrier_then_read_script first barrier_then_read_report }
-    ensures mixed_kinds { Gives 2 16 mixed_kinds_script first mixed_kinds_report }
-    ensures broadcast { Gives 2 16 broadcast_script first broadcast_report }
-    ensures additions { Gives 1 16 additions_script first additions_report }
+    ensures barrier_then_read { Gives 2 16 barrier_then_read_script always_first barrier_then_read_report }
+    ensures mixed_kinds { Gives 2 16 mixed_kinds_script always_first mixed_kinds_report }
+    ensures broadcast { Gives 2 16 broadcast_script always_first broadcast_report }
+    ensures additions { Gives 1 16 additions_script always_first additions_report }
 {}
 
 /// Calls that are refused.
 pub fn refusals()
-    ensures section_rules { Gives 1 16 section_rules_script first section_rules_report }
-    ensures names_and_sizes { Gives 1 16 names_and_sizes_script first names_and_sizes_report }
+    ensures section_rules { Gives 1 16 section_rules_script always_first section_rules_report }
+    ensures names_and_sizes { Gives 1 16 names_and_sizes_script always_first names_and_sizes_report }
 {}
 
 /// Runs that end with nodes that wait.
 pub fn blocked()
-    ensures reader_blocks { Gives 2 16 reader_blocks_script first reader_blocks_report }
-    ensures absent_node { Gives 2 16 absent_node_script first absent_node_report }
-    ensures each_other { Gives 2 16 each_other_script first each_other_report }
+    ensures reader_blocks { Gives 2 16 reader_blocks_script always_first reader_blocks_report }
+    ensures absent_node { Gives 2 16 absent_node_script always_first absent_node_report }
+    ensures each_other { Gives 2 16 each_other_script always_first each_other_report }
 {}

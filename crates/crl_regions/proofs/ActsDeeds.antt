@@ -13,9 +13,9 @@ use Rattle.crl_model.specs.declared.message.Told.TheVariants as told
 use Rattle.crl_model.specs.declared.message.Kind.TheVariants as kind
 use Rattle.crl_model.specs.Names.{name_eq}
 use Rattle.crl_protocol.specs.Remote.{Remote, is_closed}
-use Rattle.crl_protocol.specs.Leases.{members}
+use Rattle.crl_protocol.specs.Lifetimes.{members}
 use Rattle.crl_protocol.specs.Sections.{section_at}
-use Rattle.crl_protocol.specs.Node.{Node, ForMap, Free, Waiting, Outcome, at_serial, is_mine, home_of, lease_of, message}
+use Rattle.crl_protocol.specs.Node.{Node, ForMap, Free, Waiting, Outcome, at_serial, is_mine, home_of, lifetime_of, message_to}
 use Rattle.crl_protocol.specs.Verdict.{verdict}
 use Rattle.crl_protocol.proofs.Fitting.{same_name, AskingFits, WaitFits, IsCached, FreshFits}
 use Rattle.crl_protocol.proofs.Outcomes.{asking_of}
@@ -92,10 +92,10 @@ acts_lives K i d n cause o (unmaps_evicting name m old e one other sound closed 
     of_either (inl same) = subst (λ x. IsLeft i x n) same (left_at i d n name free (closed_is _ closed) l)
     of_either (inr c) = left_at i d n old free (unmapped_closed i d n old (l.cached old c.0 c.1) l) l
 acts_lives K i d n cause o (drops from name size e c) free tells l q =
-    acts_sending K q i None None n o.node (parting n name (n.remotes name)) (message n from (kind.Purged name)) refl
+    acts_sending K q i None None n o.node (parting n name (n.remotes name)) (message_to n from (kind.Purged name)) refl
     (acts_forgotten K i n o.node name (n.remotes name) refl l.fits.me (left_unmapped i d n name e l) (λ p. refl) refl refl refl q)
-acts_lives K i d n cause o (deletes_own name m ms mine live e) free tells l q = nothing refl refl refl refl (purges_quiet n name q (members n.nodes (lease_of n name).asked)) refl
-acts_lives K i d n cause o (deletes_for from name m ms mine live e) free tells l q = nothing refl refl refl refl (purges_quiet n name q (members n.nodes (lease_of n name).asked)) refl
+acts_lives K i d n cause o (deletes_own name m ms mine live e) free tells l q = nothing refl refl refl refl (purges_quiet n name q (members n.nodes (lifetime_of n name).asked)) refl
+acts_lives K i d n cause o (deletes_for from name m ms mine live e) free tells l q = nothing refl refl refl refl (purges_quiet n name q (members n.nodes (lifetime_of n name).asked)) refl
 acts_lives K i d n cause o _ free tells l q = nothing refl refl refl refl refl refl
 
 acts_rounds : (K : Name → ℕ → Type 0) (i : ℕ) (n : Node) (cause : Cause) (o : Outcome) → Rounds n cause o → (q : Name) → Acts K q i None (lefts q n cause) n o.node o.posts

@@ -9,7 +9,7 @@ use Rattle.crl_model.specs.Names.{at_node}
 use Rattle.crl_protocol.specs.Places.{Took, here, Taken, take_out}
 use Rattle.crl_protocol.specs.Home.{Home}
 use Rattle.crl_protocol.specs.Node.{Node, home_of}
-use Rattle.crl_protocol.specs.World.{World, boxed, boxes_from, note, put_in}
+use Rattle.crl_protocol.specs.World.{World, pieces_in_boxes, boxes_from, note, put_in}
 use Rattle.crl_coherence.specs.Region.{elsewhere, Run}
 use Rattle.crl_regions.specs.View.{AreLost, side, sight}
 use Rattle.crl_flight.specs.Flight.{Moves, still, moved}
@@ -37,7 +37,7 @@ between i e t w = at_node w.nodes i (sender i e t w)
 abbrev pub arrived : ℕ → Event → Taken Piece → World → ℕ → Node
 arrived i e t w = at_node (between i e t w) t.taken.message.addressee (put_in t.taken (between i e t w t.taken.message.addressee))
 
-pub leaves : (i place : ℕ) (e : Event) (t : Taken Piece) (w : World) → i < w.count → take_out place (w.nodes i).outbox ≡ Some t → Took t.taken (boxed w) (boxes_from 0 w.count (between i e t w))
+pub leaves : (i place : ℕ) (e : Event) (t : Taken Piece) (w : World) → i < w.count → take_out place (w.nodes i).outbox ≡ Some t → Took t.taken (pieces_in_boxes w) (boxes_from 0 w.count (between i e t w))
 leaves i place e t w few out =
     flight_took t.taken w.count i w.nodes (between i e t w) few
     (subst (λ (n : Node). Took t.taken (boxes (w.nodes i)) (boxes n)) (sym (node_here w.nodes i (sender i e t w))) (took_right (w.nodes i).inbox (took_out place (w.nodes i).outbox t out)))
@@ -67,18 +67,18 @@ side_carried q i e t w j =
 
 -- The piece is at another place. Where its addressee is no node of the world, it is lost.
 pub boxes_move : (i place : ℕ) (e : Event) (t : Taken Piece) (w : World) (lost : List Piece) → i < w.count → take_out place (w.nodes i).outbox ≡ Some t → AreLost w.count lost
-    → (after : List Piece) × AreLost w.count after × Moves (boxed w ++ lost) (boxes_from 0 w.count (arrived i e t w) ++ after)
+    → (after : List Piece) × AreLost w.count after × Moves (pieces_in_boxes w ++ lost) (boxes_from 0 w.count (arrived i e t w) ++ after)
 boxes_move i place e t w lost few out strays = go (nat_lt t.taken.message.addressee w.count) refl
   where
-    gone : Took t.taken (boxed w ++ lost) (boxes_from 0 w.count (between i e t w) ++ lost)
+    gone : Took t.taken (pieces_in_boxes w ++ lost) (boxes_from 0 w.count (between i e t w) ++ lost)
     gone = took_left lost (leaves i place e t w few out)
 
-    go : (b : Bool) → nat_lt t.taken.message.addressee w.count ≡ b → (after : List Piece) × AreLost w.count after × Moves (boxed w ++ lost) (boxes_from 0 w.count (arrived i e t w) ++ after)
+    go : (b : Bool) → nat_lt t.taken.message.addressee w.count ≡ b → (after : List Piece) × AreLost w.count after × Moves (pieces_in_boxes w ++ lost) (boxes_from 0 w.count (arrived i e t w) ++ after)
     go true b = (lost, strays, moved t.taken _ gone (took_left lost (arrives i e t w (ltb-true t.taken.message.addressee w.count b))) still)
     go false b =
         let same = flight_same w.count (between i e t w) (arrived i e t w)
         (λ l few_l. ap boxes (sym (node_there (between i e t w) t.taken.message.addressee (put_in t.taken (between i e t w t.taken.message.addressee)) l (λ same. let past = ltb-false t.taken.message.addressee w.count b in omega arith)))) in
-        (t.taken ∷ lost, (ltb-false t.taken.message.addressee w.count b, strays), subst (λ l. Moves (boxed w ++ lost) (l ++ (t.taken ∷ lost))) same (moved t.taken _ gone (took_right (boxes_from 0 w.count (between i e t w)) here) still))
+        (t.taken ∷ lost, (ltb-false t.taken.message.addressee w.count b, strays), subst (λ l. Moves (pieces_in_boxes w ++ lost) (l ++ (t.taken ∷ lost))) same (moved t.taken _ gone (took_right (boxes_from 0 w.count (between i e t w)) here) still))
 
 pub carried_run : (q : Name) (h : Home) (array : List ℕ) (messages : List Message) (i : ℕ) (e : Event) (t : Taken Piece) (w : World)
     → Run q.home (sight q h w.nodes messages array) (sight q h (arrived i e t w) messages array)

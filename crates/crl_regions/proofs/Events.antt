@@ -12,19 +12,19 @@ use Rattle.crl_model.specs.declared.message.Message.{Message}
 use Rattle.crl_model.specs.declared.message.Kind.{Kind}
 use Rattle.crl_model.specs.declared.message.Kind.TheVariants as kind
 use Rattle.crl_model.specs.Names.{name_eq, at_node}
-use Rattle.crl_protocol.specs.Places.{picks, Took, here, there, Taken, take_out}
+use Rattle.crl_protocol.specs.Places.{find_all, Took, here, there, Taken, take_out}
 use Rattle.crl_protocol.specs.Mail.{Mail}
 use Rattle.crl_protocol.specs.Home.{Home, bytes_after}
 use Rattle.crl_protocol.specs.Node.{Node, Outcome, only, Done, home_of, Activity, Free, Waiting, Ready}
 use Rattle.crl_protocol.specs.Verdict.{verdict}
-use Rattle.crl_protocol.specs.Calls.{called}
-use Rattle.crl_protocol.specs.Handlers.{handled}
-use Rattle.crl_protocol.specs.World.{World, boxes_from, boxed, collected, stepped, is_free, is_call}
+use Rattle.crl_protocol.specs.Calls.{node_calls}
+use Rattle.crl_protocol.specs.Handlers.{node_handles}
+use Rattle.crl_protocol.specs.World.{World, boxes_from, pieces_in_boxes, collects, steps_node, is_free, is_call}
 use Rattle.crl_protocol.proofs.Fitting as fitting
 use Rattle.crl_protocol.proofs.Fitting.{same_name, seen, OwnFits, Fits}
 use Rattle.crl_pieces.specs.Pieces.{is_missing, is_complete, joined}
-use Rattle.crl_protocol.specs.Parcels.{Piece, Gathered, Key, key_eq, key_in, key_of, load_of, with_load, slots_or, at_key, fits_size}
-use Rattle.crl_protocol.specs.Receiving.{size_for, slots_with, gathers_piece, receives, received_as, received}
+use Rattle.crl_protocol.specs.Parcels.{Piece, PartsGathered, Key, key_eq, key_in, key_of, load_of, with_load, slots_or, at_key, fits_size}
+use Rattle.crl_protocol.specs.Receiving.{size_for, slots_with, gathers_piece, receives_part, receives_as, receives}
 use Rattle.crl_flight.specs.Flight.{Under, posted, IsFlight, messages_of}
 use Rattle.crl_flight.proofs.Flying.{flight_as}
 use Rattle.crl_flight.specs.Coming.{put_at, IsNext, PieceComes, plain, last, gathers}
@@ -51,8 +51,8 @@ pub record GoneOn (w v : World) (us : List Under) (later : ℕ → Name → List
   pub whole : Whole v later left under lost
   pub ran : (q : Name) (h : Home) → table_of q w ≡ Some h → (k : Home) × (table_of q v ≡ Some k) × Run q.home (sight q h w.nodes (messages_of us) (arrays q)) (sight q k v.nodes (messages_of under) (left q))
 
-of_outcome : (w : World) (drafts later : ℕ → Name → List ℕ) (arrays : Name → List ℕ) (i : ℕ) (e : Event) (inbox : List Piece) (parcels : Gathered) (us left : List Under) (lost : List Piece) (o : Outcome) (came : Name → Option Flying) (written : Name → Option (List ℕ))
-    → Whole w drafts arrays us lost → StepFits w later i e inbox parcels us left lost o came written → GoneOn w (stepped i e o w).world us later arrays (λ q. bytes_after (written q) (arrays q))
+of_outcome : (w : World) (drafts later : ℕ → Name → List ℕ) (arrays : Name → List ℕ) (i : ℕ) (e : Event) (inbox : List Piece) (parcels : PartsGathered) (us left : List Under) (lost : List Piece) (o : Outcome) (came : Name → Option Flying) (written : Name → Option (List ℕ))
+    → Whole w drafts arrays us lost → StepFits w later i e inbox parcels us left lost o came written → GoneOn w (steps_node i e o w).world us later arrays (λ q. bytes_after (written q) (arrays q))
 of_outcome w drafts later arrays i e inbox parcels us left lost o came written k x =
     let both = whole_stepped w drafts later arrays i e inbox parcels us left lost o came written k x in
     record { under = left ++ map posted o.posts; lost = lost; whole = both.0; ran = λ q h there. let l = both.1 q h there in (l.home, l.there, l.run) }
@@ -69,16 +69,16 @@ own_nothing : (i : ℕ) (d : Name → List ℕ) (n : Node) → Fits i n d → Ow
 own_nothing i d n f name mine = let own = subst (λ b. OwnFits b (seen n d name)) mine (f.each name).own in own.nothing
 
 -- the boxes where no message is taken out
-stays_flying : (w : World) (i : ℕ) (us : List Under) (lost : List Piece) → IsFlight us (boxed w ++ lost) (λ j. (w.nodes j).parcels) → IsFlight us (boxes_from 0 w.count (at_node w.nodes i (w.nodes i)) ++ lost) (λ j. (at_node w.nodes i (w.nodes i) j).parcels)
+stays_flying : (w : World) (i : ℕ) (us : List Under) (lost : List Piece) → IsFlight us (pieces_in_boxes w ++ lost) (λ j. (w.nodes j).parcels) → IsFlight us (boxes_from 0 w.count (at_node w.nodes i (w.nodes i)) ++ lost) (λ j. (at_node w.nodes i (w.nodes i) j).parcels)
 stays_flying w i us lost f =
     flight_as us (boxes_from 0 w.count (at_node w.nodes i (w.nodes i)) ++ lost) (λ j. (w.nodes j).parcels) (λ j. (at_node w.nodes i (w.nodes i) j).parcels)
     (λ j key. of_node w.nodes i (w.nodes i) (λ l (n : Node). n.parcels key ≡ (w.nodes l).parcels key) refl (λ l other. refl) j)
     (subst (λ b. IsFlight us (b ++ lost) (λ j. (w.nodes j).parcels)) (flight_same w.count w.nodes (at_node w.nodes i (w.nodes i)) (λ l few. sym (of_node w.nodes i (w.nodes i) (λ j n. boxes n ≡ boxes (w.nodes j)) refl (λ j other. refl) l))) f)
 
 pub call_on : (w : World) (drafts later : ℕ → Name → List ℕ) (arrays : Name → List ℕ) (us : List Under) (lost : List Piece) (i : ℕ) (e : Event) (c : Call) → i < w.count → (w.nodes i).activity ≡ Free → is_call (w.nodes i) c (verdict (w.nodes i) c) ≡ true → Whole w drafts arrays us lost
-    → ((j : ℕ) → Fits j ((stepped i e (called c (w.nodes i)) w).world.nodes j) (later j)) → GoneOn w (stepped i e (called c (w.nodes i)) w).world us later arrays (λ q. array_after q (event.Call i c) w (arrays q))
+    → ((j : ℕ) → Fits j ((steps_node i e (node_calls c (w.nodes i)) w).world.nodes j) (later j)) → GoneOn w (steps_node i e (node_calls c (w.nodes i)) w).world us later arrays (λ q. array_after q (event.Call i c) w (arrays q))
 call_on w drafts later arrays us lost i e c few idle may k fits =
-    of_outcome w drafts later arrays i e (w.nodes i).inbox (w.nodes i).parcels us us lost (called c (w.nodes i)) (λ q. None) (λ q. left_by q (event.Call i c) w) k (record {
+    of_outcome w drafts later arrays i e (w.nodes i).inbox (w.nodes i).parcels us us lost (node_calls c (w.nodes i)) (λ q. None) (λ q. left_by q (event.Call i c) w) k (record {
       few = few;
       fits = fits;
       acts = λ q. acts_call _ i (drafts i) (w.nodes i) c idle may (local w drafts arrays us lost i k) q;
@@ -91,16 +91,16 @@ call_on w drafts later arrays us lost i e c few idle may k fits =
       fair = λ tables f. fair_call i w.count tables (w.nodes i) c f;
     })
 
-acts_collected : (K : Name → ℕ → Type 0) (i : ℕ) (n : Node) (a : Activity) (q : Name) → let o = collected a n in Acts K q i None None n o.node o.posts
+acts_collected : (K : Name → ℕ → Type 0) (i : ℕ) (n : Node) (a : Activity) (q : Name) → let o = collects a n in Acts K q i None None n o.node o.posts
 acts_collected K i n Free q = nothing refl refl refl refl refl refl
 acts_collected K i n (Waiting awaited) q = nothing refl refl refl refl refl refl
 acts_collected K i n (Ready answer) q = nothing refl refl refl refl refl refl
 
 pub collect_on : (w : World) (drafts later : ℕ → Name → List ℕ) (arrays : Name → List ℕ) (us : List Under) (lost : List Piece) (i : ℕ) (e : Event) → i < w.count → Whole w drafts arrays us lost
-    → ((j : ℕ) → Fits j ((stepped i e (collected (w.nodes i).activity (w.nodes i)) w).world.nodes j) (later j))
-    → GoneOn w (stepped i e (collected (w.nodes i).activity (w.nodes i)) w).world us later arrays arrays
+    → ((j : ℕ) → Fits j ((steps_node i e (collects (w.nodes i).activity (w.nodes i)) w).world.nodes j) (later j))
+    → GoneOn w (steps_node i e (collects (w.nodes i).activity (w.nodes i)) w).world us later arrays arrays
 collect_on w drafts later arrays us lost i e few k fits =
-    of_outcome w drafts later arrays i e (w.nodes i).inbox (w.nodes i).parcels us us lost (collected (w.nodes i).activity (w.nodes i)) (λ q. None) (λ q. None) k (record {
+    of_outcome w drafts later arrays i e (w.nodes i).inbox (w.nodes i).parcels us us lost (collects (w.nodes i).activity (w.nodes i)) (λ q. None) (λ q. None) k (record {
       few = few;
       fits = fits;
       acts = λ q. acts_collected _ i (w.nodes i) (w.nodes i).activity q;
@@ -189,16 +189,16 @@ tells_of w from to (kind.Come round part) f = tt
 tells_of w from to (kind.Result round fold) f = tt
 
 -- A message that is under way is handled at its addressee, whose gathering and inbox are these now.
-message_on : (w : World) (drafts later : ℕ → Name → List ℕ) (arrays : Name → List ℕ) (us left : List Under) (lost : List Piece) (i : ℕ) (e : Event) (m : Message) (inbox : List Piece) (parcels : Gathered) → i < w.count → Whole w drafts arrays us lost
+message_on : (w : World) (drafts later : ℕ → Name → List ℕ) (arrays : Name → List ℕ) (us left : List Under) (lost : List Piece) (i : ℕ) (e : Event) (m : Message) (inbox : List Piece) (parcels : PartsGathered) → i < w.count → Whole w drafts arrays us lost
     → m.addressee ≡ i → AllByRecursion (λ (p : Piece). p.message.addressee ≡ i) inbox → AllByRecursion (fitting.ComesIn (w.nodes i).me) inbox → Took m (messages_of us) (messages_of left)
     → let n = record (w.nodes i) { inbox = inbox; parcels = parcels } in IsFlight left (boxes_from 0 w.count (at_node w.nodes i n) ++ lost) (λ j. (at_node w.nodes i n j).parcels)
-    → let o = handled m.sender m.kind n in
-    ((j : ℕ) → Fits j ((stepped i e o w).world.nodes j) (later j)) → GoneOn w (stepped i e o w).world us later arrays arrays
+    → let o = node_handles m.sender m.kind n in
+    ((j : ℕ) → Fits j ((steps_node i e o w).world.nodes j) (later j)) → GoneOn w (steps_node i e o w).world us later arrays arrays
 message_on w drafts later arrays us left lost i e m inbox parcels few k to rest fitted took flies fits =
-    of_outcome w drafts later arrays i e inbox parcels us left lost (handled m.sender m.kind n) (λ q. flying q m) (λ q. None) k (record {
+    of_outcome w drafts later arrays i e inbox parcels us left lost (node_handles m.sender m.kind n) (λ q. flying q m) (λ q. None) k (record {
       few = few;
       fits = fits;
-      acts = λ q. subst (λ a. Acts (Known w) q i (flying q (record { sender = m.sender; addressee = a; kind = m.kind })) None n (handled m.sender m.kind n).node (handled m.sender m.kind n).posts) (sym to)
+      acts = λ q. subst (λ a. Acts (Known w) q i (flying q (record { sender = m.sender; addressee = a; kind = m.kind })) None n (node_handles m.sender m.kind n).node (node_handles m.sender m.kind n).posts) (sym to)
           (acts_message (Known w) i (drafts i) m.sender m.kind n (goes_of w.count tables m.sender i m.kind fair_i) (passes w drafts arrays us lost i m inbox parcels _ k to parts.0 took)
           (tells_of w m.sender i m.kind fair_i) local_n q);
       keeps = keeps_message n m.sender m.kind (k.fits i).fresh;
@@ -222,9 +222,9 @@ message_on w drafts later arrays us left lost i e m inbox parcels few k to rest 
     fair_i : FairKind w.count tables m.sender i m.kind
     fair_i = subst (λ a. FairKind w.count tables m.sender a m.kind) to parts.0
 
-    comes_of : (q : Name) (o : Option Flying) → flying q m ≡ o → Comes (flying q m) (picks (flying q) (messages_of us)) (picks (flying q) (messages_of left))
-    comes_of q None x = subst (λ c. Comes c (picks (flying q) (messages_of us)) (picks (flying q) (messages_of left))) (sym x) (sym (took_none (flying q) took x))
-    comes_of q (Some f) x = subst (λ c. Comes c (picks (flying q) (messages_of us)) (picks (flying q) (messages_of left))) (sym x) (took_some (flying q) took f x)
+    comes_of : (q : Name) (o : Option Flying) → flying q m ≡ o → Comes (flying q m) (find_all (flying q) (messages_of us)) (find_all (flying q) (messages_of left))
+    comes_of q None x = subst (λ c. Comes c (find_all (flying q) (messages_of us)) (find_all (flying q) (messages_of left))) (sym x) (sym (took_none (flying q) took x))
+    comes_of q (Some f) x = subst (λ c. Comes c (find_all (flying q) (messages_of us)) (find_all (flying q) (messages_of left))) (sym x) (took_some (flying q) took f x)
 
     local_n : Local i (drafts i) n
     local_n = let l = local w drafts arrays us lost i k in record {
@@ -235,14 +235,14 @@ message_on w drafts later arrays us left lost i e m inbox parcels few k to rest 
       held = l.held;
     }
 
-acts_kept : (K : Name → ℕ → Type 0) (i : ℕ) (n : Node) (g : Gathered) (q : Name) → Acts K q i None None n (record n { parcels = g }) []
+acts_kept : (K : Name → ℕ → Type 0) (i : ℕ) (n : Node) (g : PartsGathered) (q : Name) → Acts K q i None None n (record n { parcels = g }) []
 acts_kept K i n g q = nothing refl refl refl refl refl refl
 
 -- A piece is gathered, and nothing else happens.
-gathered_on : (w : World) (drafts later : ℕ → Name → List ℕ) (arrays : Name → List ℕ) (us left : List Under) (lost : List Piece) (i : ℕ) (e : Event) (inbox : List Piece) (parcels : Gathered) → i < w.count → Whole w drafts arrays us lost
+gathered_on : (w : World) (drafts later : ℕ → Name → List ℕ) (arrays : Name → List ℕ) (us left : List Under) (lost : List Piece) (i : ℕ) (e : Event) (inbox : List Piece) (parcels : PartsGathered) → i < w.count → Whole w drafts arrays us lost
     → AllByRecursion (λ (p : Piece). p.message.addressee ≡ i) inbox → messages_of left ≡ messages_of us
     → let n = record (w.nodes i) { inbox = inbox; parcels = parcels } in IsFlight left (boxes_from 0 w.count (at_node w.nodes i n) ++ lost) (λ j. (at_node w.nodes i n j).parcels)
-    → ((j : ℕ) → Fits j ((stepped i e (only n Done) w).world.nodes j) (later j)) → GoneOn w (stepped i e (only n Done) w).world us later arrays arrays
+    → ((j : ℕ) → Fits j ((steps_node i e (only n Done) w).world.nodes j) (later j)) → GoneOn w (steps_node i e (only n Done) w).world us later arrays arrays
 gathered_on w drafts later arrays us left lost i e inbox parcels few k rest same flies fits =
     of_outcome w drafts later arrays i e inbox parcels us left lost (only (record (w.nodes i) { inbox = inbox; parcels = parcels }) Done) (λ q. None) (λ q. None) k (record {
       few = few;
@@ -252,7 +252,7 @@ gathered_on w drafts later arrays us left lost i e inbox parcels few k rest same
       rest = rest;
       left_fair = subst (λ ms. AllByRecursion (Fair w.count (λ q. table_of q w)) ms) (sym same) k.fair;
       flies = flies;
-      comes = λ q. ap (λ ms. picks (flying q) ms) same;
+      comes = λ q. ap (λ ms. find_all (flying q) ms) same;
       near = λ q. tt;
       fair = λ tables f. tt;
     })
@@ -266,17 +266,17 @@ parcels_put w i inbox key v a same j x =
     (λ l other. sym (ap (λ b. if b && key_eq x key then v else (w.nodes l).parcels x) (ne_eqb a l (λ y. other (sym y ∙ same))))) j
 
 -- what a piece does, in the three cases
-received_plain : (p : Piece) (n : Node) → key_of p.message ≡ None → received p n ≡ handled p.message.sender p.message.kind n
-received_plain p n e = ap (λ o. received_as o p n) e
+received_plain : (p : Piece) (n : Node) → key_of p.message ≡ None → receives p n ≡ node_handles p.message.sender p.message.kind n
+received_plain p n e = ap (λ o. receives_as o p n) e
 
 received_key : (p : Piece) (n : Node) (key : Key) (size : ℕ) → key_of p.message ≡ Some key → size_for key.load key.name n ≡ Some size → fits_size size p ≡ true → is_missing p.index (slots_or p.pieces (n.parcels key)) ≡ true
-    → received p n ≡ gathers_piece key p (slots_with p (n.parcels key)) n
-received_key p n key size e s f m = ap (λ o. received_as o p n) e ∙ ap (λ o. receives key p o n) s ∙ cond-true (fits_size size p && is_missing p.index (slots_or p.pieces (n.parcels key))) _ _ (and_from _ _ f m)
+    → receives p n ≡ gathers_piece key p (slots_with p (n.parcels key)) n
+received_key p n key size e s f m = ap (λ o. receives_as o p n) e ∙ ap (λ o. receives_part key p o n) s ∙ cond-true (fits_size size p && is_missing p.index (slots_or p.pieces (n.parcels key))) _ _ (and_from _ _ f m)
 
 pub handle_on : (w : World) (drafts later : ℕ → Name → List ℕ) (arrays : Name → List ℕ) (us : List Under) (lost : List Piece) (i place : ℕ) (e : Event) (t : Taken Piece) → i < w.count → take_out place (w.nodes i).inbox ≡ Some t → Whole w drafts arrays us lost
-    → let o = received t.taken (record (w.nodes i) { inbox = t.rest }) in
-    ((j : ℕ) → Fits j ((stepped i e o w).world.nodes j) (later j)) → GoneOn w (stepped i e o w).world us later arrays arrays
-handle_on w drafts later arrays us lost i place e t few out k fits = go (comes us (boxed w ++ lost) (after ++ lost) (λ j. (w.nodes j).parcels) t.taken k.flies (alone_in w.count w.nodes tables arrays us k.fair k.coherent) (took_left lost under_way)) fits
+    → let o = receives t.taken (record (w.nodes i) { inbox = t.rest }) in
+    ((j : ℕ) → Fits j ((steps_node i e o w).world.nodes j) (later j)) → GoneOn w (steps_node i e o w).world us later arrays arrays
+handle_on w drafts later arrays us lost i place e t few out k fits = go (comes us (pieces_in_boxes w ++ lost) (after ++ lost) (λ j. (w.nodes j).parcels) t.taken k.flies (alone_in w.count w.nodes tables arrays us k.fair k.coherent) (took_left lost under_way)) fits
   where
     n : Node
     n = record (w.nodes i) { inbox = t.rest }
@@ -296,13 +296,13 @@ handle_on w drafts later arrays us lost i place e t few out k fits = go (comes u
     fitted : AllByRecursion (fitting.ComesIn (w.nodes i).me) t.rest
     fitted = (all_took (fitting.ComesIn (w.nodes i).me) took (k.fits i).inbox).1
 
-    under_way : Took t.taken (boxed w) after
+    under_way : Took t.taken (pieces_in_boxes w) after
     under_way =
         flight_took t.taken w.count i w.nodes (at_node w.nodes i n) few (subst (λ (x : Node). Took t.taken (boxes (w.nodes i)) (boxes x)) (sym (node_here w.nodes i n)) (took_left (w.nodes i).outbox took))
         (λ l other. ap boxes (sym (node_there w.nodes i n l other)))
 
     -- the boxes don't change with the gathering
-    boxes_with : (g : Gathered) → after ≡ boxes_from 0 w.count (at_node w.nodes i (record n { parcels = g }))
+    boxes_with : (g : PartsGathered) → after ≡ boxes_from 0 w.count (at_node w.nodes i (record n { parcels = g }))
     boxes_with g = flight_same w.count (at_node w.nodes i n) (at_node w.nodes i (record n { parcels = g }))
         (λ l less. of_node w.nodes i n (λ j y. boxes y ≡ boxes (at_node w.nodes i (record n { parcels = g }) j)) (sym (ap boxes (node_here w.nodes i (record n { parcels = g })))) (λ j other. sym (ap boxes (node_there w.nodes i (record n { parcels = g }) j other))) l)
 
@@ -316,10 +316,10 @@ handle_on w drafts later arrays us lost i place e t few out k fits = go (comes u
         (subst (λ b. IsFlight left (b ++ lost) (put_at (λ j. (w.nodes j).parcels) t.taken.message.addressee key v)) (boxes_with (at_key n.parcels key v)) f)
 
     Ends : Outcome → Type 0
-    Ends o = ((j : ℕ) → Fits j ((stepped i e o w).world.nodes j) (later j)) → GoneOn w (stepped i e o w).world us later arrays arrays
+    Ends o = ((j : ℕ) → Fits j ((steps_node i e o w).world.nodes j) (later j)) → GoneOn w (steps_node i e o w).world us later arrays arrays
 
     -- the piece is taken in
-    taken_in : (key : Key) (u : Under) (others : List Under) → IsNext us (λ j. (w.nodes j).parcels) t.taken key u others → received t.taken n ≡ gathers_piece key t.taken (slots_with t.taken (n.parcels key)) n
+    taken_in : (key : Key) (u : Under) (others : List Under) → IsNext us (λ j. (w.nodes j).parcels) t.taken key u others → receives t.taken n ≡ gathers_piece key t.taken (slots_with t.taken (n.parcels key)) n
     taken_in key u others x =
         let to = sym x.addressee ∙ parts.0 in
         let fair = (all_took (Fair w.count tables) (took_message x.took) k.fair).0 in
@@ -328,7 +328,7 @@ handle_on w drafts later arrays us lost i place e t few out k fits = go (comes u
         (passes w drafts arrays us lost i u.message t.rest (w.nodes i).parcels _ k to fair (took_message x.took)) (λ name h there at_i. subst (λ j. home_of (w.nodes j) name ≡ Some h) at_i there) in
         received_key t.taken n key (length (load_of u.message.kind)) x.of_key known x.fits (subst (λ a. is_missing t.taken.index (slots_or t.taken.pieces ((w.nodes a).parcels key)) ≡ true) parts.0 x.missing)
 
-    go : PieceComes us (after ++ lost) (λ j. (w.nodes j).parcels) t.taken → Ends (received t.taken n)
+    go : PieceComes us (after ++ lost) (λ j. (w.nodes j).parcels) t.taken → Ends (receives t.taken n)
     go (plain u others x none same f) =
         subst Ends (sym (received_plain t.taken n none))
         (message_on w drafts later arrays us others lost i e t.taken.message t.rest (w.nodes i).parcels few k parts.0 parts.1 fitted
@@ -337,13 +337,13 @@ handle_on w drafts later arrays us lost i place e t few out k fits = go (comes u
         let at_i : is_complete (slots_with t.taken (n.parcels key)) ≡ true = subst (λ a. is_complete (slots_with t.taken ((w.nodes a).parcels key)) ≡ true) parts.0 full in
         let kind_i : with_load (joined (slots_with t.taken (n.parcels key))) t.taken.message.kind ≡ u.message.kind = subst (λ a. with_load (joined (slots_with t.taken ((w.nodes a).parcels key))) t.taken.message.kind ≡ u.message.kind) parts.0 whole in
         let m : Node = record n { parcels = at_key n.parcels key None } in
-        let same : handled u.message.sender u.message.kind m ≡ received t.taken n =
-        sym (taken_in key u others x ∙ cond-true (is_complete (slots_with t.taken (n.parcels key))) _ _ at_i ∙ ap (λ s. handled s (with_load (joined (slots_with t.taken (n.parcels key))) t.taken.message.kind) m) x.sender ∙ ap (λ y. handled u.message.sender y m) kind_i) in
+        let same : node_handles u.message.sender u.message.kind m ≡ receives t.taken n =
+        sym (taken_in key u others x ∙ cond-true (is_complete (slots_with t.taken (n.parcels key))) _ _ at_i ∙ ap (λ s. node_handles s (with_load (joined (slots_with t.taken (n.parcels key))) t.taken.message.kind) m) x.sender ∙ ap (λ y. node_handles u.message.sender y m) kind_i) in
         subst Ends same (message_on w drafts later arrays us others lost i e u.message t.rest (at_key (w.nodes i).parcels key None) few k (sym x.addressee ∙ parts.0) parts.1 fitted (took_message x.took) (with_key key None others f))
     go (gathers key u others left x less same f) =
         let slots = slots_with t.taken (n.parcels key) in
         let at_i : is_complete slots ≡ false = subst (λ a. is_complete (slots_with t.taken ((w.nodes a).parcels key)) ≡ false) parts.0 less in
         let f_i = subst (λ a. IsFlight left (after ++ lost) (put_at (λ j. (w.nodes j).parcels) t.taken.message.addressee key (Some (slots_with t.taken ((w.nodes a).parcels key))))) parts.0 f in
         let m : Node = record n { parcels = at_key n.parcels key (Some slots) } in
-        let eq : only m Done ≡ received t.taken n = sym (taken_in key u others x ∙ cond-false (is_complete slots) _ _ at_i) in
+        let eq : only m Done ≡ receives t.taken n = sym (taken_in key u others x ∙ cond-false (is_complete slots) _ _ at_i) in
         subst Ends eq (gathered_on w drafts later arrays us left lost i e t.rest (at_key (w.nodes i).parcels key (Some slots)) few k parts.1 same (with_key key (Some slots) left f_i))

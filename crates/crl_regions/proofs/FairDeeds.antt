@@ -1,16 +1,16 @@
 -- What a deed sends is fair.
 use Rattle.std.proofs.Common.{◌≡◌, ℕ, ◌-◌, ◌<◌, None, Some, Option, List, refl, sym, subst}
 use Rattle.crl_model.specs.declared.name.Name.{Name}
-use Rattle.crl_model.specs.declared.region.Stage.{Stage}
-use Rattle.crl_model.specs.declared.region.Stage.TheVariants as stage
+use Rattle.crl_model.specs.declared.stage.Stage.{Stage}
+use Rattle.crl_model.specs.declared.stage.Stage.TheVariants as stage
 use Rattle.crl_model.specs.declared.call.Call.{Call}
 use Rattle.crl_model.specs.declared.call.Refusal.{Refusal}
 use Rattle.crl_model.specs.declared.entry.What.{What}
 use Rattle.crl_model.specs.declared.message.Told.{Told}
 use Rattle.crl_model.specs.declared.message.DeleteTold.{DeleteTold}
 use Rattle.crl_model.specs.declared.message.Kind.{Kind}
-use Rattle.crl_protocol.specs.Home.{Home, Served}
-use Rattle.crl_protocol.specs.Remote.{Remote, Moved, starts_over, remote_starts, remote_recalled, remote_yields, remote_flushes}
+use Rattle.crl_protocol.specs.Home.{Home, HomeStep}
+use Rattle.crl_protocol.specs.Remote.{Remote, RemoteStep, starts_over, remote_starts, remote_takes_recall, remote_takes_yield, remote_flushes}
 use Rattle.crl_protocol.specs.Node.{Node, Outcome, home_of}
 use Rattle.crl_protocol.proofs.Fitting.{LiveFits}
 use Rattle.crl_protocol.proofs.Placing.{all_append}
@@ -22,21 +22,21 @@ abbrev pub FairCame : ℕ → (Name → Option Home) → ℕ → Cause → Type 
 FairCame count before i (Calls c) = Unit {0}
 FairCame count before i (Hears from k) = FairKind count before from i k
 
-ends_near : (n : Node) (count : ℕ) (bytes : List ℕ) (c : Call) (name : Name) (w : What) (ends : Home → Served) (lowers : Remote → Moved) (h : Home) → EndsCall bytes n c name w ends lowers → Near n.me count h → NearServed n.me count (ends h)
+ends_near : (n : Node) (count : ℕ) (bytes : List ℕ) (c : Call) (name : Name) (w : What) (ends : Home → HomeStep) (lowers : Remote → RemoteStep) (h : Home) → EndsCall bytes n c name w ends lowers → Near n.me count h → NearServed n.me count (ends h)
 ends_near n count bytes c name w ends lowers h (a_read q v) k = near_read n.me count h k
 ends_near n count bytes c name w ends lowers h (a_write q after v) k = near_write n.me count after h k
 
-ends_posts : (n : Node) (bytes : List ℕ) (c : Call) (name : Name) (w : What) (ends : Home → Served) (lowers : Remote → Moved) (r : Remote) → EndsCall bytes n c name w ends lowers → Posts (lowers r)
+ends_posts : (n : Node) (bytes : List ℕ) (c : Call) (name : Name) (w : What) (ends : Home → HomeStep) (lowers : Remote → RemoteStep) (r : Remote) → EndsCall bytes n c name w ends lowers → Posts (lowers r)
 ends_posts n bytes c name w ends lowers r (a_read q v) = read_posts r
 ends_posts n bytes c name w ends lowers r (a_write q after v) = write_posts after r
 
-serves_near : (i count : ℕ) (before : Name → Option Home) (n : Node) (h : Home) (from : ℕ) (k : Kind) (name : Name) (s : Served) → Serves n h from k name s → FairKind count before from i k → Near n.me count h → NearServed n.me count s
+serves_near : (i count : ℕ) (before : Name → Option Home) (n : Node) (h : Home) (from : ℕ) (k : Kind) (name : Name) (s : HomeStep) → Serves n h from k name s → FairKind count before from i k → Near n.me count h → NearServed n.me count s
 serves_near i count before n h from k name s (ask_comes f q write have e) g near = near_asked n.me count _ h g.2 near
 serves_near i count before n h from k name s (copy_returns f q version bytes e) g near = near_returned n.me count from bytes h near
 serves_near i count before n h from k name s (copy_lowers f q version bytes e) g near = near_released n.me count from version bytes h near
 
-back_posts : (r : Remote) (k : Kind) (name : Name) (s : Moved) → CallsBack r k name s → Posts s
-unfolding remote_recalled remote_yields
+back_posts : (r : Remote) (k : Kind) (name : Name) (s : RemoteStep) → CallsBack r k name s → Posts s
+unfolding remote_takes_recall remote_takes_yield
 back_posts r k name s (wholly q version) = recall_posts version r.copy r
 back_posts r k name s (to_share q version) = yield_posts version r.copy r
 

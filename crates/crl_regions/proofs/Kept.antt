@@ -3,8 +3,8 @@
 use Rattle.std.proofs.Common.{◌≡◌, ℕ, ◌+◌, ◌==◌, Bool, true, false, None, Some, Option, List, if◌then◌else◌, refl, sym, subst}
 use Rattle.std.proofs.lemmas.Bool.{cond_both}
 use Rattle.crl_model.specs.declared.name.Name.{Name}
-use Rattle.crl_model.specs.declared.region.Stage.{Stage}
-use Rattle.crl_model.specs.declared.region.Stage.TheVariants as stage
+use Rattle.crl_model.specs.declared.stage.Stage.{Stage}
+use Rattle.crl_model.specs.declared.stage.Stage.TheVariants as stage
 use Rattle.crl_model.specs.declared.call.Call.{Call}
 use Rattle.crl_model.specs.declared.call.Call.TheVariants as call
 use Rattle.crl_model.specs.declared.call.Refusal.{Refusal}
@@ -16,16 +16,16 @@ use Rattle.crl_model.specs.declared.message.Kind.{Kind}
 use Rattle.crl_model.specs.declared.message.Kind.TheVariants as kind
 use Rattle.crl_model.specs.Calls.{kind_of}
 use Rattle.crl_model.specs.Names.{name_eq}
-use Rattle.crl_protocol.specs.Home.{Home, Served, home_starts, home_ends_read, home_ends_write, takes_return, takes_release}
-use Rattle.crl_protocol.specs.Remote.{Remote, Moved, remote_starts, remote_ends_read, remote_ends_write, remote_flushes, remote_granted, takes_grant}
-use Rattle.crl_protocol.specs.Leases.{Mapping, Lease, keeps, cached_size, lease_begins, lease_purged}
+use Rattle.crl_protocol.specs.Home.{Home, HomeStep, home_starts, home_ends_read, home_ends_write, return_fits, release_fits}
+use Rattle.crl_protocol.specs.Remote.{Remote, RemoteStep, remote_starts, remote_ends_read, remote_ends_write, remote_flushes, remote_takes_grant, grant_fits}
+use Rattle.crl_protocol.specs.Lifetimes.{Mapping, Lifetime, cache_with, cached_size, lifetime_begins_delete, lifetime_takes_purged}
 use Rattle.crl_protocol.specs.Gathering.{gathers, awaits}
-use Rattle.crl_protocol.specs.Node.{Node, Outcome, ForSection, ForMap, ForDelete, ForRound, Activity, Free, Waiting, Ready, COUNT_LIMIT, used, is_mine, home_of, lease_of, section_opens}
-use Rattle.crl_protocol.specs.Sectioning.{starts_remote, starts_home, served, moved, left_home, closes, ends_remote, ends_home, flushes_remote, forgets_over, forgets}
-use Rattle.crl_protocol.specs.Verdict.{verdict, call_refused}
-use Rattle.crl_protocol.specs.Calls.{is_gone, maps_over, maps_cached, unmaps_over, forgets_evicted, gathered_own, call_taken, called_as, called}
-use Rattle.crl_protocol.specs.Handlers.{info_told, info_is, is_queued_in, asked, returned, released, granted, remote_called, delete_asked, delete_is, purged_cached, purged_over, purged_by, own_result, gathered_from, result, handled}
-use Rattle.crl_protocol.specs.World.{collected}
+use Rattle.crl_protocol.specs.Node.{Node, Outcome, ForSection, ForMap, ForDelete, ForRound, Activity, Free, Waiting, Ready, COUNT_LIMIT, serials_used, is_mine, home_of, lifetime_of, section_opens}
+use Rattle.crl_protocol.specs.Sectioning.{starts_over_remote, starts_over_home, after_serve, after_remote, after_home_end, closes, ends_over_remote, ends_over_home, flushes_remote, forgets_over, forgets}
+use Rattle.crl_protocol.specs.Verdict.{verdict, refuses_call}
+use Rattle.crl_protocol.specs.Calls.{is_gone, maps_over, maps_cached, unmaps_over, forgets_evicted, after_own_part, takes_call, call_or_refuse, node_calls}
+use Rattle.crl_protocol.specs.Handlers.{after_info, takes_info, is_queued_in, takes_ask, takes_return, takes_release, takes_grant, takes_call_back, takes_delete_ask, takes_delete_told, purge_over_cache, purge_over, ends_delete_by, own_result, after_part_of, takes_result, node_handles}
+use Rattle.crl_protocol.specs.World.{collects}
 use Rattle.crl_protocol.proofs.Fitting.{IsCached, FreshFits, same_name}
 use Rattle.crl_regions.proofs.Houses.{Houses, HousesBut, LeftBut, but_none, but_forgotten, houses_some, houses_more, houses_own, houses_new, houses_cached, but_dropped, but_unmapped, kept_left}
 
@@ -45,28 +45,28 @@ keeps_either : (n : Node) (b : Bool) (x y : Node) → Keeps n x → Keeps n y �
 keeps_either n b x y f g = cond_both b x y (Keeps n) (λ w. f) (λ w. g)
 
 -- sections
-keeps_start : (n : Node) (write : Bool) (name : Name) (o : Option Home) → Keeps n (starts_home write name o n).node
+keeps_start : (n : Node) (write : Bool) (name : Name) (o : Option Home) → Keeps n (starts_over_home write name o n).node
 unfolding section_opens
 keeps_start n write name (Some h) = keeps_if n (home_starts n.me write h).opened _ _ (refl, refl, refl, λ h. h) (refl, refl, refl, λ h. h)
 keeps_start n write name None = go (n.remotes name) refl
   where
-    go : (o : Option Remote) → n.remotes name ≡ o → Keeps n (starts_remote write name o n).node
+    go : (o : Option Remote) → n.remotes name ≡ o → Keeps n (starts_over_remote write name o n).node
     go None e = (refl, refl, refl, λ h. h)
     go (Some r) e =
         let s = remote_starts write r in
         keeps_if n s.opened _ _ (refl, refl, refl, λ h. houses_some name r s.remote n.me n.maps n.remotes n.cache e h) (refl, refl, refl, λ h. houses_some name r s.remote n.me n.maps n.remotes n.cache e h)
 
-keeps_ends : (n : Node) (name : Name) (ends_here : Home → Served) (ends : Remote → Moved) (o : Option Home) → Keeps n (ends_home name ends_here ends o (closes name n)).node
-unfolding left_home moved
+keeps_ends : (n : Node) (name : Name) (ends_here : Home → HomeStep) (ends : Remote → RemoteStep) (o : Option Home) → Keeps n (ends_over_home name ends_here ends o (closes name n)).node
+unfolding after_home_end after_remote
 keeps_ends n name ends_here ends (Some h) = (refl, refl, refl, λ h. h)
 keeps_ends n name ends_here ends None = go (n.remotes name) refl
   where
-    go : (o : Option Remote) → n.remotes name ≡ o → Keeps n (ends_remote name ends o (closes name n)).node
+    go : (o : Option Remote) → n.remotes name ≡ o → Keeps n (ends_over_remote name ends o (closes name n)).node
     go None e = (refl, refl, refl, λ h. h)
     go (Some r) e = (refl, refl, refl, λ h. houses_some name r (ends r).remote n.me n.maps n.remotes n.cache e h)
 
 keeps_flush : (n : Node) (name : Name) (o : Option Remote) → n.remotes name ≡ o → Keeps n (flushes_remote name o n).node
-unfolding moved
+unfolding after_remote
 keeps_flush n name None e = (refl, refl, refl, λ h. h)
 keeps_flush n name (Some r) e = (refl, refl, refl, λ h. houses_some name r (remote_flushes r).remote n.me n.maps n.remotes n.cache e h)
 
@@ -99,22 +99,22 @@ keeps_unmap n name (Some m) e own =
     keeps_if n (m.count == 1) _ _
     (keeps_when n (is_mine n name) _ _ (λ mine. (refl, refl, refl, λ h. but_none name n.me _ n.remotes n.cache (own mine) (but_unmapped name n.me n.maps n.remotes n.cache h)))
     (λ away. keeps_if n m.doomed _ _ (keeps_forgets n _ name (refl, refl, refl, λ h. but_unmapped name n.me n.maps n.remotes n.cache h))
-    (keeps_evicts n _ (keeps n.capacity (record { name = name; size = m.size }) n.cache).evicted
+    (keeps_evicts n _ (cache_with n.capacity (record { name = name; size = m.size }) n.cache).evicted
     (refl, refl, refl, λ h. kept_left name m.size n.capacity n.me n.maps n.remotes n.cache away (λ z c. let w = h.cached name z c in cc) h))))
     (refl, refl, refl, λ h. houses_more name m _ n.me n.maps n.remotes n.cache e h)
 
-keeps_gathered : (n m : Node) (round : ℕ) (k : _) (o : Option Fold) → Keeps n m → Keeps n (gathered_own round k o m).node
+keeps_gathered : (n m : Node) (round : ℕ) (k : _) (o : Option Fold) → Keeps n m → Keeps n (after_own_part round k o m).node
 keeps_gathered n m round k None f = f
 keeps_gathered n m round k (Some v) f = f
 
 abbrev pub OwnNothing : Node → Type 0
 OwnNothing n = (name : Name) → is_mine n name ≡ true → n.remotes name ≡ None
 
-keeps_taken : (n : Node) (c : Call) → OwnNothing n → Keeps n (call_taken c n).node
-unfolding call_taken
+keeps_taken : (n : Node) (c : Call) → OwnNothing n → Keeps n (takes_call c n).node
+unfolding takes_call
 keeps_taken n (call.Create size) own = (refl, refl, refl, λ h. h)
 keeps_taken n (call.Delete name) own =
-    keeps_if n (is_mine n name) _ _ (keeps_either n (is_gone (lease_begins n.nodes n.me (lease_of n name)).stage) _ _ (refl, refl, refl, λ h. h) (refl, refl, refl, λ h. h))
+    keeps_if n (is_mine n name) _ _ (keeps_either n (is_gone (lifetime_begins_delete n.nodes n.me (lifetime_of n name)).stage) _ _ (refl, refl, refl, λ h. h) (refl, refl, refl, λ h. h))
     (refl, refl, refl, λ h. h)
 keeps_taken n (call.Map name) own = keeps_map n name (n.maps name) refl
 keeps_taken n (call.Unmap name) own = keeps_unmap n name (n.maps name) refl (own name)
@@ -128,9 +128,9 @@ keeps_taken n (call.Flush name) own = keeps_if n (is_mine n name) _ _ (refl, ref
 keeps_taken n (call.Come part) own =
     keeps_if n (n.me == 0) _ _ (keeps_gathered n _ (n.rounds + 1) (kind_of part) (gathers n.nodes 0 part n.gathering).fold (refl, refl, refl, λ h. h)) (refl, refl, refl, λ h. h)
 
-keeps_refused : (n : Node) (why : Refusal) (c : Call) → Keeps n (call_refused why c n).node
-unfolding call_refused
-keeps_refused n why (call.Create size) = keeps_either n (used n == COUNT_LIMIT) _ _ (refl, refl, refl, λ h. h) (refl, refl, refl, λ h. h)
+keeps_refused : (n : Node) (why : Refusal) (c : Call) → Keeps n (refuses_call why c n).node
+unfolding refuses_call
+keeps_refused n why (call.Create size) = keeps_either n (serials_used n == COUNT_LIMIT) _ _ (refl, refl, refl, λ h. h) (refl, refl, refl, λ h. h)
 keeps_refused n why (call.Delete name) = (refl, refl, refl, λ h. h)
 keeps_refused n why (call.Map name) = (refl, refl, refl, λ h. h)
 keeps_refused n why (call.Unmap name) = (refl, refl, refl, λ h. h)
@@ -143,51 +143,51 @@ keeps_refused n why (call.Add name offset) = (refl, refl, refl, λ h. h)
 keeps_refused n why (call.Flush name) = (refl, refl, refl, λ h. h)
 keeps_refused n why (call.Come part) = (refl, refl, refl, λ h. h)
 
-keeps_as : (n : Node) (c : Call) (o : Option Refusal) → OwnNothing n → Keeps n (called_as o c n).node
+keeps_as : (n : Node) (c : Call) (o : Option Refusal) → OwnNothing n → Keeps n (call_or_refuse o c n).node
 keeps_as n c None own = keeps_taken n c own
 keeps_as n c (Some why) own = keeps_refused n why c
 
-pub keeps_call : (n : Node) (c : Call) → OwnNothing n → Keeps n (called c n).node
+pub keeps_call : (n : Node) (c : Call) → OwnNothing n → Keeps n (node_calls c n).node
 keeps_call n c own = keeps_as n c (verdict n c) own
 
-pub keeps_collected : (n : Node) (a : Activity) → Keeps n (collected a n).node
+pub keeps_collected : (n : Node) (a : Activity) → Keeps n (collects a n).node
 keeps_collected n Free = (refl, refl, refl, λ h. h)
 keeps_collected n (Waiting awaited) = (refl, refl, refl, λ h. h)
 keeps_collected n (Ready answer) = (refl, refl, refl, λ h. h)
 
 -- messages
-keeps_served : (n : Node) (name : Name) (s : Served) → Keeps n (served name s n).node
-unfolding served section_opens
+keeps_served : (n : Node) (name : Name) (s : HomeStep) → Keeps n (after_serve name s n).node
+unfolding after_serve section_opens
 keeps_served n name s = keeps_if n s.opened _ _ (refl, refl, refl, λ h. h) (refl, refl, refl, λ h. h)
 
-keeps_asked : (n : Node) (from : ℕ) (name : Name) (write : Bool) (have : ℕ) (o : Option Home) → Keeps n (asked from name write have o n).node
+keeps_asked : (n : Node) (from : ℕ) (name : Name) (write : Bool) (have : ℕ) (o : Option Home) → Keeps n (takes_ask from name write have o n).node
 keeps_asked n from name write have None = (refl, refl, refl, λ h. h)
 keeps_asked n from name write have (Some h) = keeps_if n (is_queued_in from n.homes) _ _ (refl, refl, refl, λ h. h) (keeps_served n name _)
 
-keeps_returned : (n : Node) (from : ℕ) (name : Name) (version : ℕ) (bytes : Option (List ℕ)) (o : Option Home) → Keeps n (returned from name version bytes o n).node
+keeps_returned : (n : Node) (from : ℕ) (name : Name) (version : ℕ) (bytes : Option (List ℕ)) (o : Option Home) → Keeps n (takes_return from name version bytes o n).node
 keeps_returned n from name version bytes None = (refl, refl, refl, λ h. h)
-keeps_returned n from name version bytes (Some h) = keeps_if n (takes_return from version bytes h) _ _ (keeps_served n name _) (refl, refl, refl, λ h. h)
+keeps_returned n from name version bytes (Some h) = keeps_if n (return_fits from version bytes h) _ _ (keeps_served n name _) (refl, refl, refl, λ h. h)
 
-keeps_released : (n : Node) (from : ℕ) (name : Name) (version : ℕ) (bytes : List ℕ) (o : Option Home) → Keeps n (released from name version bytes o n).node
+keeps_released : (n : Node) (from : ℕ) (name : Name) (version : ℕ) (bytes : List ℕ) (o : Option Home) → Keeps n (takes_release from name version bytes o n).node
 keeps_released n from name version bytes None = (refl, refl, refl, λ h. h)
-keeps_released n from name version bytes (Some h) = keeps_if n (takes_release bytes h) _ _ (keeps_served n name _) (refl, refl, refl, λ h. h)
+keeps_released n from name version bytes (Some h) = keeps_if n (release_fits bytes h) _ _ (keeps_served n name _) (refl, refl, refl, λ h. h)
 
-keeps_granted : (n : Node) (name : Name) (version : ℕ) (what : Granted) (o : Option Remote) → n.remotes name ≡ o → Keeps n (granted name version what o n).node
+keeps_granted : (n : Node) (name : Name) (version : ℕ) (what : Granted) (o : Option Remote) → n.remotes name ≡ o → Keeps n (takes_grant name version what o n).node
 unfolding section_opens
 keeps_granted n name version what None e = (refl, refl, refl, λ h. h)
-keeps_granted n name version what (Some r) e = keeps_if n (takes_grant what r) _ _ (refl, refl, refl, λ h. houses_some name r (remote_granted version what r) n.me n.maps n.remotes n.cache e h) (refl, refl, refl, λ h. h)
+keeps_granted n name version what (Some r) e = keeps_if n (grant_fits what r) _ _ (refl, refl, refl, λ h. houses_some name r (remote_takes_grant version what r) n.me n.maps n.remotes n.cache e h) (refl, refl, refl, λ h. h)
 
-keeps_called : (n : Node) (name : Name) (step : Remote → Moved) (o : Option Remote) → n.remotes name ≡ o → Keeps n (remote_called name step o n).node
-unfolding moved
+keeps_called : (n : Node) (name : Name) (step : Remote → RemoteStep) (o : Option Remote) → n.remotes name ≡ o → Keeps n (takes_call_back name step o n).node
+unfolding after_remote
 keeps_called n name step None e = (refl, refl, refl, λ h. h)
 keeps_called n name step (Some r) e = (refl, refl, refl, λ h. houses_some name r (step r).remote n.me n.maps n.remotes n.cache e h)
 
-keeps_told : (n : Node) (name : Name) (doomed : Bool) (t : Told) → ((size : ℕ) → IsCached name size n.cache → ⊥) → Keeps n (info_told name doomed t n)
+keeps_told : (n : Node) (name : Name) (doomed : Bool) (t : Told) → ((size : ℕ) → IsCached name size n.cache → ⊥) → Keeps n (after_info name doomed t n)
 keeps_told n name doomed (told.Live size) fresh = (refl, refl, refl, λ h. houses_new name _ _ n.me n.maps n.remotes n.cache fresh h)
 keeps_told n name doomed told.Unknown fresh = (refl, refl, refl, λ h. h)
 keeps_told n name doomed told.Deleted fresh = (refl, refl, refl, λ h. h)
 
-keeps_info : (n : Node) (name : Name) (t : Told) (a : Activity) → FreshFits a n.cache → Keeps n (info_is name t a n).node
+keeps_info : (n : Node) (name : Name) (t : Told) (a : Activity) → FreshFits a n.cache → Keeps n (takes_info name t a n).node
 keeps_info n name t Free fresh = (refl, refl, refl, λ h. h)
 keeps_info n name t (Ready answer) fresh = (refl, refl, refl, λ h. h)
 keeps_info n name t (Waiting (ForSection waited)) fresh = (refl, refl, refl, λ h. h)
@@ -196,13 +196,13 @@ keeps_info n name t (Waiting (ForRound round k)) fresh = (refl, refl, refl, λ h
 keeps_info n name t (Waiting (ForMap waited doomed)) fresh =
     keeps_when n (name_eq waited name) _ _ (λ w. keeps_told n name doomed t (λ size c. fresh size (subst (λ p. IsCached p size n.cache) (sym (same_name waited name w)) c))) (λ w. (refl, refl, refl, λ h. h))
 
-keeps_delete_asked : (n : Node) (from : ℕ) (name : Name) (s : Stage) → Keeps n (delete_asked from name s n).node
+keeps_delete_asked : (n : Node) (from : ℕ) (name : Name) (s : Stage) → Keeps n (takes_delete_ask from name s n).node
 keeps_delete_asked n from name stage.Unknown = (refl, refl, refl, λ h. h)
 keeps_delete_asked n from name stage.Live = (refl, refl, refl, λ h. h)
 keeps_delete_asked n from name (stage.Going deleter) = (refl, refl, refl, λ h. h)
 keeps_delete_asked n from name stage.Gone = (refl, refl, refl, λ h. h)
 
-keeps_delete_is : (n : Node) (name : Name) (t : _) (a : Activity) → Keeps n (delete_is name t a n).node
+keeps_delete_is : (n : Node) (name : Name) (t : _) (a : Activity) → Keeps n (takes_delete_told name t a n).node
 keeps_delete_is n name t Free = (refl, refl, refl, λ h. h)
 keeps_delete_is n name t (Ready answer) = (refl, refl, refl, λ h. h)
 keeps_delete_is n name t (Waiting (ForSection waited)) = (refl, refl, refl, λ h. h)
@@ -210,20 +210,20 @@ keeps_delete_is n name t (Waiting (ForMap waited p)) = (refl, refl, refl, λ h. 
 keeps_delete_is n name t (Waiting (ForRound round k)) = (refl, refl, refl, λ h. h)
 keeps_delete_is n name t (Waiting (ForDelete waited)) = keeps_if n (name_eq waited name) _ _ (refl, refl, refl, λ h. h) (refl, refl, refl, λ h. h)
 
-keeps_purged_over : (n : Node) (name : Name) (m : Option Mapping) → n.maps name ≡ m → Keeps n (purged_over name m n).node
+keeps_purged_over : (n : Node) (name : Name) (m : Option Mapping) → n.maps name ≡ m → Keeps n (purge_over name m n).node
 keeps_purged_over n name (Some m) e = (refl, refl, refl, λ h. houses_more name m _ n.me n.maps n.remotes n.cache e h)
 keeps_purged_over n name None e = go (cached_size name n.cache)
   where
-    go : (o : Option ℕ) → Keeps n (purged_cached name o n).node
+    go : (o : Option ℕ) → Keeps n (purge_over_cache name o n).node
     go None = (refl, refl, refl, λ h. h)
     go (Some size) = keeps_forgets n _ name (refl, refl, refl, λ h. but_dropped name n.me n.maps n.remotes n.cache h)
 
-keeps_purged_by : (n : Node) (name : Name) (s : Stage) (lease : Lease) → Keeps n (purged_by name s lease n).node
-keeps_purged_by n name stage.Unknown lease = (refl, refl, refl, λ h. h)
-keeps_purged_by n name stage.Live lease = (refl, refl, refl, λ h. h)
-keeps_purged_by n name stage.Gone lease = (refl, refl, refl, λ h. h)
-keeps_purged_by n name (stage.Going deleter) lease =
-    keeps_if n (is_gone lease.stage) _ _ (keeps_either n (deleter == n.me) _ _ (refl, refl, refl, λ h. h) (refl, refl, refl, λ h. h)) (refl, refl, refl, λ h. h)
+keeps_purged_by : (n : Node) (name : Name) (s : Stage) (lifetime : Lifetime) → Keeps n (ends_delete_by name s lifetime n).node
+keeps_purged_by n name stage.Unknown lifetime = (refl, refl, refl, λ h. h)
+keeps_purged_by n name stage.Live lifetime = (refl, refl, refl, λ h. h)
+keeps_purged_by n name stage.Gone lifetime = (refl, refl, refl, λ h. h)
+keeps_purged_by n name (stage.Going deleter) lifetime =
+    keeps_if n (is_gone lifetime.stage) _ _ (keeps_either n (deleter == n.me) _ _ (refl, refl, refl, λ h. h) (refl, refl, refl, λ h. h)) (refl, refl, refl, λ h. h)
 
 keeps_own : (n m : Node) (fold : Fold) (a : Activity) → Keeps n m → Keeps n (own_result fold a m).node
 keeps_own n m fold Free k = k
@@ -233,11 +233,11 @@ keeps_own n m fold (Waiting (ForMap waited p)) k = k
 keeps_own n m fold (Waiting (ForDelete waited)) k = k
 keeps_own n m fold (Waiting (ForRound round w)) k = k
 
-keeps_gathered_from : (n m : Node) (round : ℕ) (o : Option Fold) → Keeps n m → Keeps n (gathered_from round o m).node
+keeps_gathered_from : (n m : Node) (round : ℕ) (o : Option Fold) → Keeps n m → Keeps n (after_part_of round o m).node
 keeps_gathered_from n m round None k = k
 keeps_gathered_from n m round (Some fold) k = keeps_own n m fold m.activity k
 
-keeps_result : (n : Node) (round : ℕ) (fold : Fold) (a : Activity) → Keeps n (result round fold a n).node
+keeps_result : (n : Node) (round : ℕ) (fold : Fold) (a : Activity) → Keeps n (takes_result round fold a n).node
 keeps_result n round fold Free = (refl, refl, refl, λ h. h)
 keeps_result n round fold (Ready answer) = (refl, refl, refl, λ h. h)
 keeps_result n round fold (Waiting (ForSection waited)) = (refl, refl, refl, λ h. h)
@@ -245,19 +245,19 @@ keeps_result n round fold (Waiting (ForMap waited p)) = (refl, refl, refl, λ h.
 keeps_result n round fold (Waiting (ForDelete waited)) = (refl, refl, refl, λ h. h)
 keeps_result n round fold (Waiting (ForRound waited k)) = keeps_if n (waited == round) _ _ (refl, refl, refl, λ h. h) (refl, refl, refl, λ h. h)
 
-pub keeps_message : (n : Node) (from : ℕ) (k : Kind) → FreshFits n.activity n.cache → Keeps n (handled from k n).node
-unfolding handled
+pub keeps_message : (n : Node) (from : ℕ) (k : Kind) → FreshFits n.activity n.cache → Keeps n (node_handles from k n).node
+unfolding node_handles
 keeps_message n from (kind.InfoAsk name) fresh = keeps_either n (is_mine n name) _ _ (refl, refl, refl, λ h. h) (refl, refl, refl, λ h. h)
 keeps_message n from (kind.InfoIs name t) fresh = keeps_info n name t n.activity fresh
 keeps_message n from (kind.Ask name write have) fresh = keeps_asked n from name write have (home_of n name)
 keeps_message n from (kind.Grant name version what) fresh = keeps_granted n name version what (n.remotes name) refl
 keeps_message n from (kind.Recall name version) fresh = keeps_called n name _ (n.remotes name) refl
 keeps_message n from (kind.Return name version bytes) fresh = keeps_returned n from name version bytes (home_of n name)
-keeps_message n from (kind.DeleteAsk name) fresh = keeps_delete_asked n from name (lease_of n name).stage
+keeps_message n from (kind.DeleteAsk name) fresh = keeps_delete_asked n from name (lifetime_of n name).stage
 keeps_message n from (kind.DeleteIs name t) fresh = keeps_delete_is n name t n.activity
 keeps_message n from (kind.Purge name) fresh = keeps_purged_over n name (n.maps name) refl
 keeps_message n from (kind.Purged name) fresh =
-    keeps_if n ((lease_of n name).missing from) _ _ (keeps_purged_by n name (lease_of n name).stage (lease_purged n.nodes from (lease_of n name))) (refl, refl, refl, λ h. h)
+    keeps_if n ((lifetime_of n name).missing from) _ _ (keeps_purged_by n name (lifetime_of n name).stage (lifetime_takes_purged n.nodes from (lifetime_of n name))) (refl, refl, refl, λ h. h)
 keeps_message n from (kind.Come round part) fresh =
     keeps_if n (awaits from n.gathering) _ _ (keeps_gathered_from n _ n.gathering.round (gathers n.nodes from part n.gathering).fold (refl, refl, refl, λ h. h)) (refl, refl, refl, λ h. h)
 keeps_message n from (kind.Result round fold) fresh = keeps_result n round fold n.activity

@@ -4,7 +4,7 @@ use Rattle.std.proofs.lemmas.Bool.{cond-true, cond-false, eqb-true, eq-eqb, ne_e
 use Rattle.crl_model.specs.declared.name.Name.{Name}
 use Rattle.crl_model.specs.declared.message.Message.{Message}
 use Rattle.crl_model.specs.Names.{at_node}
-use Rattle.crl_protocol.specs.Places.{picks}
+use Rattle.crl_protocol.specs.Places.{find_all}
 use Rattle.crl_protocol.specs.Home.{Home, bytes_after}
 use Rattle.crl_protocol.specs.Remote.{Remote}
 use Rattle.crl_protocol.specs.Node.{Node, home_of}
@@ -64,7 +64,7 @@ remotes_but q i size before after n m r o e j = elim (same_or i j) [
 
 pub lift : (K : Name → ℕ → Type 0) (q : Name) (i : ℕ) (before after : ℕ → Node) (n m : Node) (boxes_before boxes_after posts : List Message) (rest : List Flying) (came : Option Flying) (written : Option (List ℕ)) (h : Home) (array : List ℕ)
     → Outcomes q i before after n m → home_of (before q.home) q ≡ Some h → SizeIs (n.remotes q) h.size
-    → Comes came (picks (flying q) boxes_before) rest → Moves (rest ++ picks (flying q) posts) (picks (flying q) boxes_after)
+    → Comes came (find_all (flying q) boxes_before) rest → Moves (rest ++ find_all (flying q) posts) (find_all (flying q) boxes_after)
     → Acts K q i came written n m posts → Lifted q i came before after boxes_before boxes_after h array (bytes_after written array)
 lift K q i before after n m bb ba posts rest came written h array o there sized comes moves (nothing none unwritten e f p o1) = record {
   home = h;

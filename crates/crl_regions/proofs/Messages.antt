@@ -3,8 +3,8 @@ use Rattle.std.proofs.Common.{◌≡◌, ℕ, ◌-◌, ◌^◌, ◌<◌, ◌==�
 use Rattle.std.proofs.lemmas.Bool.{cond_both, cond-true, cond-false, eqb-true, eqb-false, eq-eqb, and_parts, ne_eqb}
 use Rattle.std.proofs.Math.Logic.{◌⊎◌, inl, inr}
 use Rattle.crl_model.specs.declared.name.Name.{Name}
-use Rattle.crl_model.specs.declared.region.Stage.{Stage}
-use Rattle.crl_model.specs.declared.region.Stage.TheVariants as stage
+use Rattle.crl_model.specs.declared.stage.Stage.{Stage}
+use Rattle.crl_model.specs.declared.stage.Stage.TheVariants as stage
 use Rattle.crl_model.specs.declared.collective.Fold.{Fold}
 use Rattle.crl_model.specs.declared.collective.Part.{Part}
 use Rattle.crl_model.specs.declared.directory.Asked.{Asked}
@@ -18,17 +18,17 @@ use Rattle.crl_model.specs.declared.message.Granted.TheVariants.{Shared, Exclusi
 use Rattle.crl_model.specs.declared.message.Kind.{Kind}
 use Rattle.crl_model.specs.declared.message.Kind.TheVariants as kind
 use Rattle.crl_model.specs.Names.{name_eq, at_node}
-use Rattle.crl_protocol.specs.Places.{picks, Took}
+use Rattle.crl_protocol.specs.Places.{find_all, Took}
 use Rattle.crl_protocol.specs.Mail.{Mail, Ask, Grant, Recall, Yield, Return, Release}
-use Rattle.crl_protocol.specs.Home.{Home, Served, home_asked, home_returned, home_released, takes_return, takes_release}
-use Rattle.crl_protocol.specs.Remote.{Remote, Moved, new_remote, remote_granted, remote_recalled, remote_yields, takes_grant, asks_to_write, asks_to_read, opened_by}
-use Rattle.crl_protocol.specs.Leases.{Mapping, cached_size, dropped, Lease, lease_begins, lease_purged, members}
+use Rattle.crl_protocol.specs.Home.{Home, HomeStep, home_takes_ask, home_takes_return, home_takes_release, return_fits, release_fits}
+use Rattle.crl_protocol.specs.Remote.{Remote, RemoteStep, new_remote, remote_takes_grant, remote_takes_recall, remote_takes_yield, grant_fits, asks_to_write, asks_to_read, section_asked}
+use Rattle.crl_protocol.specs.Lifetimes.{Mapping, cached_size, cache_without, Lifetime, lifetime_begins_delete, lifetime_takes_purged, members}
 use Rattle.crl_protocol.specs.Gathering.{gathers, awaits}
-use Rattle.crl_protocol.specs.Node.{Node, ForSection, ForMap, ForDelete, ForRound, Activity, Free, Waiting, Ready, is_mine, home_of, lease_of, message, section_opens}
+use Rattle.crl_protocol.specs.Node.{Node, ForSection, ForMap, ForDelete, ForRound, Activity, Free, Waiting, Ready, is_mine, home_of, lifetime_of, message_to, section_opens}
 use Rattle.crl_protocol.specs.Sections.{section_at, section_begins, is_writing}
-use Rattle.crl_protocol.specs.Sectioning.{copy_bytes, served, moved}
+use Rattle.crl_protocol.specs.Sectioning.{copy_bytes, after_serve, after_remote}
 use Rattle.crl_protocol.specs.Calls.{is_gone}
-use Rattle.crl_protocol.specs.Handlers.{info_asked, info_told, info_is, is_queued_in, asked, returned, released, opened_with, granted, remote_called, delete_begun, delete_asked, delete_is, purged_cached, purged_over, purged_by, purged, own_result, gathered_from, come, result, handled}
+use Rattle.crl_protocol.specs.Handlers.{takes_info_ask, after_info, takes_info, is_queued_in, takes_ask, takes_return, takes_release, opens_with_grant, takes_grant, takes_call_back, begins_delete, takes_delete_ask, takes_delete_told, purge_over_cache, purge_over, ends_delete_by, takes_purged, own_result, after_part_of, takes_part, takes_result, node_handles}
 use Rattle.crl_protocol.proofs.Fitting.{by_name, name_self, same_name, AskingFits, IsMapped, FreshFits, WaitFits, IsCached, CopyFits}
 use Rattle.crl_protocol.proofs.Growing.{append_nil}
 use Rattle.crl_protocol.proofs.Outcomes.{asking_of, home_bytes, remote_bytes}
@@ -51,7 +51,7 @@ FromHome name from to = (from ≡ name.home) × ((to == name.home) ≡ false)
 
 abbrev pub Goes : ℕ → ℕ → Kind → Type 0
 Goes from to (kind.Ask name write have) = ToHome name from to
-Goes from to (kind.Grant name version granted) = FromHome name from to
+Goes from to (kind.Grant name version takes_grant) = FromHome name from to
 Goes from to (kind.Recall name version) = FromHome name from to
 Goes from to (kind.Yield name version) = FromHome name from to
 Goes from to (kind.Return name version bytes) = ToHome name from to
@@ -59,14 +59,14 @@ Goes from to (kind.Release name version bytes) = ToHome name from to
 Goes from to _ = Unit {0}
 
 -- It passes the tests of its handler, and what it opens was closed.
-abbrev pub OpensClosed : Home → Served → Type 0
+abbrev pub OpensClosed : Home → HomeStep → Type 0
 OpensClosed h s = s.opened ≡ true → h.mine ≡ section.Closed
 
 abbrev pub Passes : ℕ → Kind → Node → Type 0
-Passes from (kind.Ask name write have) n = (is_queued_in from n.homes ≡ false) × ((h : Home) → home_of n name ≡ Some h → OpensClosed h (home_asked n.me (record { node = from; write = write; have = have }) h))
-Passes from (kind.Grant name version what) n = (size : ℕ) × (takes_grant what (side size (n.remotes name)) ≡ true) × ((side size (n.remotes name)).here ≡ section.Closed)
-Passes from (kind.Return name version bytes) n = (h : Home) → home_of n name ≡ Some h → (takes_return from version bytes h ≡ true) × OpensClosed h (home_returned n.me from bytes h)
-Passes from (kind.Release name version bytes) n = (h : Home) → home_of n name ≡ Some h → (takes_release bytes h ≡ true) × OpensClosed h (home_released n.me from version bytes h)
+Passes from (kind.Ask name write have) n = (is_queued_in from n.homes ≡ false) × ((h : Home) → home_of n name ≡ Some h → OpensClosed h (home_takes_ask n.me (record { node = from; write = write; have = have }) h))
+Passes from (kind.Grant name version what) n = (size : ℕ) × (grant_fits what (side size (n.remotes name)) ≡ true) × ((side size (n.remotes name)).here ≡ section.Closed)
+Passes from (kind.Return name version bytes) n = (h : Home) → home_of n name ≡ Some h → (return_fits from version bytes h ≡ true) × OpensClosed h (home_takes_return n.me from bytes h)
+Passes from (kind.Release name version bytes) n = (h : Home) → home_of n name ≡ Some h → (release_fits bytes h ≡ true) × OpensClosed h (home_takes_release n.me from version bytes h)
 Passes from _ n = Unit {0}
 
 -- a size that is told is known to be the region's
@@ -92,13 +92,13 @@ opened_count : (mine : Section) → (mine ≡ section.Writing) ⊎ (mine ≡ sec
 opened_count mine (inl w) = subst (λ x. CountFits x) (sym w) tt
 opened_count mine (inr w) = let few : 1 < 2 ^ 32 = omega arith in subst (λ x. CountFits x) (sym w) few
 
-acts_served : (K : Name → ℕ → Type 0) (i : ℕ) (d : Name → List ℕ) (from : ℕ) (n : Node) (name : Name) (h : Home) (s : Served) (mail : Mail) → home_of n name ≡ Some h → s.home.size ≡ h.size → (from == name.home) ≡ false
+acts_served : (K : Name → ℕ → Type 0) (i : ℕ) (d : Name → List ℕ) (from : ℕ) (n : Node) (name : Name) (h : Home) (s : HomeStep) (mail : Mail) → home_of n name ≡ Some h → s.home.size ≡ h.size → (from == name.home) ≡ false
     → Local i d n → Serves h.mine s → OpensClosed h s → ((count : ℕ) → from < count → Near n.me count h → NearServed n.me count s)
     → ((g : Region) (rest : List Flying) → g.home ≡ h → Took (region.flies from mail) g.flight rest → Happens name.home g (at_home s rest g))
-    → (q : Name) → let o = served name s n in Acts K q i (coming q from i (name_eq name q) mail) None n o.node o.posts
-unfolding served section_opens
+    → (q : Name) → let o = after_serve name s n in Acts K q i (coming q from i (name_eq name q) mail) None n o.node o.posts
+unfolding after_serve section_opens
 acts_served K i d from n name h s mail e size other l serves closed near happens =
-    by_name name (λ b q. let o = served name s n in Acts K q i (coming q from i b mail) None n o.node o.posts)
+    by_name name (λ b q. let o = after_serve name s n in Acts K q i (coming q from i b mail) None n o.node o.posts)
     (acts_if K name i (coming name from i true mail) None n s.opened _ _
     (λ w. home_here K name i _ None n _ h s e refl refl size (sym (after w)) (subst (λ x. CountFits x) (sym (after w)) (opened_count s.home.mine (serves.0 w))) nears it)
     (λ w. home_here K name i _ None n _ h s e refl refl size (serves.1 w ∙ mine) (l.counts name) nears it))
@@ -128,40 +128,40 @@ acts_absent K i from n name mail e here =
     by_name name (λ b q. Acts K q i (coming q from i b mail) None n n []) (absent refl here e e refl refl refl) (λ q other. nothing refl refl refl refl refl refl)
 
 acts_asked : (K : Name → ℕ → Type 0) (i : ℕ) (d : Name → List ℕ) (from : ℕ) (n : Node) (name : Name) (write : Bool) (have : ℕ) → ToHome name from i → Passes from (kind.Ask name write have) n → Local i d n → (o : Option Home) → home_of n name ≡ o
-    → (q : Name) → let out = asked from name write have o n in Acts K q i (coming q from i (name_eq name q) (Ask write have)) None n out.node out.posts
+    → (q : Name) → let out = takes_ask from name write have o n in Acts K q i (coming q from i (name_eq name q) (Ask write have)) None n out.node out.posts
 acts_asked K i d from n name write have goes passes l None e q = acts_absent K i from n name (Ask write have) e (eq-eqb name.home i goes.0) q
 acts_asked K i d from n name write have goes passes l (Some h) e q =
     let me : n.me ≡ name.home = eqb-true n.me name.home (home_is n name h e) in
     let ask : Asked = record { node = from; write = write; have = have } in
     acts_if K q i _ None n (is_queued_in from n.homes) _ _ (λ w. absurd (let free = passes.0 in cc))
-    (λ w. acts_served K i d from n name h (home_asked n.me ask h) (Ask write have) e
+    (λ w. acts_served K i d from n name h (home_takes_ask n.me ask h) (Ask write have) e
     (asked_goes n.me ask h (ap (λ k. from == k) me ∙ goes.1) (home_bytes i d n name h e l.fits)).size goes.1 l (asked_serves n.me ask h) (passes.1 h e) (λ count few k. near_asked n.me count ask h few k)
-    (λ g rest at_g took. home_event n.me name.home h (λ k x. home_asked k ask x) g rest g.array me at_g (region.ask_comes from write have rest (eqb-false from name.home goes.1) took)) q)
+    (λ g rest at_g took. home_event n.me name.home h (λ k x. home_takes_ask k ask x) g rest g.array me at_g (region.ask_comes from write have rest (eqb-false from name.home goes.1) took)) q)
 
 acts_returned : (K : Name → ℕ → Type 0) (i : ℕ) (d : Name → List ℕ) (from : ℕ) (n : Node) (name : Name) (version : ℕ) (bytes : Option (List ℕ)) → ToHome name from i
     → Passes from (kind.Return name version bytes) n → Local i d n → (o : Option Home) → home_of n name ≡ o
-    → (q : Name) → let out = returned from name version bytes o n in Acts K q i (coming q from i (name_eq name q) (Return version bytes)) None n out.node out.posts
+    → (q : Name) → let out = takes_return from name version bytes o n in Acts K q i (coming q from i (name_eq name q) (Return version bytes)) None n out.node out.posts
 acts_returned K i d from n name version bytes goes takes l None e q = acts_absent K i from n name (Return version bytes) e (eq-eqb name.home i goes.0) q
 acts_returned K i d from n name version bytes goes takes l (Some h) e q =
     let me : n.me ≡ name.home = eqb-true n.me name.home (home_is n name h e) in
     let fits = (takes h e).0 in
-    acts_if K q i _ None n (takes_return from version bytes h) _ _
-    (λ w. acts_served K i d from n name h (home_returned n.me from bytes h) (Return version bytes) e
+    acts_if K q i _ None n (return_fits from version bytes h) _ _
+    (λ w. acts_served K i d from n name h (home_takes_return n.me from bytes h) (Return version bytes) e
     (returned_goes n.me from version bytes h (home_bytes i d n name h e l.fits) fits).size goes.1 l (returned_serves n.me from bytes h) (takes h e).1 (λ count few k. near_returned n.me count from bytes h k)
-    (λ g rest at_g took. home_event n.me name.home h (λ k x. home_returned k from bytes x) g rest g.array me at_g (region.return_comes from version bytes rest (eqb-false from name.home goes.1) took)) q)
+    (λ g rest at_g took. home_event n.me name.home h (λ k x. home_takes_return k from bytes x) g rest g.array me at_g (region.return_comes from version bytes rest (eqb-false from name.home goes.1) took)) q)
     (λ w. absurd (cc))
 
 acts_released : (K : Name → ℕ → Type 0) (i : ℕ) (d : Name → List ℕ) (from : ℕ) (n : Node) (name : Name) (version : ℕ) (bytes : List ℕ) → ToHome name from i
     → Passes from (kind.Release name version bytes) n → Local i d n → (o : Option Home) → home_of n name ≡ o
-    → (q : Name) → let out = released from name version bytes o n in Acts K q i (coming q from i (name_eq name q) (Release version bytes)) None n out.node out.posts
+    → (q : Name) → let out = takes_release from name version bytes o n in Acts K q i (coming q from i (name_eq name q) (Release version bytes)) None n out.node out.posts
 acts_released K i d from n name version bytes goes takes l None e q = acts_absent K i from n name (Release version bytes) e (eq-eqb name.home i goes.0) q
 acts_released K i d from n name version bytes goes takes l (Some h) e q =
     let me : n.me ≡ name.home = eqb-true n.me name.home (home_is n name h e) in
     let fits = (takes h e).0 in
-    acts_if K q i _ None n (takes_release bytes h) _ _
-    (λ w. acts_served K i d from n name h (home_released n.me from version bytes h) (Release version bytes) e
+    acts_if K q i _ None n (release_fits bytes h) _ _
+    (λ w. acts_served K i d from n name h (home_takes_release n.me from version bytes h) (Release version bytes) e
     (released_goes n.me from version bytes h (home_bytes i d n name h e l.fits) fits).size goes.1 l (released_serves n.me from version bytes h) (takes h e).1 (λ count few k. near_released n.me count from version bytes h k)
-    (λ g rest at_g took. home_event n.me name.home h (λ k x. home_released k from version bytes x) g rest g.array me at_g (region.release_comes from version bytes rest (eqb-false from name.home goes.1) took)) q)
+    (λ g rest at_g took. home_event n.me name.home h (λ k x. home_takes_release k from version bytes x) g rest g.array me at_g (region.release_comes from version bytes rest (eqb-false from name.home goes.1) took)) q)
     (λ w. absurd (cc))
 
 -- A message of the home comes to another node. What it is of the region names this node.
@@ -174,76 +174,76 @@ nowhere_closed i d n name other e l =
     let away_from : is_mine n name ≡ false = ne_eqb name.home n.me (λ w. eqb-false i name.home other (sym l.fits.me ∙ sym w)) in
     ap (λ o. expected None o) e ∙ sym (ap (λ o. expected o (n.remotes name)) (cond-false (is_mine n name) _ _ away_from) ∙ ap (λ o. expected None o) e) ∙ l.agrees name
 
-acts_nowhere : (K : Name → ℕ → Type 0) (i : ℕ) (d : Name → List ℕ) (from : ℕ) (n : Node) (name : Name) (mail : Mail) (step : Remote → Moved) → FromHome name from i → Local i d n → n.remotes name ≡ None
+acts_nowhere : (K : Name → ℕ → Type 0) (i : ℕ) (d : Name → List ℕ) (from : ℕ) (n : Node) (name : Name) (mail : Mail) (step : Remote → RemoteStep) → FromHome name from i → Local i d n → n.remotes name ≡ None
     → ((size : ℕ) → step (new_remote size) ≡ record { remote = new_remote size; posts = []; opened = false })
     → ((g : Region) (rest : List Flying) → Took (region.flies i mail) g.flight rest → Happens name.home g (at_remote i (step (g.remotes i)) rest g))
     → (q : Name) → Acts K q i (coming q from i (name_eq name q) mail) None n n []
 acts_nowhere K i d from n name mail step goes l e blank happens =
     by_name name (λ b q. Acts K q i (coming q from i b mail) None n n [])
     (side_acts (λ size. new_remote size) [] (away_none n name i l.fits.me goes.1) refl (λ size. ap (λ o. side size o) e) refl (nowhere_closed i d n name goes.1 e l) (l.counts name) (λ known r w. known r w)
-    (λ g rest at_g sized took. subst (λ (s : Moved). Happens name.home g (at_remote i s rest g)) (ap step (at_g ∙ ap (λ o. side g.home.size o) e) ∙ blank g.home.size)
+    (λ g rest at_g sized took. subst (λ (s : RemoteStep). Happens name.home g (at_remote i s rest g)) (ap step (at_g ∙ ap (λ o. side g.home.size o) e) ∙ blank g.home.size)
     (happens g rest (from_home name i from mail g.flight rest goes took))))
     (λ q other. nothing refl refl refl refl refl refl)
 
-acts_called : (K : Name → ℕ → Type 0) (i : ℕ) (d : Name → List ℕ) (from : ℕ) (n : Node) (name : Name) (mail : Mail) (step : Remote → Moved) → FromHome name from i → Local i d n
+acts_called : (K : Name → ℕ → Type 0) (i : ℕ) (d : Name → List ℕ) (from : ℕ) (n : Node) (name : Name) (mail : Mail) (step : Remote → RemoteStep) → FromHome name from i → Local i d n
     → ((size : ℕ) → step (new_remote size) ≡ record { remote = new_remote size; posts = []; opened = false }) → ((r : Remote) → (step r).remote.here ≡ r.here) → ((r : Remote) → CopyFits r.copy r.size → (step r).remote.size ≡ r.size)
     → ((g : Region) (rest : List Flying) → Took (region.flies i mail) g.flight rest → Happens name.home g (at_remote i (step (g.remotes i)) rest g))
     → (o : Option Remote) → n.remotes name ≡ o
-    → (q : Name) → let out = remote_called name step o n in Acts K q i (coming q from i (name_eq name q) mail) None n out.node out.posts
-unfolding moved
+    → (q : Name) → let out = takes_call_back name step o n in Acts K q i (coming q from i (name_eq name q) mail) None n out.node out.posts
+unfolding after_remote
 acts_called K i d from n name mail step goes l blank stays sizes happens None e = acts_nowhere K i d from n name mail step goes l e blank happens
 acts_called K i d from n name mail step goes l blank stays sizes happens (Some r) e =
-    by_name name (λ b q. let out = moved name (step r) n in Acts K q i (coming q from i b mail) None n out.node out.posts)
+    by_name name (λ b q. let out = after_remote name (step r) n in Acts K q i (coming q from i b mail) None n out.node out.posts)
     (moved_here K name i _ None n _ r (step r) e (cond-true (name_eq name name) _ _ (name_self name)) refl l.fits.me goes.1 (stays r ∙ here_is i d n name r e l) (l.counts name) (sizes r (remote_bytes i d n name r e l.fits))
     (λ g rest at_g sized took. side_event name.home i r step g rest g.array at_g (happens g rest (from_home name i from mail g.flight rest goes took))))
     (λ q other. moved_there K name q i n _ (step r).posts (cond-false (name_eq name q) _ _ other) refl refl other)
 
 -- a grant
-no_grant : (what : Granted) (size : ℕ) → takes_grant what (new_remote size) ≡ true → ⊥
+no_grant : (what : Granted) (size : ℕ) → grant_fits what (new_remote size) ≡ true → ⊥
 no_grant (Shared bytes) size e = cc
 no_grant (Exclusive bytes) size e = cc
 no_grant Upgrade size e = cc
 
-granted_here : (what : Granted) (r : Remote) → takes_grant what r ≡ true → opened_by r.asking ≡ begun (asks_to_write r.asking) section.Closed
+granted_here : (what : Granted) (r : Remote) → grant_fits what r ≡ true → section_asked r.asking ≡ begun (asks_to_write r.asking) section.Closed
 granted_here what r e = go what r.asking refl e
   where
-    go : (what : Granted) (o : Option Bool) → r.asking ≡ o → takes_grant what r ≡ true → opened_by o ≡ begun (asks_to_write o) section.Closed
+    go : (what : Granted) (o : Option Bool) → r.asking ≡ o → grant_fits what r ≡ true → section_asked o ≡ begun (asks_to_write o) section.Closed
     go what (Some true) a e = refl
     go what (Some false) a e = refl
     go (Shared bytes) None a e = let k = (and_parts (asks_to_read r.asking) _ e).0 in let j = ap asks_to_read a in cc
     go (Exclusive bytes) None a e = let k = (and_parts (asks_to_write r.asking) _ e).0 in let j = ap asks_to_write a in cc
     go Upgrade None a e = let k = (and_parts (asks_to_write r.asking) _ e).0 in let j = ap asks_to_write a in cc
 
-granted_count : (o : Option Bool) → CountFits (opened_by o)
+granted_count : (o : Option Bool) → CountFits (section_asked o)
 granted_count None = tt
 granted_count (Some true) = tt
 granted_count (Some false) = let few : 1 < 2 ^ 32 = omega arith in few
 
 acts_granted : (K : Name → ℕ → Type 0) (i : ℕ) (d : Name → List ℕ) (from : ℕ) (n : Node) (name : Name) (version : ℕ) (what : Granted) → FromHome name from i → Local i d n
     → Passes from (kind.Grant name version what) n → (o : Option Remote) → n.remotes name ≡ o
-    → (q : Name) → let out = granted name version what o n in Acts K q i (coming q from i (name_eq name q) (Grant version what)) None n out.node out.posts
-unfolding section_opens remote_granted
+    → (q : Name) → let out = takes_grant name version what o n in Acts K q i (coming q from i (name_eq name q) (Grant version what)) None n out.node out.posts
+unfolding section_opens remote_takes_grant
 acts_granted K i d from n name version what goes l takes None e q =
-    absurd (no_grant what takes.0 (subst (λ o. takes_grant what (side takes.0 o) ≡ true) e takes.1))
+    absurd (no_grant what takes.0 (subst (λ o. grant_fits what (side takes.0 o) ≡ true) e takes.1))
 acts_granted K i d from n name version what goes l takes (Some r) e q =
-    let fits : takes_grant what r ≡ true = subst (λ o. takes_grant what (side takes.0 o) ≡ true) e takes.1 in
-    let s : Moved = record { remote = remote_granted version what r; posts = []; opened = true } in
+    let fits : grant_fits what r ≡ true = subst (λ o. grant_fits what (side takes.0 o) ≡ true) e takes.1 in
+    let s : RemoteStep = record { remote = remote_takes_grant version what r; posts = []; opened = true } in
     let closed : section_at name n.sections ≡ section.Closed = sym (here_is i d n name r e l) ∙ subst (λ o. (side takes.0 o).here ≡ section.Closed) e takes.2 in
     let after = noted_begun (asks_to_write r.asking) name (copy_bytes s.remote.copy) n.sections ∙ ap (λ x. begun (asks_to_write r.asking) x) closed in
     let here = granted_here what r fits ∙ sym after in
-    acts_if K q i _ None n (takes_grant what r) _ _
-    (λ w. by_name name (λ b p. let out = opened_with name (asks_to_write r.asking) (remote_granted version what r) n in Acts K p i (coming p from i b (Grant version what)) None n out.node out.posts)
+    acts_if K q i _ None n (grant_fits what r) _ _
+    (λ w. by_name name (λ b p. let out = opens_with_grant name (asks_to_write r.asking) (remote_takes_grant version what r) n in Acts K p i (coming p from i b (Grant version what)) None n out.node out.posts)
     (moved_here K name i _ None n _ r s e (cond-true (name_eq name name) _ _ (name_self name)) refl l.fits.me goes.1 here (subst (λ x. CountFits x) here (granted_count r.asking)) refl
-    (λ g rest at_g sized took. side_event name.home i r (λ x. record { remote = remote_granted version what x; posts = []; opened = true }) g rest g.array at_g
+    (λ g rest at_g sized took. side_event name.home i r (λ x. record { remote = remote_takes_grant version what x; posts = []; opened = true }) g rest g.array at_g
     (region.grant_comes i version what rest (eqb-false i name.home goes.1) (from_home name i from (Grant version what) g.flight rest goes took))))
     (λ p other. moved_there K name p i n _ [] (cond-false (name_eq name p) _ _ other) refl (noted_other (asks_to_write r.asking) name p (copy_bytes s.remote.copy) n.sections other) other) q)
     (λ w. absurd (cc))
 
 -- a node learns the size of a region that it maps
 pub acts_info_told : (K : Name → ℕ → Type 0) (i : ℕ) (d : Name → List ℕ) (n : Node) (name : Name) (doomed : Bool) (t : Told) → (i == name.home) ≡ false → n.remotes name ≡ None → Local i d n → KnownTold K name t
-    → (q : Name) → Acts K q i None None n (info_told name doomed t n) []
+    → (q : Name) → Acts K q i None None n (after_info name doomed t n) []
 acts_info_told K i d n name doomed (told.Live size) other_home e l tells q =
-    by_name name (λ b q. Acts K q i None None n (info_told name doomed (told.Live size) n) [])
+    by_name name (λ b q. Acts K q i None None n (after_info name doomed (told.Live size) n) [])
     (side_acts (λ z. new_remote size) [] (away_none n name i l.fits.me other_home) refl (λ z. ap (λ o. side z o) (cond-true (name_eq name name) _ _ (name_self name))) refl
     (ap (λ o. expected None o) (cond-true (name_eq name name) (Some (new_remote size)) (n.remotes name) (name_self name)) ∙ sym (ap (λ o. expected None o) e) ∙ nowhere_closed i d n name other_home e l) (l.counts name)
     (λ known x w. let same : new_remote size ≡ x = (let both : Some (new_remote size) ≡ Some x = sym (cond-true (name_eq name name) (Some (new_remote size)) (n.remotes name) (name_self name)) ∙ w in cc) in
@@ -260,7 +260,7 @@ acts_info_told K i d n name doomed told.Unknown other_home e l tells q = nothing
 acts_info_told K i d n name doomed told.Deleted other_home e l tells q = nothing refl refl refl refl refl refl
 
 acts_info_is : (K : Name → ℕ → Type 0) (i : ℕ) (d : Name → List ℕ) (n : Node) (name : Name) (t : Told) (a : Activity) → n.activity ≡ a → Local i d n → KnownTold K name t
-    → (q : Name) → let o = info_is name t a n in Acts K q i None None n o.node o.posts
+    → (q : Name) → let o = takes_info name t a n in Acts K q i None None n o.node o.posts
 acts_info_is K i d n name t Free e l tells q = nothing refl refl refl refl refl refl
 acts_info_is K i d n name t (Ready answer) e l tells q = nothing refl refl refl refl refl refl
 acts_info_is K i d n name t (Waiting (ForSection waited)) e l tells q = nothing refl refl refl refl refl refl
@@ -279,27 +279,27 @@ acts_info_is K i d n name t (Waiting (ForMap waited doomed)) e l tells q =
     nowhere same None r = r
     nowhere same (Some x) r = let c = l.held name x r (waits same).0 in absurd (fresh c.0 (subst (λ p. IsCached p c.0 n.cache) (sym same) c.1))
 
-    mapping : waited ≡ name → Acts K q i None None n (info_told name doomed t n) []
+    mapping : waited ≡ name → Acts K q i None None n (after_info name doomed t n) []
     mapping same =
         acts_info_told K i d n name doomed t (ne_eqb i name.home (λ w. eqb-false name.home n.me (waits same).1 (sym w ∙ sym l.fits.me))) (nowhere same (n.remotes name) refl) l tells q
 
 -- an ask for the size, a delete, and its answer
-acts_info_asked : (K : Name → ℕ → Type 0) (i from : ℕ) (n : Node) (name q : Name) → let o = info_asked from name n in Acts K q i None None n o.node o.posts
+acts_info_asked : (K : Name → ℕ → Type 0) (i from : ℕ) (n : Node) (name q : Name) → let o = takes_info_ask from name n in Acts K q i None None n o.node o.posts
 acts_info_asked K i from n name q =
     nothing refl refl (cond_both (is_mine n name) _ _ (λ m. home_of m q ≡ home_of n q) (λ w. refl) (λ w. refl)) (cond_both (is_mine n name) _ _ (λ (m : Node). m.remotes q ≡ n.remotes q) (λ w. refl) (λ w. refl)) refl
     (cond_both (is_mine n name) _ _ (λ (m : Node). section_at q m.sections ≡ section_at q n.sections) (λ w. refl) (λ w. refl))
 
-acts_begun : (K : Name → ℕ → Type 0) (i from : ℕ) (n : Node) (name : Name) (lease : Lease) (q : Name) → let o = delete_begun from name lease n in Acts K q i None None n o.node o.posts
-acts_begun K i from n name lease q =
-    nothing refl refl refl refl (cond_both (is_gone lease.stage) _ _ (λ ps. picks (flying q) ps ≡ []) (λ w. refl) (λ w. purges_quiet n name q (members n.nodes lease.asked))) refl
+acts_begun : (K : Name → ℕ → Type 0) (i from : ℕ) (n : Node) (name : Name) (lifetime : Lifetime) (q : Name) → let o = begins_delete from name lifetime n in Acts K q i None None n o.node o.posts
+acts_begun K i from n name lifetime q =
+    nothing refl refl refl refl (cond_both (is_gone lifetime.stage) _ _ (λ ps. find_all (flying q) ps ≡ []) (λ w. refl) (λ w. purges_quiet n name q (members n.nodes lifetime.asked))) refl
 
-acts_delete_asked : (K : Name → ℕ → Type 0) (i from : ℕ) (n : Node) (name : Name) (s : Stage) (q : Name) → let o = delete_asked from name s n in Acts K q i None None n o.node o.posts
+acts_delete_asked : (K : Name → ℕ → Type 0) (i from : ℕ) (n : Node) (name : Name) (s : Stage) (q : Name) → let o = takes_delete_ask from name s n in Acts K q i None None n o.node o.posts
 acts_delete_asked K i from n name stage.Unknown q = nothing refl refl refl refl refl refl
-acts_delete_asked K i from n name stage.Live q = acts_begun K i from n name (lease_begins n.nodes from (lease_of n name)) q
+acts_delete_asked K i from n name stage.Live q = acts_begun K i from n name (lifetime_begins_delete n.nodes from (lifetime_of n name)) q
 acts_delete_asked K i from n name (stage.Going deleter) q = nothing refl refl refl refl refl refl
 acts_delete_asked K i from n name stage.Gone q = nothing refl refl refl refl refl refl
 
-acts_delete_is : (K : Name → ℕ → Type 0) (i : ℕ) (n : Node) (name : Name) (t : DeleteTold) (a : Activity) (q : Name) → let o = delete_is name t a n in Acts K q i None None n o.node o.posts
+acts_delete_is : (K : Name → ℕ → Type 0) (i : ℕ) (n : Node) (name : Name) (t : DeleteTold) (a : Activity) (q : Name) → let o = takes_delete_told name t a n in Acts K q i None None n o.node o.posts
 acts_delete_is K i n name t Free q = nothing refl refl refl refl refl refl
 acts_delete_is K i n name t (Ready answer) q = nothing refl refl refl refl refl refl
 acts_delete_is K i n name t (Waiting (ForSection waited)) q = nothing refl refl refl refl refl refl
@@ -319,29 +319,29 @@ left_unmapped i d n name e l r at_r =
         absurd (subst (λ m. IsMapped m) e (mapped refl))
 
 acts_purged_over : (K : Name → ℕ → Type 0) (i : ℕ) (d : Name → List ℕ) (n : Node) (name : Name) (m : Option Mapping) → n.maps name ≡ m → Local i d n
-    → (q : Name) → let o = purged_over name m n in Acts K q i None None n o.node o.posts
+    → (q : Name) → let o = purge_over name m n in Acts K q i None None n o.node o.posts
 acts_purged_over K i d n name (Some m) e l q = nothing refl refl refl refl refl refl
 acts_purged_over K i d n name None e l q = go (cached_size name n.cache)
   where
-    go : (size : Option ℕ) → let o = purged_cached name size n in Acts K q i None None n o.node o.posts
+    go : (size : Option ℕ) → let o = purge_over_cache name size n in Acts K q i None None n o.node o.posts
     go None = nothing refl refl refl refl refl refl
-    go (Some size) = acts_forgets K i n n.maps (dropped name n.cache) name l.fits.me (left_unmapped i d n name e l) q
+    go (Some size) = acts_forgets K i n n.maps (cache_without name n.cache) name l.fits.me (left_unmapped i d n name e l) q
 
-acts_purged_by : (K : Name → ℕ → Type 0) (i : ℕ) (n : Node) (name : Name) (s : Stage) (lease : Lease) (q : Name) → let o = purged_by name s lease n in Acts K q i None None n o.node o.posts
-acts_purged_by K i n name stage.Unknown lease q = nothing refl refl refl refl refl refl
-acts_purged_by K i n name stage.Live lease q = nothing refl refl refl refl refl refl
-acts_purged_by K i n name stage.Gone lease q = nothing refl refl refl refl refl refl
-acts_purged_by K i n name (stage.Going deleter) lease q =
-    acts_if K q i None None n (is_gone lease.stage) _ _
+acts_purged_by : (K : Name → ℕ → Type 0) (i : ℕ) (n : Node) (name : Name) (s : Stage) (lifetime : Lifetime) (q : Name) → let o = ends_delete_by name s lifetime n in Acts K q i None None n o.node o.posts
+acts_purged_by K i n name stage.Unknown lifetime q = nothing refl refl refl refl refl refl
+acts_purged_by K i n name stage.Live lifetime q = nothing refl refl refl refl refl refl
+acts_purged_by K i n name stage.Gone lifetime q = nothing refl refl refl refl refl refl
+acts_purged_by K i n name (stage.Going deleter) lifetime q =
+    acts_if K q i None None n (is_gone lifetime.stage) _ _
     (λ w. nothing refl refl (cond_both (deleter == n.me) _ _ (λ m. home_of m q ≡ home_of n q) (λ v. refl) (λ v. refl))
-    (cond_both (deleter == n.me) _ _ (λ (m : Node). m.remotes q ≡ n.remotes q) (λ v. refl) (λ v. refl)) (cond_both (deleter == n.me) _ _ (λ ps. picks (flying q) ps ≡ []) (λ v. refl) (λ v. refl))
+    (cond_both (deleter == n.me) _ _ (λ (m : Node). m.remotes q ≡ n.remotes q) (λ v. refl) (λ v. refl)) (cond_both (deleter == n.me) _ _ (λ ps. find_all (flying q) ps ≡ []) (λ v. refl) (λ v. refl))
     (cond_both (deleter == n.me) _ _ (λ (m : Node). section_at q m.sections ≡ section_at q n.sections) (λ v. refl) (λ v. refl)))
     (λ w. nothing refl refl refl refl refl refl)
 
-acts_purged : (K : Name → ℕ → Type 0) (i from : ℕ) (n : Node) (name q : Name) → let o = purged from name n in Acts K q i None None n o.node o.posts
+acts_purged : (K : Name → ℕ → Type 0) (i from : ℕ) (n : Node) (name q : Name) → let o = takes_purged from name n in Acts K q i None None n o.node o.posts
 acts_purged K i from n name q =
-    acts_if K q i None None n ((lease_of n name).missing from) _ _
-    (λ w. acts_purged_by K i n name (lease_of n name).stage (lease_purged n.nodes from (lease_of n name)) q) (λ w. nothing refl refl refl refl refl refl)
+    acts_if K q i None None n ((lifetime_of n name).missing from) _ _
+    (λ w. acts_purged_by K i n name (lifetime_of n name).stage (lifetime_takes_purged n.nodes from (lifetime_of n name)) q) (λ w. nothing refl refl refl refl refl refl)
 
 -- rounds
 own_quiet : (n m : Node) (fold : Fold) (a : Activity) (q : Name) → home_of m q ≡ home_of n q → m.remotes q ≡ n.remotes q → m.sections ≡ n.sections
@@ -354,16 +354,16 @@ own_quiet n m fold (Waiting (ForDelete waited)) q e f g = (e, f, g)
 own_quiet n m fold (Waiting (ForRound round k)) q e f g = (e, f, g)
 
 acts_gathered : (K : Name → ℕ → Type 0) (i : ℕ) (n m : Node) (round : ℕ) (o : Option Fold) (q : Name) → home_of m q ≡ home_of n q → m.remotes q ≡ n.remotes q → m.sections ≡ n.sections
-    → let out = gathered_from round o m in Acts K q i None None n out.node out.posts
+    → let out = after_part_of round o m in Acts K q i None None n out.node out.posts
 acts_gathered K i n m round None q e f g = nothing refl refl e f refl (ap (λ x. section_at q x) g)
 acts_gathered K i n m round (Some fold) q e f g =
     let same = own_quiet n m fold m.activity q e f g in nothing refl refl same.0 same.1 (results_quiet m q 1 (m.nodes - 1) round fold) (ap (λ x. section_at q x) same.2)
 
-acts_come : (K : Name → ℕ → Type 0) (i from : ℕ) (n : Node) (part : Part) (q : Name) → let o = come from part n in Acts K q i None None n o.node o.posts
+acts_come : (K : Name → ℕ → Type 0) (i from : ℕ) (n : Node) (part : Part) (q : Name) → let o = takes_part from part n in Acts K q i None None n o.node o.posts
 acts_come K i from n part q =
     acts_if K q i None None n (awaits from n.gathering) _ _ (λ w. acts_gathered K i n _ n.gathering.round (gathers n.nodes from part n.gathering).fold q refl refl refl) (λ w. nothing refl refl refl refl refl refl)
 
-acts_result : (K : Name → ℕ → Type 0) (i : ℕ) (n : Node) (round : ℕ) (fold : Fold) (a : Activity) (q : Name) → let o = result round fold a n in Acts K q i None None n o.node o.posts
+acts_result : (K : Name → ℕ → Type 0) (i : ℕ) (n : Node) (round : ℕ) (fold : Fold) (a : Activity) (q : Name) → let o = takes_result round fold a n in Acts K q i None None n o.node o.posts
 acts_result K i n round fold Free q = nothing refl refl refl refl refl refl
 acts_result K i n round fold (Ready answer) q = nothing refl refl refl refl refl refl
 acts_result K i n round fold (Waiting (ForSection waited)) q = nothing refl refl refl refl refl refl
@@ -373,23 +373,23 @@ acts_result K i n round fold (Waiting (ForRound waited k)) q = acts_if K q i Non
 
 -- Any message that goes between the home and another node, where it is about copies, and passes the tests.
 pub acts_message : (K : Name → ℕ → Type 0) (i : ℕ) (d : Name → List ℕ) (from : ℕ) (k : Kind) (n : Node) → Goes from i k → Passes from k n → Tells K k → Local i d n
-    → (q : Name) → let o = handled from k n in Acts K q i (flying q (record { sender = from; addressee = i; kind = k })) None n o.node o.posts
-unfolding handled remote_recalled remote_yields
+    → (q : Name) → let o = node_handles from k n in Acts K q i (flying q (record { sender = from; addressee = i; kind = k })) None n o.node o.posts
+unfolding node_handles remote_takes_recall remote_takes_yield
 acts_message K i d from (kind.InfoAsk name) n goes passes tells l q = acts_info_asked K i from n name q
 acts_message K i d from (kind.InfoIs name t) n goes passes tells l q = acts_info_is K i d n name t n.activity refl l tells q
 acts_message K i d from (kind.Ask name write have) n goes passes tells l q = acts_asked K i d from n name write have goes passes l (home_of n name) refl q
 acts_message K i d from (kind.Grant name version what) n goes passes tells l q = acts_granted K i d from n name version what goes l passes (n.remotes name) refl q
 acts_message K i d from (kind.Recall name version) n goes passes tells l q =
-    acts_called K i d from n name (Recall version) (remote_recalled version) goes l (λ size. refl) (λ r. recalled_same version r) (λ r c. (recalled_goes version r c).size) (λ g rest took. region.recall_comes i version rest (eqb-false i name.home goes.1) took) (n.remotes name) refl q
+    acts_called K i d from n name (Recall version) (remote_takes_recall version) goes l (λ size. refl) (λ r. recalled_same version r) (λ r c. (recalled_goes version r c).size) (λ g rest took. region.recall_comes i version rest (eqb-false i name.home goes.1) took) (n.remotes name) refl q
 acts_message K i d from (kind.Return name version bytes) n goes passes tells l q = acts_returned K i d from n name version bytes goes passes l (home_of n name) refl q
-acts_message K i d from (kind.DeleteAsk name) n goes passes tells l q = acts_delete_asked K i from n name (lease_of n name).stage q
+acts_message K i d from (kind.DeleteAsk name) n goes passes tells l q = acts_delete_asked K i from n name (lifetime_of n name).stage q
 acts_message K i d from (kind.DeleteIs name t) n goes passes tells l q = acts_delete_is K i n name t n.activity q
 acts_message K i d from (kind.Purge name) n goes passes tells l q =
-    let o = purged_over name (n.maps name) n in
-    acts_sending K q i None None n o.node o.posts (message n from (kind.Purged name)) refl (acts_purged_over K i d n name (n.maps name) refl l q)
+    let o = purge_over name (n.maps name) n in
+    acts_sending K q i None None n o.node o.posts (message_to n from (kind.Purged name)) refl (acts_purged_over K i d n name (n.maps name) refl l q)
 acts_message K i d from (kind.Purged name) n goes passes tells l q = acts_purged K i from n name q
 acts_message K i d from (kind.Come round part) n goes passes tells l q = acts_come K i from n part q
 acts_message K i d from (kind.Result round fold) n goes passes tells l q = acts_result K i n round fold n.activity q
 acts_message K i d from (kind.Yield name version) n goes passes tells l q =
-    acts_called K i d from n name (Yield version) (remote_yields version) goes l (λ size. refl) (λ r. yields_same version r) (λ r c. (yields_goes version r c).size) (λ g rest took. region.yield_comes i version rest (eqb-false i name.home goes.1) took) (n.remotes name) refl q
+    acts_called K i d from n name (Yield version) (remote_takes_yield version) goes l (λ size. refl) (λ r. yields_same version r) (λ r c. (yields_goes version r c).size) (λ g rest took. region.yield_comes i version rest (eqb-false i name.home goes.1) took) (n.remotes name) refl q
 acts_message K i d from (kind.Release name version bytes) n goes passes tells l q = acts_released K i d from n name version bytes goes passes l (home_of n name) refl q

@@ -1,7 +1,7 @@
 -- Messages of a list that stand at other places, and the messages of all nodes where one node's change.
 use Rattle.std.proofs.Common.{◌≡◌, ℕ, zero, suc, ◌+◌, ◌<◌, None, Some, Option, List, [], ◌∷◌, ◌++◌, refl, ap, sym, ◌∙◌, subst, append_assoc, arith}
 use Rattle.crl_protocol.specs.Parcels.{Piece}
-use Rattle.crl_protocol.specs.Places.{picks, Took, here, there, Taken, behind, take_out}
+use Rattle.crl_protocol.specs.Places.{find_all, Took, here, there, Taken, behind, take_out}
 use Rattle.crl_protocol.specs.Node.{Node}
 use Rattle.crl_protocol.specs.World.{boxes_from}
 use Rattle.crl_protocol.proofs.Growing.{append_nil}
@@ -33,11 +33,11 @@ moves_past xs ys (z ∷ zs) =
 
 -- what a selector finds
 picked_move : {A B : Type 0} (f : A → Option B) (x : A) (xs ys zs rest : List A) → Took x xs rest → Took x ys rest → (o : Option B) → f x ≡ o
-    → Moves (picks f ys) (picks f zs) → Moves (picks f xs) (picks f zs)
-picked_move f x xs ys zs rest a b None e m = subst (λ l. Moves l (picks f zs)) (sym (took_none f a e ∙ sym (took_none f b e))) m
-picked_move f x xs ys zs rest a b (Some y) e m = moved y (picks f rest) (took_some f a y e) (took_some f b y e) m
+    → Moves (find_all f ys) (find_all f zs) → Moves (find_all f xs) (find_all f zs)
+picked_move f x xs ys zs rest a b None e m = subst (λ l. Moves l (find_all f zs)) (sym (took_none f a e ∙ sym (took_none f b e))) m
+picked_move f x xs ys zs rest a b (Some y) e m = moved y (find_all f rest) (took_some f a y e) (took_some f b y e) m
 
-pub moves_picked : {A B : Type 0} (f : A → Option B) {xs ys : List A} → Moves xs ys → Moves (picks f xs) (picks f ys)
+pub moves_picked : {A B : Type 0} (f : A → Option B) {xs ys : List A} → Moves xs ys → Moves (find_all f xs) (find_all f ys)
 moves_picked f still = still
 moves_picked f (moved {xs = xs} {ys = ys} {zs = zs} x rest a b m) = picked_move f x xs ys zs rest a b (f x) refl (moves_picked f m)
 

@@ -6,7 +6,7 @@ use Rattle.crl_model.specs.declared.directory.Asked.{Asked}
 use Rattle.crl_model.specs.declared.directory.Listing.{Listing}
 use Rattle.crl_protocol.specs.Places.{at, put}
 use Rattle.crl_protocol.specs.Mail.{Mail, Grant, Recall, Yield, Letter}
-use Rattle.crl_protocol.specs.Home.{Home, Served, new_home, is_servable, is_called, calls, open_own, grant_next, grant_for, opening, posting, serve, marked, home_asked, home_returned, is_lowered, lowered, home_released, own_ask, is_empty, is_reading, home_starts, home_ends_read, home_ends_write}
+use Rattle.crl_protocol.specs.Home.{Home, HomeStep, new_home, is_servable, is_to_mark, recalls_and_yields, open_own, grant_next, grant_for, opens_own_section, posts_first, serve, with_marks, home_takes_ask, home_takes_return, is_to_lower, shared_listing, home_takes_release, own_ask, is_empty, is_reading, home_starts, home_ends_read, home_ends_write}
 use Rattle.crl_protocol.proofs.Placing.{all_append}
 use Rattle.crl_coherence.proofs.Lists.{at-put_same, at-put_other, same_or}
 
@@ -33,24 +33,24 @@ pub record Near (me count : ℕ) (h : Home) : Type 0 where
   pub listed : Listed me count h.listed
   pub queue : Queued count h.queue
 
-pub record NearServed (me count : ℕ) (s : Served) : Type 0 where
+pub record NearServed (me count : ℕ) (s : HomeStep) : Type 0 where
   pub near : Near me count s.home
   pub posts : AllByRecursion (ToOther me count) s.posts
 
 -- the copies that are called, and their marks
-calls_near : (me count m : ℕ) (listed : List (Option Listing)) (ask : Asked) → ((n : ℕ) (l : Listing) → at n listed ≡ Some l → IsOther me count (m + n)) → AllByRecursion (ToOther me count) (calls m listed ask)
+calls_near : (me count m : ℕ) (listed : List (Option Listing)) (ask : Asked) → ((n : ℕ) (l : Listing) → at n listed ≡ Some l → IsOther me count (m + n)) → AllByRecursion (ToOther me count) (recalls_and_yields m listed ask)
 calls_near me count m [] ask h = tt
 calls_near me count m (None ∷ listed) ask h = calls_near me count (m + 1) listed ask (λ n l e. subst (λ k. IsOther me count k) (omega arith) (h (suc n) l e))
 calls_near me count m (Some copy ∷ listed) ask h =
     let others = calls_near me count (m + 1) listed ask (λ n l e. subst (λ k. IsOther me count k) (omega arith) (h (suc n) l e)) in
     let first : IsOther me count m = subst (λ k. IsOther me count k) (omega arith) (h 0 copy refl) in
-    cond_both (is_called m copy ask) _ _ (AllByRecursion (ToOther me count)) (λ w. ((call_mail ask.write, first), others)) (λ w. others)
+    cond_both (is_to_mark m copy ask) _ _ (AllByRecursion (ToOther me count)) (λ w. ((call_mail ask.write, first), others)) (λ w. others)
   where
     call_mail : (b : Bool) → OfHome (if b then Recall copy.version else Yield copy.version)
     call_mail true = tt
     call_mail false = tt
 
-was_listed : (m : ℕ) (listed : List (Option Listing)) (ask : Asked) (n : ℕ) (l : Listing) → at n (marked m listed ask) ≡ Some l → (k : Listing) × (at n listed ≡ Some k)
+was_listed : (m : ℕ) (listed : List (Option Listing)) (ask : Asked) (n : ℕ) (l : Listing) → at n (with_marks m listed ask) ≡ Some l → (k : Listing) × (at n listed ≡ Some k)
 was_listed m [] ask n l e = cc
 was_listed m (None ∷ listed) ask zero l e = cc
 was_listed m (None ∷ listed) ask (suc n) l e = was_listed (m + 1) listed ask n l e
@@ -70,9 +70,9 @@ gone_near me count n listed h m l e = elim (same_or m n) [
 ]
 
 -- Serve
-near_next : (me count : ℕ) (h : Home) (ask : Asked) (opened granted blocked : Served) (b c : Bool) → (ask.node == me) ≡ c → ask.node < count → NearServed me count opened
+near_next : (me count : ℕ) (h : Home) (ask : Asked) (opened granted blocked : HomeStep) (b c : Bool) → (ask.node == me) ≡ c → ask.node < count → NearServed me count opened
     → (c ≡ false → NearServed me count granted) → NearServed me count blocked
-    → NearServed me count (if b then (if c then opening opened else posting (grant_for h ask) granted) else blocked)
+    → NearServed me count (if b then (if c then opens_own_section opened else posts_first (grant_for h ask) granted) else blocked)
 near_next me count h ask o g blocked true true e f a k w = record { near = a.near; posts = a.posts }
 near_next me count h ask o g blocked true false e f a k w = let n = k refl in record { near = n.near; posts = ((tt, (f, e)), n.posts) }
 near_next me count h ask o g blocked false c e f a k w = w
@@ -89,22 +89,22 @@ near_serve me count h (ask ∷ queue) listed q =
         → NearServed me count (serve me (grant_next h ask) queue)
     granted rest go other = go (put_near me count ask.node _ h.listed (q.0, other) listed) rest
 
-pub near_asked : (me count : ℕ) (ask : Asked) (h : Home) → ask.node < count → Near me count h → NearServed me count (home_asked me ask h)
-unfolding home_asked
+pub near_asked : (me count : ℕ) (ask : Asked) (h : Home) → ask.node < count → Near me count h → NearServed me count (home_takes_ask me ask h)
+unfolding home_takes_ask
 near_asked me count ask h few n = near_serve me count h (h.queue ++ ask ∷ []) n.listed (all_append (λ (a : Asked). a.node < count) h.queue (ask ∷ []) n.queue (few, tt))
 
-pub near_returned : (me count k : ℕ) (bytes : Option (List ℕ)) (h : Home) → Near me count h → NearServed me count (home_returned me k bytes h)
-unfolding home_returned
+pub near_returned : (me count k : ℕ) (bytes : Option (List ℕ)) (h : Home) → Near me count h → NearServed me count (home_takes_return me k bytes h)
+unfolding home_takes_return
 near_returned me count k bytes h n = near_serve me count _ h.queue (gone_near me count k h.listed n.listed) n.queue
 
-lowered_near : (me count k version : ℕ) (bytes : List ℕ) (h : Home) (o : Option Listing) → at k h.listed ≡ o → is_lowered version o ≡ true → Near me count h → Listed me count (put k (Some (lowered version)) h.listed)
+lowered_near : (me count k version : ℕ) (bytes : List ℕ) (h : Home) (o : Option Listing) → at k h.listed ≡ o → is_to_lower version o ≡ true → Near me count h → Listed me count (put k (Some (shared_listing version)) h.listed)
 lowered_near me count k version bytes h None e w n = cc
-lowered_near me count k version bytes h (Some l) e w n = put_near me count k (lowered version) h.listed (n.listed k l e) n.listed
+lowered_near me count k version bytes h (Some l) e w n = put_near me count k (shared_listing version) h.listed (n.listed k l e) n.listed
 
-pub near_released : (me count k version : ℕ) (bytes : List ℕ) (h : Home) → Near me count h → NearServed me count (home_released me k version bytes h)
-unfolding home_released
+pub near_released : (me count k version : ℕ) (bytes : List ℕ) (h : Home) → Near me count h → NearServed me count (home_takes_release me k version bytes h)
+unfolding home_takes_release
 near_released me count k version bytes h n =
-    cond_both (is_lowered version (at k h.listed)) _ _ (NearServed me count)
+    cond_both (is_to_lower version (at k h.listed)) _ _ (NearServed me count)
     (λ w. near_serve me count _ h.queue (lowered_near me count k version bytes h (at k h.listed) refl w n) n.queue) (λ w. record { near = n; posts = tt })
 
 pub near_starts : (me count : ℕ) (write : Bool) (h : Home) → me < count → Near me count h → NearServed me count (home_starts me write h)

@@ -7,8 +7,8 @@ use Rattle.crl_model.specs.declared.message.Kind.{Kind}
 use Rattle.crl_model.specs.declared.message.Kind.TheVariants as kind
 use Rattle.crl_pieces.specs.Pieces.{Cell, left_from}
 use Rattle.crl_protocol.specs.Parcels.{Piece, piece_of}
-use Rattle.crl_protocol.specs.Places.{picks, Took, here, there}
-use Rattle.crl_protocol.specs.World.{World, boxed}
+use Rattle.crl_protocol.specs.Places.{find_all, Took, here, there}
+use Rattle.crl_protocol.specs.World.{World, pieces_in_boxes}
 use Rattle.crl_flight.specs.Flight.{Moves, still, moved, Under, left_of, lefts, IsUnder, messages_of}
 use Rattle.crl_coherence.specs.Region.{Flying}
 use Rattle.crl_coherence.proofs.Lists.{picked_none}
@@ -73,17 +73,17 @@ past_under count (u ∷ us) h p =
     let k = all_parts (Past count) (left_of u) (lefts us) p in (past_left count u.message (length u.cells) 0 u.cells k.0 h.0.1, past_under count us h.1 k.1)
 
 quiet_past : (w : World) (drafts : ℕ → Name → List ℕ) (arrays : Name → List ℕ) (us vs : List Under) (lost : List Piece) (q : Name) → Whole w drafts arrays us lost → AllFair w.count (λ p. table_of p w) (messages_of vs)
-    → AllByRecursion (λ (u : Under). w.count ≤ u.message.addressee) vs → picks (flying q) (messages_of vs) ≡ []
+    → AllByRecursion (λ (u : Under). w.count ≤ u.message.addressee) vs → find_all (flying q) (messages_of vs) ≡ []
 quiet_past w drafts arrays us [] lost q k f p = refl
 quiet_past w drafts arrays us (v ∷ vs) lost q k f p =
-    picked_none (flying q v.message) (picks (flying q) (messages_of vs)) (none (flying q v.message) refl) ∙ quiet_past w drafts arrays us vs lost q k f.1 p.1
+    picked_none (flying q v.message) (find_all (flying q) (messages_of vs)) (none (flying q v.message) refl) ∙ quiet_past w drafts arrays us vs lost q k f.1 p.1
   where
     none : (o : Option Flying) → flying q v.message ≡ o → flying q v.message ≡ None
     none None e = e
     none (Some g) e = absurd (let few = reaches w drafts arrays us lost q v.message v.message.kind k f.0 g e in let past = p.0 in omega arith)
 
 -- no piece is in a box: no mail about copies is under way
-pub quiet : (w : World) (drafts : ℕ → Name → List ℕ) (arrays : Name → List ℕ) (us : List Under) (lost : List Piece) → Whole w drafts arrays us lost → boxed w ≡ [] → (q : Name) → picks (flying q) (messages_of us) ≡ []
+pub quiet : (w : World) (drafts : ℕ → Name → List ℕ) (arrays : Name → List ℕ) (us : List Under) (lost : List Piece) → Whole w drafts arrays us lost → pieces_in_boxes w ≡ [] → (q : Name) → find_all (flying q) (messages_of us) ≡ []
 quiet w drafts arrays us lost k none q =
     quiet_past w drafts arrays us us lost q k k.fair
     (past_under w.count us k.flies.each (all_moved (Past w.count) (subst (λ b. Moves (lefts us) (b ++ lost)) none k.flies.boxed) k.strays))

@@ -10,14 +10,14 @@ use Rattle.crl_model.specs.declared.message.Message.{Message}
 use Rattle.crl_protocol.specs.Parcels.{Piece}
 use Rattle.crl_flight.specs.Flight.{Moves, still, Under, IsFlight, messages_of}
 use Rattle.crl_flight.proofs.Flying.{flight_as, carried_fly}
-use Rattle.crl_protocol.specs.Places.{at, picks, Taken, take_out}
+use Rattle.crl_protocol.specs.Places.{at, find_all, Taken, take_out}
 use Rattle.crl_protocol.specs.Home.{Home}
 use Rattle.crl_protocol.specs.Remote.{Remote}
 use Rattle.crl_protocol.specs.Sections.{section_at}
 use Rattle.crl_protocol.specs.Node.{new_node, home_of}
 use Rattle.crl_protocol.specs.Chosen.{Running, goes_on}
 use Rattle.crl_protocol.specs.Laws.{AreStatements, node_of}
-use Rattle.crl_protocol.specs.World.{World, new_world, boxed, boxes_from, handled_at, carried, step, is_enabled, IsRunFrom, world_after}
+use Rattle.crl_protocol.specs.World.{World, new_world, pieces_in_boxes, boxes_from, handles_at, carries, step, is_enabled, IsRunFrom, world_after}
 use Rattle.crl_protocol.proofs.Fitting.{Fits}
 use Rattle.crl_protocol.proofs.Placing.{all_append}
 use Rattle.crl_protocol.proofs.Sound.{Sound, sound_start, sound_event}
@@ -35,7 +35,7 @@ use Rattle.crl_regions.proofs.Steps.{Grows, all_grown}
 use Rattle.crl_regions.proofs.Events.{GoneOn, nothing_on, is_freed, call_on, collect_on, handle_on}
 
 carry_on : (w : World) (drafts later : ℕ → Name → List ℕ) (arrays : Name → List ℕ) (us : List Under) (lost : List Piece) (i place : ℕ) (e : Event) (t : Taken Piece) → i < w.count → take_out place (w.nodes i).outbox ≡ Some t → Whole w drafts arrays us lost
-    → ((j : ℕ) → Fits j ((carried i e (Some t) w).world.nodes j) (later j)) → GoneOn w (carried i e (Some t) w).world us later arrays arrays
+    → ((j : ℕ) → Fits j ((carries i e (Some t) w).world.nodes j) (later j)) → GoneOn w (carries i e (Some t) w).world us later arrays arrays
 carry_on w drafts later arrays us lost i place e t few out k fits = record {
   under = us;
   lost = moves.0;
@@ -58,7 +58,7 @@ carry_on w drafts later arrays us lost i place e t few out k fits = record {
 }
   where
     v : World
-    v = (carried i e (Some t) w).world
+    v = (carries i e (Some t) w).world
 
     before : Name → Option Home
     before = λ q. table_of q w
@@ -72,7 +72,7 @@ carry_on w drafts later arrays us lost i place e t few out k fits = record {
     was : (q : Name) (h : Home) → table_of q v ≡ Some h → table_of q w ≡ Some h
     was q h there = sym (table_carried q i e t w q.home) ∙ there
 
-    moves : (gone : List Piece) × AreLost w.count gone × Moves (boxed w ++ lost) (boxed v ++ gone)
+    moves : (gone : List Piece) × AreLost w.count gone × Moves (pieces_in_boxes w ++ lost) (pieces_in_boxes v ++ gone)
     moves = boxes_move i place e t w lost few out k.strays
 
     ran : (q : Name) (h : Home) → Run q.home (sight q h w.nodes (messages_of us) (arrays q)) (sight q h v.nodes (messages_of us) (arrays q))
@@ -92,12 +92,12 @@ abbrev drafts_after : World → (ℕ → Name → List ℕ) → Event → ℕ �
 drafts_after w drafts e j = ((goes_on (node_of e) e (running_at w drafts)).actors j).drafts
 
 handled_on : (w : World) (drafts later : ℕ → Name → List ℕ) (arrays : Name → List ℕ) (us : List Under) (lost : List Piece) (i place : ℕ) (e : Event) (o : Option (Taken Piece)) → i < w.count → take_out place (w.nodes i).inbox ≡ o → Whole w drafts arrays us lost
-    → ((j : ℕ) → Fits j ((handled_at i e o w).world.nodes j) (later j)) → (ds : ℕ → Name → List ℕ) × GoneOn w (handled_at i e o w).world us ds arrays arrays
+    → ((j : ℕ) → Fits j ((handles_at i e o w).world.nodes j) (later j)) → (ds : ℕ → Name → List ℕ) × GoneOn w (handles_at i e o w).world us ds arrays arrays
 handled_on w drafts later arrays us lost i place e None few out k fits = (drafts, nothing_on w drafts arrays us lost k)
 handled_on w drafts later arrays us lost i place e (Some t) few out k fits = (later, handle_on w drafts later arrays us lost i place e t few out k fits)
 
 carried_on : (w : World) (drafts later : ℕ → Name → List ℕ) (arrays : Name → List ℕ) (us : List Under) (lost : List Piece) (i place : ℕ) (e : Event) (o : Option (Taken Piece)) → i < w.count → take_out place (w.nodes i).outbox ≡ o → Whole w drafts arrays us lost
-    → ((j : ℕ) → Fits j ((carried i e o w).world.nodes j) (later j)) → (ds : ℕ → Name → List ℕ) × GoneOn w (carried i e o w).world us ds arrays arrays
+    → ((j : ℕ) → Fits j ((carries i e o w).world.nodes j) (later j)) → (ds : ℕ → Name → List ℕ) × GoneOn w (carries i e o w).world us ds arrays arrays
 carried_on w drafts later arrays us lost i place e None few out k fits = (drafts, nothing_on w drafts arrays us lost k)
 carried_on w drafts later arrays us lost i place e (Some t) few out k fits = (later, carry_on w drafts later arrays us lost i place e t few out k fits)
 
@@ -181,7 +181,7 @@ under_way w drafts arrays us lost k = record { lost = lost; strays = k.strays; f
 pub coherent_in_runs : (count capacity : ℕ) (es : List Event) → IsRunFrom (new_world count capacity) es
     → (us : List Under) × UnderWay (world_after (new_world count capacity) es) us × ((q : Name) (h : Home) → table_of q (world_after (new_world count capacity) es) ≡ Some h
     → IsCoherent q.home (view q (array_from q (new_world count capacity) es []) (messages_of us) (world_after (new_world count capacity) es)))
-    × (boxed (world_after (new_world count capacity) es) ≡ [] → (q : Name) → picks (flying q) (messages_of us) ≡ [])
+    × (pieces_in_boxes (world_after (new_world count capacity) es) ≡ [] → (q : Name) → find_all (flying q) (messages_of us) ≡ [])
 coherent_in_runs count capacity es run =
     let start = new_world count capacity in
     let k = run_on start (λ i p. []) (λ p. []) [] [] es run (whole_start count capacity) in
@@ -208,7 +208,7 @@ events_in_runs count capacity es e run may =
 
 -- A step of what is under way, whatever it is: so it is carried along a run.
 pub step_in_runs : (count capacity : ℕ) (es : List Event) (e : Event) (us : List Under) (lost : List Piece) → IsRunFrom (new_world count capacity) es → is_enabled e (world_after (new_world count capacity) es) ≡ true
-    → let w = world_after (new_world count capacity) es in AreLost w.count lost → IsFlight us (boxed w ++ lost) (λ i. (w.nodes i).parcels) → AllFair w.count (λ q. table_of q w) (messages_of us)
+    → let w = world_after (new_world count capacity) es in AreLost w.count lost → IsFlight us (pieces_in_boxes w ++ lost) (λ i. (w.nodes i).parcels) → AllFair w.count (λ q. table_of q w) (messages_of us)
     → ((q : Name) (h : Home) → table_of q w ≡ Some h → IsCoherent q.home (sight q h w.nodes (messages_of us) (array_from q (new_world count capacity) es [])))
     → Later w us e (λ q. array_from q (new_world count capacity) es [])
 step_in_runs count capacity es e us lost run may strays flies fair coherent =

@@ -8,10 +8,10 @@ use Rattle.crl_model.specs.declared.directory.Section.{Section}
 use Rattle.crl_model.specs.declared.directory.Section.TheVariants as section
 use Rattle.crl_model.specs.declared.directory.Asked.{Asked}
 use Rattle.crl_model.specs.Names.{name_eq}
-use Rattle.crl_protocol.specs.Home.{Home, Served, home_starts}
-use Rattle.crl_protocol.specs.Remote.{Remote, Moved, remote_starts}
+use Rattle.crl_protocol.specs.Home.{Home, HomeStep, home_starts}
+use Rattle.crl_protocol.specs.Remote.{Remote, RemoteStep, remote_starts}
 use Rattle.crl_protocol.specs.Node.{Node, Free, COUNT_LIMIT, is_mine, home_of, with_remote, section_opens}
-use Rattle.crl_protocol.specs.Sectioning.{copy_bytes, home_start, remote_start, starts_remote, starts_home, starts}
+use Rattle.crl_protocol.specs.Sectioning.{copy_bytes, starts_at_home, starts_elsewhere, starts_over_remote, starts_over_home, starts}
 use Rattle.crl_protocol.specs.Sections.{section_at}
 use Rattle.crl_protocol.specs.Verdict.{of_start, of_end, of_open}
 use Rattle.crl_protocol.proofs.Fitting.{by_name, name_self, NoOwn, QueueFits, AskingFits, IsCached, Fits}
@@ -63,13 +63,13 @@ pub here_is : (i : ℕ) (d : Name → List ℕ) (n : Node) (name : Name) (r : Re
 here_is i d n name r e l = sym (ap (λ o. expected o (n.remotes name)) (no_table i d n name r e l.fits) ∙ ap (λ o. expected None o) e) ∙ l.agrees name
 
 -- An event at the home, and at another node, over the region as it is.
-pub home_event : (me k : ℕ) (h : Home) (step : ℕ → Home → Served) (g : Region) (rest : List Flying) (array : List ℕ) → me ≡ k → g.home ≡ h
+pub home_event : (me k : ℕ) (h : Home) (step : ℕ → Home → HomeStep) (g : Region) (rest : List Flying) (array : List ℕ) → me ≡ k → g.home ≡ h
     → Happens k g (record (at_home (step k g.home) rest g) { array = array }) → Happens k g (record (at_home (step me h) rest g) { array = array })
 home_event me k h step g rest array e at_h happens =
     subst (λ x. Happens k g (record (at_home (step me x) rest g) { array = array })) at_h
     (subst (λ x. Happens k g (record (at_home (step x g.home) rest g) { array = array })) (sym e) happens)
 
-pub side_event : (k i : ℕ) (r : Remote) (step : Remote → Moved) (g : Region) (rest : List Flying) (array : List ℕ) → g.remotes i ≡ r
+pub side_event : (k i : ℕ) (r : Remote) (step : Remote → RemoteStep) (g : Region) (rest : List Flying) (array : List ℕ) → g.remotes i ≡ r
     → Happens k g (record (at_remote i (step (g.remotes i)) rest g) { array = array }) → Happens k g (record (at_remote i (step r) rest g) { array = array })
 side_event k i r step g rest array at_i happens = subst (λ x. Happens k g (record (at_remote i (step x) rest g) { array = array })) at_i happens
 
@@ -110,7 +110,7 @@ count_begun false section.Writing may = tt
 
 -- The start of a section at the home.
 start_home : (K : Name → ℕ → Type 0) (i : ℕ) (d : Name → List ℕ) (n : Node) (write : Bool) (name : Name) (h : Home) → home_of (free n) name ≡ Some h → MayStart write (section_at name n.sections) → Local i d (free n)
-    → (q : Name) → let o = home_start write name (home_starts n.me write h) (free n) in Acts K q i None None (free n) o.node o.posts
+    → (q : Name) → let o = starts_at_home write name (home_starts n.me write h) (free n) in Acts K q i None None (free n) o.node o.posts
 unfolding section_opens
 start_home K i d n write name h e may l =
     let f = l.fits in
@@ -128,7 +128,7 @@ start_home K i d n write name h e may l =
     let near : (count : ℕ) → i < count → FromNear count None → Near name.home count h → Near name.home count s.home =
     λ count few c k. subst (λ x. Near x count s.home) me (near_starts n.me count write h (subst (λ x. x < count) (sym f.me) few) (subst (λ x. Near x count h) (sym me) k)).near in
     let noted = noted_begun write name s.home.bytes n.sections in
-    by_name name (λ b q. let o = home_start write name s (free n) in Acts K q i None None (free n) o.node o.posts)
+    by_name name (λ b q. let o = starts_at_home write name s (free n) in Acts K q i None None (free n) o.node o.posts)
     (acts_if K name i None None (free n) s.opened _ _
     (λ w. home_here K name i None None (free n) _ h s e refl refl goes.size (open_now.0 w ∙ ap (λ x. begun write x) mine ∙ sym noted) (subst (λ x. CountFits x) (sym noted) (count_begun write _ may)) near happens)
     (λ w. home_here K name i None None (free n) _ h s e refl refl goes.size (open_now.1 w ∙ mine) (l.counts name) near happens))
@@ -138,7 +138,7 @@ start_home K i d n write name h e may l =
 
 -- and at another node
 start_side : (K : Name → ℕ → Type 0) (i : ℕ) (d : Name → List ℕ) (n : Node) (write : Bool) (name : Name) (r : Remote) → n.remotes name ≡ Some r → MayStart write (section_at name n.sections) → Local i d (free n)
-    → (q : Name) → let o = remote_start write name (remote_starts write r) (free n) in Acts K q i None None (free n) o.node o.posts
+    → (q : Name) → let o = starts_elsewhere write name (remote_starts write r) (free n) in Acts K q i None None (free n) o.node o.posts
 unfolding section_opens
 start_side K i d n write name r e may l =
     let f = l.fits in
@@ -155,7 +155,7 @@ start_side K i d n write name r e may l =
     (ap (λ (x : Remote). x.asking) at_i ∙ idle) (ap (λ (x : Remote). x.size) at_i ∙ sized))) in
     let size = (serving.remote_start write r).size in
     let noted = noted_begun write name (copy_bytes s.remote.copy) n.sections in
-    by_name name (λ b q. let o = remote_start write name s (free n) in Acts K q i None None (free n) o.node o.posts)
+    by_name name (λ b q. let o = starts_elsewhere write name s (free n) in Acts K q i None None (free n) o.node o.posts)
     (acts_if K name i None None (free n) s.opened _ _
     (λ w. moved_here K name i None None (free n) _ r s e put refl f.me other_home (open_now.0 w ∙ ap (λ x. begun write x) here ∙ sym noted) (subst (λ x. CountFits x) (sym noted) (count_begun write _ may)) size happens)
     (λ w. moved_here K name i None None (free n) _ r s e put refl f.me other_home (open_now.1 w ∙ here) (l.counts name) size happens))
@@ -170,10 +170,10 @@ acts_start K i d n write name v l = at_home_or (home_of (free n) name) refl
     may : MayStart write (section_at name n.sections)
     may = may_start write (section_at name n.sections) (l.counts name) v
 
-    at_side_or : (o : Option Remote) → n.remotes name ≡ o → (q : Name) → let o = starts_remote write name o (free n) in Acts K q i None None (free n) o.node o.posts
+    at_side_or : (o : Option Remote) → n.remotes name ≡ o → (q : Name) → let o = starts_over_remote write name o (free n) in Acts K q i None None (free n) o.node o.posts
     at_side_or None e q = nothing refl refl refl refl refl refl
     at_side_or (Some r) e q = start_side K i d n write name r e may l q
 
-    at_home_or : (o : Option Home) → home_of (free n) name ≡ o → (q : Name) → let o = starts_home write name o (free n) in Acts K q i None None (free n) o.node o.posts
+    at_home_or : (o : Option Home) → home_of (free n) name ≡ o → (q : Name) → let o = starts_over_home write name o (free n) in Acts K q i None None (free n) o.node o.posts
     at_home_or None e q = at_side_or (n.remotes name) refl q
     at_home_or (Some h) e q = start_home K i d n write name h e may l q

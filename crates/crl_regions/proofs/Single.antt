@@ -11,16 +11,16 @@ use Rattle.crl_model.specs.declared.message.Kind.{Kind}
 use Rattle.crl_model.specs.declared.message.Kind.TheVariants as kind
 use Rattle.crl_protocol.specs.Parcels.{load_of, Load, OfGrant, OfReturn, OfRelease, Key, key_in, key_of}
 use Rattle.crl_protocol.specs.Receiving.{remote_size, home_size, size_for}
-use Rattle.crl_protocol.specs.Places.{at, picks, Took, here, there}
-use Rattle.crl_protocol.specs.Mail.{Mail, Ask, Grant, Recall, Yield, Return, Release, about}
-use Rattle.crl_protocol.specs.Home.{Home, is_listed, bytes_fit, takes_return}
-use Rattle.crl_protocol.specs.Remote.{Remote, takes_grant, asks_to_read, asks_to_write}
+use Rattle.crl_protocol.specs.Places.{at, find_all, Took, here, there}
+use Rattle.crl_protocol.specs.Mail.{Mail, Ask, Grant, Recall, Yield, Return, Release, kind_about}
+use Rattle.crl_protocol.specs.Home.{Home, is_listed, bytes_fit, return_fits}
+use Rattle.crl_protocol.specs.Remote.{Remote, grant_fits, asks_to_read, asks_to_write}
 use Rattle.crl_protocol.specs.Node.{Node, home_of}
 use Rattle.crl_flight.specs.Flight.{Under, is_key, is_at, messages_of}
 use Rattle.crl_flight.proofs.Loads.{key_same}
 use Rattle.crl_flight.specs.Coming.{Alone}
 use Rattle.crl_coherence.specs.Region.{Flying, Region, flies}
-use Rattle.crl_coherence.specs.Kept.{Freed, Pair, IsKept, pair_of, of_node, granted_in, returned_in, released_in, HasVersion, Distinct}
+use Rattle.crl_coherence.specs.Pairs.{Freed, HomeAndNode, PairHolds, pair_of, of_node, granted_in, returned_in, released_in, HasVersion, Distinct}
 use Rattle.crl_coherence.specs.Coherent.{IsCoherent}
 use Rattle.crl_coherence.proofs.Lists.{NoTwo, took_some, took_all, took_nothing}
 use Rattle.crl_regions.specs.View.{mail_in, other_end, flown, flying, side, sight}
@@ -73,7 +73,7 @@ from_home name m e other f = eqb-false m.addressee name.home other (sym (cond-tr
 to_home : (name : Name) (m : Message) → (m.sender == name.home) ≡ false → other_end name m ≢ name.home
 to_home name m other f = eqb-false m.sender name.home other (sym (cond-false (m.sender == name.home) m.addressee m.sender other) ∙ f)
 
-facts_of : (tables : Name → Option Home) (m : Message) (key k : Key) (mail : Mail) → ◌≡◌ {A = Option Key} (Some k) (Some key) → m.kind ≡ about k.name mail → LoadMail k.load k.version mail → k.sender ≡ m.sender → other_end k.name m ≢ k.name.home → HasTable (tables k.name)
+facts_of : (tables : Name → Option Home) (m : Message) (key k : Key) (mail : Mail) → ◌≡◌ {A = Option Key} (Some k) (Some key) → m.kind ≡ kind_about k.name mail → LoadMail k.load k.version mail → k.sender ≡ m.sender → other_end k.name m ≢ k.name.home → HasTable (tables k.name)
     → KeyFacts tables m key
 facts_of tables m key k mail same e load sender other t =
     let w : k ≡ key = cc in
@@ -109,10 +109,10 @@ key_facts count tables m key (kind.Purged name) e k f = cc
 key_facts count tables m key (kind.Come round p) e k f = cc
 key_facts count tables m key (kind.Result round fold) e k f = cc
 
-grants_one : (last : ℕ) (array : List ℕ) (p : Pair) → IsKept last array p → NoTwo p.grants
+grants_one : (last : ℕ) (array : List ℕ) (p : HomeAndNode) → PairHolds last array p → NoTwo p.grants
 grants_one last array p h y z ws e = let k = h.ask in let o = h.places in grind arith
 
-returns_one : (last : ℕ) (array : List ℕ) (p : Pair) → IsKept last array p → NoTwo p.returns
+returns_one : (last : ℕ) (array : List ℕ) (p : HomeAndNode) → PairHolds last array p → NoTwo p.returns
 returns_one last array p h y z ws e = let o = h.places in grind arith
 
 -- Of one node two grants, two returns, or two releases of a version aren't under way.
@@ -132,14 +132,14 @@ clash : (me : ℕ) (g : Region) (n v : ℕ) (load : Load) (a b : Mail) (rest mor
 clash me g n v OfGrant a b rest more k other la lb t u =
     let x = of_grant v a la in let y = of_grant v b lb in
     let p = pair_of g.home.listed g.home.queue g.remotes g.flight n in
-    let one = took_all (record { version = v; what = x.0 }) (picks (of_node n granted_in) g.flight) (picks (of_node n granted_in) rest)
+    let one = took_all (record { version = v; what = x.0 }) (find_all (of_node n granted_in) g.flight) (find_all (of_node n granted_in) rest)
     (took_some (of_node n granted_in) (subst (λ m. Took (flies n m) g.flight rest) x.1 t) (record { version = v; what = x.0 }) (selected n granted_in (Grant v x.0) (record { version = v; what = x.0 }) refl))
     (grants_one g.home.last g.array p (k.loose.pairs n other)) in
     took_nothing (took_some (of_node n granted_in) (subst (λ m. Took (flies n m) rest more) y.1 u) (record { version = v; what = y.0 }) (selected n granted_in (Grant v y.0) (record { version = v; what = y.0 }) refl)) one.1
 clash me g n v OfReturn a b rest more k other la lb t u =
     let x = of_return v a la in let y = of_return v b lb in
     let p = pair_of g.home.listed g.home.queue g.remotes g.flight n in
-    let one = took_all (record { version = v; bytes = x.0 }) (picks (of_node n returned_in) g.flight) (picks (of_node n returned_in) rest)
+    let one = took_all (record { version = v; bytes = x.0 }) (find_all (of_node n returned_in) g.flight) (find_all (of_node n returned_in) rest)
     (took_some (of_node n returned_in) (subst (λ m. Took (flies n m) g.flight rest) x.1 t) (record { version = v; bytes = x.0 }) (selected n returned_in (Return v x.0) (record { version = v; bytes = x.0 }) refl))
     (returns_one g.home.last g.array p (k.loose.pairs n other)) in
     took_nothing (took_some (of_node n returned_in) (subst (λ m. Took (flies n m) rest more) y.1 u) (record { version = v; bytes = y.0 }) (selected n returned_in (Return v y.0) (record { version = v; bytes = y.0 }) refl)) one.1
@@ -193,24 +193,24 @@ alone_in count nodes tables arrays us fair coherent u others t key e =
         let two = key_facts count tables v.message key v.message.kind refl (key_is key (key_of v.message) h.1) (all_of_took (Fair count tables) (took_message s) parts.1).0 in
         let same : other_end key.name v.message ≡ n = end_same key.name v.message u.message (sym two.sender ∙ one.sender) (eqb-true v.message.addressee u.message.addressee h.0) in
         clash key.name.home (sight key.name one.there.0 nodes (messages_of us) (arrays key.name)) n key.version key.load one.mail two.mail
-        (picks (flying key.name) (messages_of others)) (picks (flying key.name) (messages_of rest)) (coherent key.name one.there.0 one.there.1) one.other one.load two.load
+        (find_all (flying key.name) (messages_of others)) (find_all (flying key.name) (messages_of rest)) (coherent key.name one.there.0 one.there.1) one.other one.load two.load
         (took_some (flying key.name) (took_message t) (flies n one.mail) one.is)
-        (subst (λ j. Took (flies j two.mail) (picks (flying key.name) (messages_of others)) (picks (flying key.name) (messages_of rest))) same
+        (subst (λ j. Took (flies j two.mail) (find_all (flying key.name) (messages_of others)) (find_all (flying key.name) (messages_of rest))) same
         (took_some (flying key.name) (took_message s) (flies (other_end key.name v.message) two.mail) two.is))
 
 -- Its size is known where it comes.
-shared_size : (bytes : List ℕ) (size : ℕ) (o : Option Remote) → takes_grant (Shared bytes) (side size o) ≡ true → remote_size o ≡ Some (length bytes)
+shared_size : (bytes : List ℕ) (size : ℕ) (o : Option Remote) → grant_fits (Shared bytes) (side size o) ≡ true → remote_size o ≡ Some (length bytes)
 shared_size bytes size None e = cc
 shared_size bytes size (Some r) e = let h = and_parts (asks_to_read r.asking) (length bytes == r.size) e in ap (λ x. Some x) (sym (eqb-true (length bytes) r.size h.1))
 
-exclusive_size : (bytes : List ℕ) (size : ℕ) (o : Option Remote) → takes_grant (Exclusive bytes) (side size o) ≡ true → remote_size o ≡ Some (length bytes)
+exclusive_size : (bytes : List ℕ) (size : ℕ) (o : Option Remote) → grant_fits (Exclusive bytes) (side size o) ≡ true → remote_size o ≡ Some (length bytes)
 exclusive_size bytes size None e = cc
 exclusive_size bytes size (Some r) e = let h = and_parts (asks_to_write r.asking) (length bytes == r.size) e in ap (λ x. Some x) (sym (eqb-true (length bytes) r.size h.1))
 
 home_sized : (o : Option Home) (g : Home) (len : ℕ) → o ≡ Some g → len ≡ g.size → home_size o ≡ Some len
 home_sized o g len e f = ap home_size e ∙ ap (λ x. Some x) (sym f)
 
-return_sized : (from version : ℕ) (bytes : List ℕ) (g : Home) → takes_return from version (Some bytes) g ≡ true → length bytes ≡ g.size
+return_sized : (from version : ℕ) (bytes : List ℕ) (g : Home) → return_fits from version (Some bytes) g ≡ true → length bytes ≡ g.size
 return_sized from version bytes g e = eqb-true (length bytes) g.size (and_parts (is_listed version (at from g.listed)) (bytes_fit (Some bytes) (at from g.listed) g.size) e).1
 
 pub size_known : (count i : ℕ) (tables : Name → Option Home) (n : Node) (from : ℕ) (key : Key) (x : Kind) → key_in from x ≡ Some key → FairKind count tables from i x → Passes from x n

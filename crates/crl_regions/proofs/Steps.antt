@@ -10,17 +10,17 @@ use Rattle.crl_model.specs.declared.message.Message.{Message}
 use Rattle.crl_model.specs.declared.message.Kind.{Kind}
 use Rattle.crl_model.specs.declared.message.Kind.TheVariants as kind
 use Rattle.crl_model.specs.Names.{name_eq, at_node}
-use Rattle.crl_protocol.specs.Places.{picks}
+use Rattle.crl_protocol.specs.Places.{find_all}
 use Rattle.crl_protocol.specs.Mail.{Mail}
 use Rattle.crl_protocol.specs.Home.{Home, new_home, bytes_after}
 use Rattle.crl_protocol.specs.Remote.{Remote, new_remote}
 use Rattle.crl_protocol.specs.Sections.{section_at}
 use Rattle.crl_protocol.specs.Node.{Node, Outcome, is_mine, home_of}
-use Rattle.crl_protocol.specs.World.{World, boxes_from, boxed, committed, stepped}
+use Rattle.crl_protocol.specs.World.{World, boxes_from, pieces_in_boxes, commits, steps_node}
 use Rattle.crl_protocol.proofs.Fitting.{same_name, Seen, seen, LiveFits, OwnFits, SizeIs, Fits}
 use Rattle.crl_protocol.proofs.Growing.{append_nil}
 use Rattle.crl_protocol.proofs.Placing.{all_append}
-use Rattle.crl_protocol.specs.Parcels.{Piece, Key, Gathered, pieces_in}
+use Rattle.crl_protocol.specs.Parcels.{Piece, Key, PartsGathered, pieces_in}
 use Rattle.crl_flight.specs.Flight.{Under, posted, IsFlight, messages_of}
 use Rattle.crl_flight.proofs.Orders.{moves_then, moves_before}
 use Rattle.crl_flight.proofs.Flying.{posts_fly, messages_posted, flight_as}
@@ -96,12 +96,12 @@ quiet_kind count tables q from to (kind.Purged name) none f = refl
 quiet_kind count tables q from to (kind.Come round part) none f = refl
 quiet_kind count tables q from to (kind.Result round fold) none f = refl
 
-quiet_all : (count : ℕ) (tables : Name → Option Home) (q : Name) (ms : List Message) → tables q ≡ None → AllFair count tables ms → picks (flying q) ms ≡ []
+quiet_all : (count : ℕ) (tables : Name → Option Home) (q : Name) (ms : List Message) → tables q ≡ None → AllFair count tables ms → find_all (flying q) ms ≡ []
 quiet_all count tables q [] none f = refl
 quiet_all count tables q (m ∷ ms) none f =
-    picked_none (flying q m) (picks (flying q) ms) (ap (λ o. flown (other_end q m) o) (quiet_kind count tables q m.sender m.addressee m.kind none f.0)) ∙ quiet_all count tables q ms none f.1
+    picked_none (flying q m) (find_all (flying q) ms) (ap (λ o. flown (other_end q m) o) (quiet_kind count tables q m.sender m.addressee m.kind none f.0)) ∙ quiet_all count tables q ms none f.1
 
-pub nothing_flies : (w : World) (drafts : ℕ → Name → List ℕ) (arrays : Name → List ℕ) (us : List Under) (lost : List Piece) (q : Name) → Whole w drafts arrays us lost → table_of q w ≡ None → picks (flying q) (messages_of us) ≡ []
+pub nothing_flies : (w : World) (drafts : ℕ → Name → List ℕ) (arrays : Name → List ℕ) (us : List Under) (lost : List Piece) (q : Name) → Whole w drafts arrays us lost → table_of q w ≡ None → find_all (flying q) (messages_of us) ≡ []
 nothing_flies w drafts arrays us lost q k none = quiet_all w.count (λ p. table_of p w) q (messages_of us) none k.fair
 
 moves_nothing : {A : Type 0} {xs ys : List A} → Moves xs ys → xs ≡ [] → ys ≡ []
@@ -116,15 +116,15 @@ no_side w drafts arrays us lost q j k none = go ((w.nodes j).remotes q) refl
     go (Some r) e = absurd (let t = (k.sizes j q r e).1 in cc)
 
 -- The outcome o of node i, from n on, where the message that came is taken out of the inbox.
-pub record StepFits (w : World) (after : ℕ → Name → List ℕ) (i : ℕ) (e : Event) (inbox : List Piece) (parcels : Gathered) (us left : List Under) (lost : List Piece) (o : Outcome) (came : Name → Option Flying) (written : Name → Option (List ℕ)) : Type 0 where
+pub record StepFits (w : World) (after : ℕ → Name → List ℕ) (i : ℕ) (e : Event) (inbox : List Piece) (parcels : PartsGathered) (us left : List Under) (lost : List Piece) (o : Outcome) (came : Name → Option Flying) (written : Name → Option (List ℕ)) : Type 0 where
   pub few : i < w.count
-  pub fits : (j : ℕ) → Fits j ((stepped i e o w).world.nodes j) (after j)
+  pub fits : (j : ℕ) → Fits j ((steps_node i e o w).world.nodes j) (after j)
   pub acts : (q : Name) → Acts (λ p size. (h : Home) × (table_of p w ≡ Some h) × (h.size ≡ size)) q i (came q) (written q) (record (w.nodes i) { inbox = inbox; parcels = parcels }) o.node o.posts
   pub keeps : Keeps (record (w.nodes i) { inbox = inbox; parcels = parcels }) o.node
   pub rest : AllByRecursion (λ (p : Piece). p.message.addressee ≡ i) inbox
   pub left_fair : AllFair w.count (λ q. table_of q w) (messages_of left)
   pub flies : IsFlight left (boxes_from 0 w.count (at_node w.nodes i (record (w.nodes i) { inbox = inbox; parcels = parcels })) ++ lost) (λ j. (at_node w.nodes i (record (w.nodes i) { inbox = inbox; parcels = parcels }) j).parcels)
-  pub comes : (q : Name) → Comes (came q) (picks (flying q) (messages_of us)) (picks (flying q) (messages_of left))
+  pub comes : (q : Name) → Comes (came q) (find_all (flying q) (messages_of us)) (find_all (flying q) (messages_of left))
   pub near : (q : Name) → FromNear w.count (came q)
   pub fair : (tables : Name → Option Home) → Sends i w.count (record (w.nodes i) { inbox = inbox; parcels = parcels }) tables → AllFair w.count tables o.posts
 
@@ -132,10 +132,10 @@ own_live : (b : Bool) (v : Seen) → OwnFits b v → LiveFits v.stage v.home
 own_live true v own = own.live
 own_live false v own = subst (λ s. LiveFits s v.home) (sym own.unknown) tt
 
-pub whole_stepped : (w : World) (drafts later : ℕ → Name → List ℕ) (arrays : Name → List ℕ) (i : ℕ) (e : Event) (inbox : List Piece) (parcels : Gathered) (us left : List Under) (lost : List Piece) (o : Outcome) (came : Name → Option Flying) (written : Name → Option (List ℕ))
+pub whole_stepped : (w : World) (drafts later : ℕ → Name → List ℕ) (arrays : Name → List ℕ) (i : ℕ) (e : Event) (inbox : List Piece) (parcels : PartsGathered) (us left : List Under) (lost : List Piece) (o : Outcome) (came : Name → Option Flying) (written : Name → Option (List ℕ))
     → Whole w drafts arrays us lost → StepFits w later i e inbox parcels us left lost o came written
-    → Whole (stepped i e o w).world later (λ q. bytes_after (written q) (arrays q)) (left ++ map posted o.posts) lost
-    × ((q : Name) (h : Home) → table_of q w ≡ Some h → Lifted q i (came q) w.nodes (stepped i e o w).world.nodes (messages_of us) (messages_of (left ++ map posted o.posts)) h (arrays q) (bytes_after (written q) (arrays q)))
+    → Whole (steps_node i e o w).world later (λ q. bytes_after (written q) (arrays q)) (left ++ map posted o.posts) lost
+    × ((q : Name) (h : Home) → table_of q w ≡ Some h → Lifted q i (came q) w.nodes (steps_node i e o w).world.nodes (messages_of us) (messages_of (left ++ map posted o.posts)) h (arrays q) (bytes_after (written q) (arrays q)))
 whole_stepped w drafts later arrays i e inbox parcels us left lost o came written k x = (
   record {
     fits = x.fits;
@@ -149,7 +149,7 @@ whole_stepped w drafts later arrays i e inbox parcels us left lost o came writte
         (subst (λ ms. AllByRecursion (λ (y : Piece). y.message.addressee ≡ i) ms) (sym x.keeps.0) x.rest) (λ j other. k.inbox j);
     fair = subst (λ ms. AllFair w.count after ms) (sym (messages_posted left o.posts)) (all_append (Fair w.count after) (messages_of left) o.posts (all_grown w.count before after (messages_of left) grows x.left_fair) (x.fair after sends));
     strays = k.strays;
-    flies = flight_as now (boxed v ++ lost) (λ j. (at_node w.nodes i n j).parcels) (λ j. (v.nodes j).parcels) gathered (posts_fly left (boxes_from 0 w.count (at_node w.nodes i n) ++ lost) (boxed v ++ lost) (λ j. (at_node w.nodes i n j).parcels) o.posts x.flies grown);
+    flies = flight_as now (pieces_in_boxes v ++ lost) (λ j. (at_node w.nodes i n j).parcels) (λ j. (v.nodes j).parcels) gathered (posts_fly left (boxes_from 0 w.count (at_node w.nodes i n) ++ lost) (pieces_in_boxes v ++ lost) (λ j. (at_node w.nodes i n j).parcels) o.posts x.flies grown);
     coherent = coherent_now;
   },
   lifted,
@@ -159,10 +159,10 @@ whole_stepped w drafts later arrays i e inbox parcels us left lost o came writte
     n = record (w.nodes i) { inbox = inbox; parcels = parcels }
 
     m : Node
-    m = committed w.events e o
+    m = commits w.events e o
 
     v : World
-    v = (stepped i e o w).world
+    v = (steps_node i e o w).world
 
     now : List Under
     now = left ++ map posted o.posts
@@ -196,24 +196,24 @@ whole_stepped w drafts later arrays i e inbox parcels us left lost o came writte
         ap boxes (node_here w.nodes i m) ∙ ap (λ l. l ++ (o.node.outbox ++ pieces_in o.posts)) x.keeps.0 ∙ ap (λ l. inbox ++ (l ++ pieces_in o.posts)) x.keeps.1
         ∙ sym (append_assoc inbox (w.nodes i).outbox (pieces_in o.posts)) ∙ sym (ap (λ (y : Node). boxes y ++ pieces_in o.posts) (node_here w.nodes i n))
 
-    grown : Moves ((boxes_from 0 w.count (at_node w.nodes i n) ++ lost) ++ pieces_in o.posts) (boxed v ++ lost)
+    grown : Moves ((boxes_from 0 w.count (at_node w.nodes i n) ++ lost) ++ pieces_in o.posts) (pieces_in_boxes v ++ lost)
     grown =
         let b = boxes_from 0 w.count (at_node w.nodes i n) in let ps = pieces_in o.posts in
-        subst (λ l. Moves l (boxed v ++ lost)) (sym (append_assoc b lost ps))
-        (moves_then (moves_past b lost ps) (subst (λ l. Moves l (boxed v ++ lost)) (append_assoc b ps lost)
+        subst (λ l. Moves l (pieces_in_boxes v ++ lost)) (sym (append_assoc b lost ps))
+        (moves_then (moves_past b lost ps) (subst (λ l. Moves l (pieces_in_boxes v ++ lost)) (append_assoc b ps lost)
         (moves_before lost (flight_more ps w.count i (at_node w.nodes i n) v.nodes x.few more (λ l other. ap boxes (node_there w.nodes i n l other ∙ sym (node_there w.nodes i m l other)))))))
 
     gathered : (j : ℕ) (key : Key) → (v.nodes j).parcels key ≡ (at_node w.nodes i n j).parcels key
-    gathered j key = of_node w.nodes i m (λ l (y : Node). y.parcels key ≡ (at_node w.nodes i n l).parcels key) (ap (λ (g : Gathered). g key) x.keeps.2 ∙ sym (ap (λ (y : Node). y.parcels key) (node_here w.nodes i n)))
+    gathered j key = of_node w.nodes i m (λ l (y : Node). y.parcels key ≡ (at_node w.nodes i n l).parcels key) (ap (λ (g : PartsGathered). g key) x.keeps.2 ∙ sym (ap (λ (y : Node). y.parcels key) (node_here w.nodes i n)))
         (λ l other. sym (ap (λ (y : Node). y.parcels key) (node_there w.nodes i n l other))) j
 
-    moves : (q : Name) → Moves (picks (flying q) (messages_of left) ++ picks (flying q) o.posts) (picks (flying q) (messages_of now))
+    moves : (q : Name) → Moves (find_all (flying q) (messages_of left) ++ find_all (flying q) o.posts) (find_all (flying q) (messages_of now))
     moves q =
-        subst (λ l. Moves (picks (flying q) (messages_of left) ++ picks (flying q) o.posts) l) (sym (picks-append (flying q) (messages_of left) o.posts) ∙ ap (λ l. picks (flying q) l) (sym (messages_posted left o.posts))) still
+        subst (λ l. Moves (find_all (flying q) (messages_of left) ++ find_all (flying q) o.posts) l) (sym (picks-append (flying q) (messages_of left) o.posts) ∙ ap (λ l. find_all (flying q) l) (sym (messages_posted left o.posts))) still
 
     lifted : (q : Name) (h : Home) → table_of q w ≡ Some h → Lifted q i (came q) w.nodes v.nodes (messages_of us) (messages_of now) h (arrays q) (bytes_after (written q) (arrays q))
     lifted q h there =
-        lift K q i w.nodes v.nodes n o.node (messages_of us) (messages_of now) o.posts (picks (flying q) (messages_of left)) (came q) (written q) h (arrays q)
+        lift K q i w.nodes v.nodes n o.node (messages_of us) (messages_of now) o.posts (find_all (flying q) (messages_of left)) (came q) (written q) h (arrays q)
         (outcomes q) there (sized q h there ((w.nodes i).remotes q) refl) (x.comes q) (moves q) (x.acts q)
 
     grows : Grows before after
@@ -259,7 +259,7 @@ whole_stepped w drafts later arrays i e inbox parcels us left lost o came writte
 
     -- the region was there, or it is new
     New : Name → Home → Type 0
-    New q h = (size : ℕ) × (h ≡ new_home n.nodes size) × (q.home ≡ i) × (came q ≡ None) × (written q ≡ Some (replicate size 0)) × (o.node.remotes q ≡ n.remotes q) × (picks (flying q) o.posts ≡ [])
+    New q h = (size : ℕ) × (h ≡ new_home n.nodes size) × (q.home ≡ i) × (came q ≡ None) × (written q ≡ Some (replicate size 0)) × (o.node.remotes q ≡ n.remotes q) × (find_all (flying q) o.posts ≡ [])
 
     stays_none : (q : Name) → q.home ≢ i → table_of q v ≡ table_of q w
     stays_none q other = (outcomes q).home_other q.home other
@@ -300,9 +300,9 @@ whole_stepped w drafts later arrays i e inbox parcels us left lost o came writte
     new_region q h new none =
         let sides : (j : ℕ) → new_remote new.0 ≡ side h.size ((v.nodes j).remotes q) =
         λ j. sym (ap (λ y. side h.size y) (of_node w.nodes i m (λ l y. y.remotes q ≡ None) (new.5 ∙ no_side w drafts arrays us lost q i k none) (λ l other. no_side w drafts arrays us lost q l k none) j) ∙ ap (λ (y : Home). new_remote y.size) new.1) in
-        let empty : [] ≡ picks (flying q) (messages_of now) =
-        sym (moves_nothing (moves q) (ap (λ l. picks (flying q) (messages_of left) ++ l) new.6 ∙ append_nil _
-        ∙ subst (λ c. Comes c (picks (flying q) (messages_of us)) (picks (flying q) (messages_of left))) new.3 (x.comes q) ∙ nothing_flies w drafts arrays us lost q k none)) in
+        let empty : [] ≡ find_all (flying q) (messages_of now) =
+        sym (moves_nothing (moves q) (ap (λ l. find_all (flying q) (messages_of left) ++ l) new.6 ∙ append_nil _
+        ∙ subst (λ c. Comes c (find_all (flying q) (messages_of us)) (find_all (flying q) (messages_of left))) new.3 (x.comes q) ∙ nothing_flies w drafts arrays us lost q k none)) in
         let bytes : replicate new.0 0 ≡ bytes_after (written q) (arrays q) = sym (ap (λ y. bytes_after y (arrays q)) new.4) in
         λ t. record { home = sym new.1 t; remotes = λ j. sides j t; flight = empty t; array = bytes t }
 

@@ -9,19 +9,19 @@ use Rattle.crl_model.specs.declared.directory.Asked.{Asked}
 use Rattle.crl_model.specs.declared.message.Message.{Message}
 use Rattle.crl_model.specs.declared.message.Kind.{Kind}
 use Rattle.crl_model.specs.declared.message.Kind.TheVariants as kind
-use Rattle.crl_protocol.specs.Places.{at, picks, Took}
-use Rattle.crl_protocol.specs.Mail.{Mail, Ask, Grant, Return, Release, about}
-use Rattle.crl_protocol.specs.Home.{Home, home_asked, home_returned, home_released, takes_return, takes_release}
-use Rattle.crl_protocol.specs.Remote.{Copy, Remote, takes_grant}
+use Rattle.crl_protocol.specs.Places.{at, find_all, Took}
+use Rattle.crl_protocol.specs.Mail.{Mail, Ask, Grant, Return, Release, kind_about}
+use Rattle.crl_protocol.specs.Home.{Home, home_takes_ask, home_takes_return, home_takes_release, return_fits, release_fits}
+use Rattle.crl_protocol.specs.Remote.{Copy, Remote, grant_fits}
 use Rattle.crl_protocol.specs.Sections.{section_at}
 use Rattle.crl_protocol.specs.Node.{Node, Activity, Waiting, ForSection, at_serial, home_of}
 use Rattle.crl_protocol.specs.Handlers.{is_queued, is_queued_in}
-use Rattle.crl_protocol.specs.World.{World, boxed}
+use Rattle.crl_protocol.specs.World.{World, pieces_in_boxes}
 use Rattle.crl_protocol.proofs.Fitting.{AskingFits, Fits}
-use Rattle.crl_protocol.specs.Parcels.{Piece, Gathered}
+use Rattle.crl_protocol.specs.Parcels.{Piece, PartsGathered}
 use Rattle.crl_flight.specs.Flight.{Under, IsFlight, messages_of}
 use Rattle.crl_coherence.specs.Region.{Flying, Region, flies}
-use Rattle.crl_coherence.specs.Kept.{Given, AskPlace, SectionFits, pair_of, of_node, asked_in}
+use Rattle.crl_coherence.specs.Pairs.{Given, AskPlace, SectionFits, pair_of, of_node, asked_in}
 use Rattle.crl_coherence.specs.Coherent.{IsCoherent}
 use Rattle.crl_coherence.proofs.Lists.{took_some, took_nothing}
 use Rattle.crl_coherence.proofs.Fits.{fits_grant, fits_return, fits_release, fits_ask, queued_none}
@@ -46,7 +46,7 @@ pub record Whole (w : World) (drafts : ℕ → Name → List ℕ) (arrays : Name
   pub inbox : (i : ℕ) → AllByRecursion (λ (p : Piece). p.message.addressee ≡ i) (w.nodes i).inbox
   pub fair : AllFair w.count (λ q. table_of q w) (messages_of us)
   pub strays : AreLost w.count lost
-  pub flies : IsFlight us (boxed w ++ lost) (λ i. (w.nodes i).parcels)
+  pub flies : IsFlight us (pieces_in_boxes w ++ lost) (λ i. (w.nodes i).parcels)
   pub coherent : (q : Name) (h : Home) → table_of q w ≡ Some h → IsCoherent q.home (sight q h w.nodes (messages_of us) (arrays q))
 
 pub local : (w : World) (drafts : ℕ → Name → List ℕ) (arrays : Name → List ℕ) (us : List Under) (lost : List Piece) (i : ℕ) → Whole w drafts arrays us lost → Local i (drafts i) (w.nodes i)
@@ -64,13 +64,13 @@ table_at w drafts arrays us lost i name h k e =
     let same : i ≡ name.home = sym (k.fits i).me ∙ eqb-true (w.nodes i).me name.home (home_is (w.nodes i) name h e) in (same, subst (λ j. home_of (w.nodes j) name ≡ Some h) same e)
 
 -- Mail under way is under way in the region.
-pub to_home_took : (name : Name) (m : Message) (mail : Mail) (messages rest : List Message) → m.kind ≡ about name mail → (m.sender == name.home) ≡ false → Took m messages rest
-    → Took (flies m.sender mail) (picks (flying name) messages) (picks (flying name) rest)
+pub to_home_took : (name : Name) (m : Message) (mail : Mail) (messages rest : List Message) → m.kind ≡ kind_about name mail → (m.sender == name.home) ≡ false → Took m messages rest
+    → Took (flies m.sender mail) (find_all (flying name) messages) (find_all (flying name) rest)
 to_home_took name m mail messages rest e other t =
     took_some (flying name) t (flies m.sender mail) (ap (λ k. flown k (mail_in name m.kind)) (cond-false (m.sender == name.home) m.addressee m.sender other) ∙ ap (λ o. flown m.sender o) (ap (λ k. mail_in name k) e ∙ about_here name mail))
 
-pub from_home_took : (name : Name) (m : Message) (mail : Mail) (messages rest : List Message) → m.kind ≡ about name mail → m.sender ≡ name.home → Took m messages rest
-    → Took (flies m.addressee mail) (picks (flying name) messages) (picks (flying name) rest)
+pub from_home_took : (name : Name) (m : Message) (mail : Mail) (messages rest : List Message) → m.kind ≡ kind_about name mail → m.sender ≡ name.home → Took m messages rest
+    → Took (flies m.addressee mail) (find_all (flying name) messages) (find_all (flying name) rest)
 from_home_took name m mail messages rest e home t =
     took_some (flying name) t (flies m.addressee mail)
     (ap (λ k. flown k (mail_in name m.kind)) (cond-true (m.sender == name.home) m.addressee m.sender (eq-eqb m.sender name.home home)) ∙ ap (λ o. flown m.addressee o) (ap (λ k. mail_in name k) e ∙ about_here name mail))
@@ -91,9 +91,9 @@ side_asks size None q a f = inl refl
 side_asks size (Some r) q a f = f
 
 asks_or_waits : (w : World) (drafts : ℕ → Name → List ℕ) (arrays : Name → List ℕ) (us : List Under) (lost : List Piece) (q : Name) (h : Home) (n : ℕ) → Whole w drafts arrays us lost → table_of q w ≡ Some h → n ≢ q.home
-    → let p = pair_of h.listed h.queue (λ j. side h.size ((w.nodes j).remotes q)) (picks (flying q) (messages_of us)) n in (p.pending ≡ []) ⊎ ((w.nodes n).activity ≡ Waiting (ForSection q))
+    → let p = pair_of h.listed h.queue (λ j. side h.size ((w.nodes j).remotes q)) (find_all (flying q) (messages_of us)) n in (p.pending ≡ []) ⊎ ((w.nodes n).activity ≡ Waiting (ForSection q))
 asks_or_waits w drafts arrays us lost q h n k there other =
-    let p = pair_of h.listed h.queue (λ j. side h.size ((w.nodes j).remotes q)) (picks (flying q) (messages_of us)) n in
+    let p = pair_of h.listed h.queue (λ j. side h.size ((w.nodes j).remotes q)) (find_all (flying q) (messages_of us)) n in
     elim (side_asks h.size ((w.nodes n).remotes q) q (w.nodes n).activity ((k.fits n).each q).asking) [
       | inl none ↦ inl (idle_place p.remote.asking p.pending p.grants ((k.coherent q h there).loose.pairs n other).ask none)
       | inr waits ↦ inr waits
@@ -110,7 +110,7 @@ serial_at s xs =
     let e : s + 1 - 1 ≡ s = omega arith in cond-false (s + 1 == 0) None (at (s + 1 - 1) xs) (ne_eqb (s + 1) 0 (λ w. omega arith)) ∙ ap (λ m. at m xs) e
 
 pub none_queued : (w : World) (drafts : ℕ → Name → List ℕ) (arrays : Name → List ℕ) (us : List Under) (lost : List Piece) (i : ℕ) (name : Name) (h : Home) (n : ℕ) (write : Bool) (have : ℕ) (rest : List Flying) → Whole w drafts arrays us lost → table_of name w ≡ Some h → name.home ≡ i → n ≢ name.home
-    → Took (flies n (Ask write have)) (picks (flying name) (messages_of us)) rest → is_queued_in n (w.nodes i).homes ≡ false
+    → Took (flies n (Ask write have)) (find_all (flying name) (messages_of us)) rest → is_queued_in n (w.nodes i).homes ≡ false
 none_queued w drafts arrays us lost i name h n write have rest k there at_i other took = queued_in n (w.nodes i).homes each
   where
     waits : (w.nodes n).activity ≡ Waiting (ForSection name)
@@ -141,7 +141,7 @@ section_idle (section.Reading count) (Some c) w f = absurd f
 section_idle section.Writing None w f = absurd f
 section_idle section.Writing (Some c) w f = absurd f
 
-pub passes : (w : World) (drafts : ℕ → Name → List ℕ) (arrays : Name → List ℕ) (us : List Under) (lost : List Piece) (i : ℕ) (m : Message) (inbox : List Piece) (parcels : Gathered) (rest : List Message) → Whole w drafts arrays us lost → m.addressee ≡ i → Fair w.count (λ q. table_of q w) m
+pub passes : (w : World) (drafts : ℕ → Name → List ℕ) (arrays : Name → List ℕ) (us : List Under) (lost : List Piece) (i : ℕ) (m : Message) (inbox : List Piece) (parcels : PartsGathered) (rest : List Message) → Whole w drafts arrays us lost → m.addressee ≡ i → Fair w.count (λ q. table_of q w) m
     → Took m (messages_of us) rest → Passes m.sender m.kind (record (w.nodes i) { inbox = inbox; parcels = parcels })
 passes w drafts arrays us lost i m inbox parcels rest k to fair took = go m.kind refl fair
   where
@@ -162,26 +162,26 @@ passes w drafts arrays us lost i m inbox parcels rest k to fair took = go m.kind
           none_queued w drafts arrays us lost i name h m.sender write have _ k there (f.0 ∙ to) other t,
           λ g x o. absurd (let u = table name h g there x in
               asked_quiet name.home (region name h) (record { node = m.sender; write = write; have = have }) (k.coherent name h there) other
-              (subst (λ (y : Home). (home_asked name.home (record { node = m.sender; write = write; have = have }) y).opened ≡ true) (sym u.1)
-              (subst (λ y. (home_asked y (record { node = m.sender; write = write; have = have }) g).opened ≡ true) u.0 o))),
+              (subst (λ (y : Home). (home_takes_ask name.home (record { node = m.sender; write = write; have = have }) y).opened ≡ true) (sym u.1)
+              (subst (λ y. (home_takes_ask y (record { node = m.sender; write = write; have = have }) g).opened ≡ true) u.0 o))),
         )
     go (kind.Return name version bytes) e f = λ g x.
         let h = f.3.0 in let there = f.3.1 in let other = eqb-false m.sender name.home f.1 in
         let t = to_home_took name m (Return version bytes) (messages_of us) rest e f.1 took in
         let u = table name h g there x in (
-          subst (λ y. takes_return m.sender version bytes y ≡ true) u.1 (fits_return name.home (region name h) m.sender version bytes _ (k.coherent name h there) other t),
+          subst (λ y. return_fits m.sender version bytes y ≡ true) u.1 (fits_return name.home (region name h) m.sender version bytes _ (k.coherent name h there) other t),
           λ o. subst (λ (y : Home). y.mine ≡ section.Closed) u.1
               (return_opens name.home (region name h) m.sender version bytes _ (k.coherent name h there) other t
-              (subst (λ (y : Home). (home_returned name.home m.sender bytes y).opened ≡ true) (sym u.1) (subst (λ y. (home_returned y m.sender bytes g).opened ≡ true) u.0 o))).0,
+              (subst (λ (y : Home). (home_takes_return name.home m.sender bytes y).opened ≡ true) (sym u.1) (subst (λ y. (home_takes_return y m.sender bytes g).opened ≡ true) u.0 o))).0,
         )
     go (kind.Release name version bytes) e f = λ g x.
         let h = f.3.0 in let there = f.3.1 in let other = eqb-false m.sender name.home f.1 in
         let t = to_home_took name m (Release version bytes) (messages_of us) rest e f.1 took in
         let u = table name h g there x in (
-          subst (λ y. takes_release bytes y ≡ true) u.1 (fits_release name.home (region name h) m.sender version bytes _ (k.coherent name h there) other t),
+          subst (λ y. release_fits bytes y ≡ true) u.1 (fits_release name.home (region name h) m.sender version bytes _ (k.coherent name h there) other t),
           λ o. subst (λ (y : Home). y.mine ≡ section.Closed) u.1
               (release_opens name.home (region name h) m.sender version bytes _ (k.coherent name h there) other t
-              (subst (λ (y : Home). (home_released name.home m.sender version bytes y).opened ≡ true) (sym u.1) (subst (λ y. (home_released y m.sender version bytes g).opened ≡ true) u.0 o))).0,
+              (subst (λ (y : Home). (home_takes_release name.home m.sender version bytes y).opened ≡ true) (sym u.1) (subst (λ y. (home_takes_release y m.sender version bytes g).opened ≡ true) u.0 o))).0,
         )
     go (kind.Grant name version what) e f =
         let h = f.3.0 in let there = f.3.1 in
@@ -193,7 +193,7 @@ passes w drafts arrays us lost i m inbox parcels rest k to fair took = go m.kind
         let closed : (side h.size ((w.nodes m.addressee).remotes name)).here ≡ section.Closed =
         section_idle (side h.size ((w.nodes m.addressee).remotes name)).here (side h.size ((w.nodes m.addressee).remotes name)).copy asks.0
         (subst (λ o. SectionFits (side h.size ((w.nodes m.addressee).remotes name)).here (side h.size ((w.nodes m.addressee).remotes name)).copy o) asks.1 kept) in
-        (h.size, subst (λ j. takes_grant what (side h.size ((w.nodes j).remotes name)) ≡ true) to fits, subst (λ j. (side h.size ((w.nodes j).remotes name)).here ≡ section.Closed) to closed)
+        (h.size, subst (λ j. grant_fits what (side h.size ((w.nodes j).remotes name)) ≡ true) to fits, subst (λ j. (side h.size ((w.nodes j).remotes name)).here ≡ section.Closed) to closed)
     go (kind.InfoAsk name) e f = tt
     go (kind.InfoIs name t) e f = tt
     go (kind.Recall name version) e f = tt

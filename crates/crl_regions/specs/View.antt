@@ -15,13 +15,13 @@ use Rattle.crl_model.specs.Names.{name_eq}
 use Rattle.std.specs.List.{AllByRecursion}
 use Rattle.crl_protocol.specs.Parcels.{Piece}
 use Rattle.crl_flight.specs.Flight.{Under, IsFlight}
-use Rattle.crl_protocol.specs.Places.{picks}
+use Rattle.crl_protocol.specs.Places.{find_all}
 use Rattle.crl_protocol.specs.Mail.{Mail, Ask, Grant, Recall, Yield, Return, Release}
 use Rattle.crl_protocol.specs.Home.{Home, new_home, bytes_after}
 use Rattle.crl_protocol.specs.Remote.{Remote, new_remote}
 use Rattle.crl_protocol.specs.Node.{Node, next_name, home_of}
 use Rattle.crl_protocol.specs.Verdict.{verdict}
-use Rattle.crl_protocol.specs.World.{World, new_world, boxed, step}
+use Rattle.crl_protocol.specs.World.{World, new_world, pieces_in_boxes, step}
 use Rattle.crl_coherence.specs.Region.{Flying, Region}
 
 -- the mail of a message that is about this region's copies
@@ -62,14 +62,14 @@ AreLost count lost = AllByRecursion (λ (p : Piece). count ≤ p.message.address
 pub record UnderWay (w : World) (us : List Under) : Type 0 where
   pub lost : List Piece
   pub strays : AreLost w.count lost
-  pub flies : IsFlight us (boxed w ++ lost) (λ i. (w.nodes i).parcels)
+  pub flies : IsFlight us (pieces_in_boxes w ++ lost) (λ i. (w.nodes i).parcels)
 
 -- the region with this record at its home, among all nodes with these messages under way
 abbrev pub sight : Name → Home → (ℕ → Node) → List Message → List ℕ → Region
 sight q h nodes messages array = record {
   home = h;
   remotes = λ n. side h.size ((nodes n).remotes q);
-  flight = picks (flying q) messages;
+  flight = find_all (flying q) messages;
   array = array;
 }
 

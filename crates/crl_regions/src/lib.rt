@@ -7,8 +7,8 @@ ghost use Rattle.std.specs.declared.option.Option.TheVariants.{Some};
 ghost use Rattle.crl_model.specs.declared.name.Name.{Name};
 ghost use Rattle.crl_model.specs.declared.event.Event.{Event};
 ghost use Rattle.crl_protocol.specs.Home.{Home};
-ghost use Rattle.crl_protocol.specs.Places.{picks};
-ghost use Rattle.crl_protocol.specs.World.{boxed, is_enabled, step, new_world, world_of, IsRunFrom};
+ghost use Rattle.crl_protocol.specs.Places.{find_all};
+ghost use Rattle.crl_protocol.specs.World.{pieces_in_boxes, is_enabled, step, new_world, world_of, IsRunFrom};
 ghost use Rattle.crl_flight.specs.Flight.{Under, messages_of};
 ghost use Rattle.crl_coherence.specs.Region.{Run};
 ghost use Rattle.crl_coherence.specs.Coherent.{IsCoherent};
@@ -25,5 +25,5 @@ pub fn events_are_the_regions()
 /// bytes that the run's creates and ends of write sections leave in the array. Where no piece is in a box, no mail
 /// about copies is under way.
 pub fn regions_are_coherent()
-    ensures { (count capacity : ℕ) (run : List Event) → IsRunFrom (new_world count capacity) run → (us : List Under) × UnderWay (world_of count capacity run) us × ((name : Name) (h : Home) → table_of name (world_of count capacity run) ≡ Some h → IsCoherent name.home (view name (array_of name count capacity run) (messages_of us) (world_of count capacity run))) × (boxed (world_of count capacity run) ≡ [] → (name : Name) → picks (flying name) (messages_of us) ≡ []) }
+    ensures { (count capacity : ℕ) (run : List Event) → IsRunFrom (new_world count capacity) run → (us : List Under) × UnderWay (world_of count capacity run) us × ((name : Name) (h : Home) → table_of name (world_of count capacity run) ≡ Some h → IsCoherent name.home (view name (array_of name count capacity run) (messages_of us) (world_of count capacity run))) × (pieces_in_boxes (world_of count capacity run) ≡ [] → (name : Name) → find_all (flying name) (messages_of us) ≡ []) }
 {}

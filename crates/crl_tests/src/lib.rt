@@ -23,7 +23,6 @@ mod frames;
 #[cfg(test)]
 mod plain;
 #[cfg(test)]
-mod posts;
 #[cfg(test)]
 mod refusals;
 #[cfg(test)]

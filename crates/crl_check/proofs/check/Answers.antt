@@ -1,6 +1,6 @@
 use Rattle.std.proofs.Common.{◌≡◌, ℕ, Err, refl}
 use Rattle.std.specs.Prelude.{Result}
-use Rattle.crl_model.specs.SingleMachine.{start}
+use Rattle.crl_machine.specs.SingleMachine.{start}
 use Rattle.crl_check.specs.declared.CheckFault.{CheckFault}
 use Rattle.crl_check.specs.declared.CheckFault.TheVariants.{Illegal}
 use Rattle.crl_check.proofs.Prefixes.{one_more, first_illegal}

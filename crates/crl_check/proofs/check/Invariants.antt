@@ -1,5 +1,5 @@
-use Rattle.crl_model.specs.Seen.{state}
-use Rattle.crl_model.specs.SingleMachine.{start}
+use Rattle.crl_machine.specs.Seen.{state}
+use Rattle.crl_machine.specs.SingleMachine.{start}
 use Rattle.crl_check.proofs.Prefixes.{SoFar}
 use Rattle.crl_check.proofs.check.Given as goal
 

@@ -1,14 +1,14 @@
 -- Worked runs are computed: copies that go back and forth, with messages that overtake each other.
 use Rattle.std.proofs.Common.{refl}
 use Rattle.crl_protocol.specs.Compute.{everything}
-use Rattle.crl_protocol.specs.Chosen.{running, turns_from, first}
+use Rattle.crl_protocol.specs.Chosen.{running, turns_from, always_first}
 use Rattle.crl_protocol.specs.Worked.Words.{Gives}
 use Rattle.crl_protocol.specs.Worked.Copies.{write_elsewhere_script, write_elsewhere_report, nested_reads_script, nested_reads_report, nested_reads_order, early_recall_script, early_recall_report, early_recall_order, stale_recall_script, stale_recall_report, stale_recall_order, recall_before_map_script, recall_before_map_report, recall_before_map_order, ask_before_return_script, ask_before_return_report, ask_before_return_order, flush_then_read_script, flush_then_read_report, flush_then_read_order}
 
-pub write_elsewhere : Gives 2 16 write_elsewhere_script first write_elsewhere_report
+pub write_elsewhere : Gives 2 16 write_elsewhere_script always_first write_elsewhere_report
 unfolding everything
 write_elsewhere = record {
-  end = turns_from first 1 15 (running 2 16 write_elsewhere_script);
+  end = turns_from always_first 1 15 (running 2 16 write_elsewhere_script);
   chosen = record { turns = 15; reached = refl; finished = refl };
   reported = refl;
 }

@@ -1,22 +1,22 @@
 -- Worked runs are computed: deletes.
 use Rattle.std.proofs.Common.{refl}
 use Rattle.crl_protocol.specs.Compute.{everything}
-use Rattle.crl_protocol.specs.Chosen.{running, turns_from, first}
+use Rattle.crl_protocol.specs.Chosen.{running, turns_from, always_first}
 use Rattle.crl_protocol.specs.Worked.Words.{Gives}
 use Rattle.crl_protocol.specs.Worked.Deletes.{delete_of_cached_script, delete_of_cached_report, delete_of_mapped_script, delete_of_mapped_report, purge_before_answer_script, purge_before_answer_report, purge_before_answer_order, delete_before_map_script, delete_before_map_report, delete_by_another_script, delete_by_another_report}
 
-pub delete_of_cached : Gives 2 16 delete_of_cached_script first delete_of_cached_report
+pub delete_of_cached : Gives 2 16 delete_of_cached_script always_first delete_of_cached_report
 unfolding everything
 delete_of_cached = record {
-  end = turns_from first 1 43 (running 2 16 delete_of_cached_script);
+  end = turns_from always_first 1 43 (running 2 16 delete_of_cached_script);
   chosen = record { turns = 43; reached = refl; finished = refl };
   reported = refl;
 }
 
-pub delete_of_mapped : Gives 2 16 delete_of_mapped_script first delete_of_mapped_report
+pub delete_of_mapped : Gives 2 16 delete_of_mapped_script always_first delete_of_mapped_report
 unfolding everything
 delete_of_mapped = record {
-  end = turns_from first 1 54 (running 2 16 delete_of_mapped_script);
+  end = turns_from always_first 1 54 (running 2 16 delete_of_mapped_script);
   chosen = record { turns = 54; reached = refl; finished = refl };
   reported = refl;
 }
@@ -29,18 +29,18 @@ purge_before_answer = record {
   reported = refl;
 }
 
-pub delete_before_map : Gives 2 16 delete_before_map_script first delete_before_map_report
+pub delete_before_map : Gives 2 16 delete_before_map_script always_first delete_before_map_report
 unfolding everything
 delete_before_map = record {
-  end = turns_from first 1 8 (running 2 16 delete_before_map_script);
+  end = turns_from always_first 1 8 (running 2 16 delete_before_map_script);
   chosen = record { turns = 8; reached = refl; finished = refl };
   reported = refl;
 }
 
-pub delete_by_another : Gives 2 16 delete_by_another_script first delete_by_another_report
+pub delete_by_another : Gives 2 16 delete_by_another_script always_first delete_by_another_report
 unfolding everything
 delete_by_another = record {
-  end = turns_from first 1 24 (running 2 16 delete_by_another_script);
+  end = turns_from always_first 1 24 (running 2 16 delete_by_another_script);
   chosen = record { turns = 24; reached = refl; finished = refl };
   reported = refl;
 }

@@ -3,8 +3,8 @@ use Rattle.std.proofs.Common.{ℕ, ◌-◌, List, [], ◌∷◌, ◌++◌, repli
 use Rattle.crl_model.specs.declared.entry.What.TheVariants as what
 use Rattle.crl_model.specs.declared.statement.Statement.{Statement}
 use Rattle.crl_protocol.specs.Compute.{everything}
-use Rattle.crl_protocol.specs.Chosen.{running, turns_from, first, picks}
-use Rattle.crl_protocol.specs.Ends.{Report}
+use Rattle.crl_protocol.specs.Chosen.{running, turns_from, always_first, pick_at}
+use Rattle.crl_protocol.specs.Ends.{Reported}
 use Rattle.crl_protocol.specs.Worked.Words.{Gives, r0_1, create, map, flush, write, endwrite, change, by, holds}
 
 abbrev big_script : ℕ → List (List Statement)
@@ -16,7 +16,7 @@ big_script size =
 abbrev after : ℕ → List ℕ
 after size = replicate (size - 1) 0 ++ 7 ∷ []
 
-abbrev big_report : ℕ → ℕ → ℕ → Report
+abbrev big_report : ℕ → ℕ → ℕ → Reported
 big_report size events messages = record {
   entries =
       by 0 (what.Create r0_1 size)
@@ -31,26 +31,26 @@ big_report size events messages = record {
   messages = messages;
 }
 
-pub small : Gives 2 16 (big_script 2) first (big_report 2 17 5)
+pub small : Gives 2 16 (big_script 2) always_first (big_report 2 17 5)
 unfolding everything
 small = record {
-  end = turns_from first 1 30 (running 2 16 (big_script 2));
+  end = turns_from always_first 1 30 (running 2 16 (big_script 2));
   chosen = record { turns = 30; reached = refl; finished = refl };
   reported = refl;
 }
 
-pub big : Gives 2 16 (big_script 32769) first (big_report 32769 21 7)
+pub big : Gives 2 16 (big_script 32769) always_first (big_report 32769 21 7)
 unfolding everything
 big = record {
-  end = turns_from first 1 30 (running 2 16 (big_script 32769));
+  end = turns_from always_first 1 30 (running 2 16 (big_script 32769));
   chosen = record { turns = 30; reached = refl; finished = refl };
   reported = refl;
 }
 
-pub second_first : Gives 2 16 (big_script 32769) (picks (replicate 10 0 ++ 1 ∷ [])) (big_report 32769 21 7)
+pub second_first : Gives 2 16 (big_script 32769) (pick_at (replicate 10 0 ++ 1 ∷ [])) (big_report 32769 21 7)
 unfolding everything
 second_first = record {
-  end = turns_from (picks (replicate 10 0 ++ 1 ∷ [])) 1 30 (running 2 16 (big_script 32769));
+  end = turns_from (pick_at (replicate 10 0 ++ 1 ∷ [])) 1 30 (running 2 16 (big_script 32769));
   chosen = record { turns = 30; reached = refl; finished = refl };
   reported = refl;
 }

@@ -1,22 +1,22 @@
 -- Worked runs are computed: calls that are refused.
 use Rattle.std.proofs.Common.{refl}
 use Rattle.crl_protocol.specs.Compute.{everything}
-use Rattle.crl_protocol.specs.Chosen.{running, turns_from, first}
+use Rattle.crl_protocol.specs.Chosen.{running, turns_from, always_first}
 use Rattle.crl_protocol.specs.Worked.Words.{Gives}
 use Rattle.crl_protocol.specs.Worked.Refusals.{section_rules_script, section_rules_report, names_and_sizes_script, names_and_sizes_report}
 
-pub section_rules : Gives 1 16 section_rules_script first section_rules_report
+pub section_rules : Gives 1 16 section_rules_script always_first section_rules_report
 unfolding everything
 section_rules = record {
-  end = turns_from first 1 16 (running 1 16 section_rules_script);
+  end = turns_from always_first 1 16 (running 1 16 section_rules_script);
   chosen = record { turns = 16; reached = refl; finished = refl };
   reported = refl;
 }
 
-pub names_and_sizes : Gives 1 16 names_and_sizes_script first names_and_sizes_report
+pub names_and_sizes : Gives 1 16 names_and_sizes_script always_first names_and_sizes_report
 unfolding everything
 names_and_sizes = record {
-  end = turns_from first 1 5 (running 1 16 names_and_sizes_script);
+  end = turns_from always_first 1 5 (running 1 16 names_and_sizes_script);
   chosen = record { turns = 5; reached = refl; finished = refl };
   reported = refl;
 }

@@ -5,7 +5,7 @@ use Rattle.crl_model.specs.declared.blocked.Blocked.TheVariants as blocked
 use Rattle.crl_model.specs.declared.collective.Part.TheVariants as part
 use Rattle.crl_model.specs.declared.collective.Fold.TheVariants as fold
 use Rattle.crl_model.specs.declared.statement.Statement.{Statement}
-use Rattle.crl_protocol.specs.Ends.{Report}
+use Rattle.crl_protocol.specs.Ends.{Reported}
 use Rattle.crl_protocol.specs.Worked.Words.{r0_1, r0_2, create, map, read, write, endwrite, barrier, by}
 
 -- A reader that never ends blocks a writer.
@@ -15,7 +15,7 @@ reader_blocks_script =
     ∷ (map r0_1 ∷ write r0_1 ∷ [])
     ∷ []
 
-abbrev pub reader_blocks_report : Report
+abbrev pub reader_blocks_report : Reported
 reader_blocks_report = record {
   entries =
       by 0 (what.Create r0_1 1)
@@ -36,7 +36,7 @@ absent_node_script =
     ∷ ([])
     ∷ []
 
-abbrev pub absent_node_report : Report
+abbrev pub absent_node_report : Reported
 absent_node_report = record {
   entries =
       by 0 (what.Come part.Barrier)
@@ -54,7 +54,7 @@ each_other_script =
     ∷ (barrier ∷ map r0_1 ∷ map r0_2 ∷ write r0_2 ∷ barrier ∷ write r0_1 ∷ endwrite r0_1 ∷ endwrite r0_2 ∷ [])
     ∷ []
 
-abbrev pub each_other_report : Report
+abbrev pub each_other_report : Reported
 each_other_report = record {
   entries =
       by 0 (what.Create r0_1 1)

@@ -4,7 +4,7 @@ use Rattle.crl_model.specs.declared.entry.What.TheVariants as what
 use Rattle.crl_model.specs.declared.collective.Part.TheVariants as part
 use Rattle.crl_model.specs.declared.collective.Fold.TheVariants as fold
 use Rattle.crl_model.specs.declared.statement.Statement.{Statement}
-use Rattle.crl_protocol.specs.Ends.{Report}
+use Rattle.crl_protocol.specs.Ends.{Reported}
 use Rattle.crl_protocol.specs.Worked.Words.{r0_1, r0_2, create, map, unmap, write, endwrite, change, barrier, by, holds}
 
 -- A cache of one name gives up the older of two.
@@ -14,7 +14,7 @@ eviction_script =
     ∷ (barrier ∷ map r0_1 ∷ write r0_1 ∷ change r0_1 0 (10 ∷ []) ∷ endwrite r0_1 ∷ unmap r0_1 ∷ map r0_2 ∷ write r0_2 ∷ change r0_2 0 (11 ∷ []) ∷ endwrite r0_2 ∷ unmap r0_2 ∷ [])
     ∷ []
 
-abbrev pub eviction_report : Report
+abbrev pub eviction_report : Reported
 eviction_report = record {
   entries =
       by 0 (what.Create r0_1 1)
@@ -45,7 +45,7 @@ no_cache_script =
     ∷ (barrier ∷ map r0_1 ∷ write r0_1 ∷ change r0_1 0 (10 ∷ []) ∷ endwrite r0_1 ∷ unmap r0_1 ∷ map r0_2 ∷ write r0_2 ∷ change r0_2 0 (11 ∷ []) ∷ endwrite r0_2 ∷ unmap r0_2 ∷ [])
     ∷ []
 
-abbrev pub no_cache_report : Report
+abbrev pub no_cache_report : Reported
 no_cache_report = record {
   entries =
       by 0 (what.Create r0_1 1)
@@ -76,7 +76,7 @@ roomy_cache_script =
     ∷ (barrier ∷ map r0_1 ∷ write r0_1 ∷ change r0_1 0 (10 ∷ []) ∷ endwrite r0_1 ∷ unmap r0_1 ∷ map r0_2 ∷ write r0_2 ∷ change r0_2 0 (11 ∷ []) ∷ endwrite r0_2 ∷ unmap r0_2 ∷ [])
     ∷ []
 
-abbrev pub roomy_cache_report : Report
+abbrev pub roomy_cache_report : Reported
 roomy_cache_report = record {
   entries =
       by 0 (what.Create r0_1 1)

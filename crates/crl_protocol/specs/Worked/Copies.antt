@@ -4,8 +4,8 @@ use Rattle.crl_model.specs.declared.entry.What.TheVariants as what
 use Rattle.crl_model.specs.declared.collective.Part.TheVariants as part
 use Rattle.crl_model.specs.declared.collective.Fold.TheVariants as fold
 use Rattle.crl_model.specs.declared.statement.Statement.{Statement}
-use Rattle.crl_protocol.specs.Chosen.{picks}
-use Rattle.crl_protocol.specs.Ends.{Report}
+use Rattle.crl_protocol.specs.Chosen.{pick_at}
+use Rattle.crl_protocol.specs.Ends.{Reported}
 use Rattle.crl_protocol.specs.Worked.Words.{r0_1, create, map, unmap, flush, read, endread, write, endwrite, change, barrier, by, holds}
 
 -- A node writes a region of another home.
@@ -15,7 +15,7 @@ write_elsewhere_script =
     ∷ (map r0_1 ∷ write r0_1 ∷ change r0_1 0 (5 ∷ []) ∷ endwrite r0_1 ∷ [])
     ∷ []
 
-abbrev pub write_elsewhere_report : Report
+abbrev pub write_elsewhere_report : Reported
 write_elsewhere_report = record {
   entries =
       by 0 (what.Create r0_1 1)
@@ -37,9 +37,9 @@ nested_reads_script =
     ∷ []
 
 abbrev pub nested_reads_order : ℕ → ℕ
-nested_reads_order = picks (replicate 29 0 ++ 1 ∷ [])
+nested_reads_order = pick_at (replicate 29 0 ++ 1 ∷ [])
 
-abbrev pub nested_reads_report : Report
+abbrev pub nested_reads_report : Reported
 nested_reads_report = record {
   entries =
       by 0 (what.Create r0_1 1)
@@ -74,9 +74,9 @@ early_recall_script =
     ∷ []
 
 abbrev pub early_recall_order : ℕ → ℕ
-early_recall_order = picks (replicate 7 0 ++ replicate 12 1 ++ 0 ∷ 1 ∷ [])
+early_recall_order = pick_at (replicate 7 0 ++ replicate 12 1 ++ 0 ∷ 1 ∷ [])
 
-abbrev pub early_recall_report : Report
+abbrev pub early_recall_report : Reported
 early_recall_report = record {
   entries =
       by 0 (what.Create r0_1 1)
@@ -105,9 +105,9 @@ stale_recall_script =
     ∷ []
 
 abbrev pub stale_recall_order : ℕ → ℕ
-stale_recall_order = picks (replicate 7 0 ++ replicate 16 1 ++ 0 ∷ 0 ∷ 2 ∷ 1 ∷ replicate 4 0 ++ 1 ∷ 0 ∷ 1 ∷ [])
+stale_recall_order = pick_at (replicate 7 0 ++ replicate 16 1 ++ 0 ∷ 0 ∷ 2 ∷ 1 ∷ replicate 4 0 ++ 1 ∷ 0 ∷ 1 ∷ [])
 
-abbrev pub stale_recall_report : Report
+abbrev pub stale_recall_report : Reported
 stale_recall_report = record {
   entries =
       by 0 (what.Create r0_1 1)
@@ -140,9 +140,9 @@ recall_before_map_script =
     ∷ []
 
 abbrev pub recall_before_map_order : ℕ → ℕ
-recall_before_map_order = picks (0 ∷ replicate 9 1 ++ 0 ∷ 0 ∷ 1 ∷ [])
+recall_before_map_order = pick_at (0 ∷ replicate 9 1 ++ 0 ∷ 0 ∷ 1 ∷ [])
 
-abbrev pub recall_before_map_report : Report
+abbrev pub recall_before_map_report : Reported
 recall_before_map_report = record {
   entries =
       by 0 (what.Create r0_1 1)
@@ -167,9 +167,9 @@ ask_before_return_script =
     ∷ []
 
 abbrev pub ask_before_return_order : ℕ → ℕ
-ask_before_return_order = picks (replicate 25 0 ++ 1 ∷ [])
+ask_before_return_order = pick_at (replicate 25 0 ++ 1 ∷ [])
 
-abbrev pub ask_before_return_report : Report
+abbrev pub ask_before_return_report : Reported
 ask_before_return_report = record {
   entries =
       by 0 (what.Create r0_1 1)
@@ -198,9 +198,9 @@ flush_then_read_script =
     ∷ []
 
 abbrev pub flush_then_read_order : ℕ → ℕ
-flush_then_read_order = picks (replicate 17 0 ++ 1 ∷ [])
+flush_then_read_order = pick_at (replicate 17 0 ++ 1 ∷ [])
 
-abbrev pub flush_then_read_report : Report
+abbrev pub flush_then_read_report : Reported
 flush_then_read_report = record {
   entries =
       by 0 (what.Create r0_1 1)

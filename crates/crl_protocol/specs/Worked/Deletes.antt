@@ -7,8 +7,8 @@ use Rattle.crl_model.specs.declared.call.Refusal.TheVariants as refusal
 use Rattle.crl_model.specs.declared.collective.Part.TheVariants as part
 use Rattle.crl_model.specs.declared.collective.Fold.TheVariants as fold
 use Rattle.crl_model.specs.declared.statement.Statement.{Statement}
-use Rattle.crl_protocol.specs.Chosen.{picks}
-use Rattle.crl_protocol.specs.Ends.{Report}
+use Rattle.crl_protocol.specs.Chosen.{pick_at}
+use Rattle.crl_protocol.specs.Ends.{Reported}
 use Rattle.crl_protocol.specs.Worked.Words.{r0_1, create, delete, map, unmap, write, endwrite, change, barrier, by}
 
 -- A region that is cached elsewhere is deleted.
@@ -18,7 +18,7 @@ delete_of_cached_script =
     ∷ (barrier ∷ map r0_1 ∷ unmap r0_1 ∷ barrier ∷ barrier ∷ map r0_1 ∷ [])
     ∷ []
 
-abbrev pub delete_of_cached_report : Report
+abbrev pub delete_of_cached_report : Reported
 delete_of_cached_report = record {
   entries =
       by 0 (what.Create r0_1 1)
@@ -53,7 +53,7 @@ delete_of_mapped_script =
     ∷ (barrier ∷ map r0_1 ∷ barrier ∷ barrier ∷ write r0_1 ∷ change r0_1 0 (9 ∷ []) ∷ endwrite r0_1 ∷ map r0_1 ∷ unmap r0_1 ∷ map r0_1 ∷ [])
     ∷ []
 
-abbrev pub delete_of_mapped_report : Report
+abbrev pub delete_of_mapped_report : Reported
 delete_of_mapped_report = record {
   entries =
       by 0 (what.Create r0_1 1)
@@ -92,9 +92,9 @@ purge_before_answer_script =
     ∷ []
 
 abbrev pub purge_before_answer_order : ℕ → ℕ
-purge_before_answer_order = picks (replicate 6 0 ++ replicate 6 1 ++ 0 ∷ 1 ∷ [])
+purge_before_answer_order = pick_at (replicate 6 0 ++ replicate 6 1 ++ 0 ∷ 1 ∷ [])
 
-abbrev pub purge_before_answer_report : Report
+abbrev pub purge_before_answer_report : Reported
 purge_before_answer_report = record {
   entries =
       by 0 (what.Create r0_1 1)
@@ -121,7 +121,7 @@ delete_before_map_script =
     ∷ (map r0_1 ∷ [])
     ∷ []
 
-abbrev pub delete_before_map_report : Report
+abbrev pub delete_before_map_report : Reported
 delete_before_map_report = record {
   entries =
       by 0 (what.Create r0_1 1)
@@ -142,7 +142,7 @@ delete_by_another_script =
     ∷ (map r0_1 ∷ delete r0_1 ∷ unmap r0_1 ∷ map r0_1 ∷ [])
     ∷ []
 
-abbrev pub delete_by_another_report : Report
+abbrev pub delete_by_another_report : Reported
 delete_by_another_report = record {
   entries =
       by 0 (what.Create r0_1 1)

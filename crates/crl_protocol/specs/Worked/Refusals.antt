@@ -5,7 +5,7 @@ use Rattle.crl_model.specs.declared.entry.Place.TheVariants.{Region}
 use Rattle.crl_model.specs.declared.call.CallKind.TheVariants as word
 use Rattle.crl_model.specs.declared.call.Refusal.TheVariants as refusal
 use Rattle.crl_model.specs.declared.statement.Statement.{Statement}
-use Rattle.crl_protocol.specs.Ends.{Report}
+use Rattle.crl_protocol.specs.Ends.{Reported}
 use Rattle.crl_protocol.specs.Worked.Words.{r0_1, r0_2, create, map, unmap, endread, write, endwrite, change, by, holds}
 
 -- Calls that are refused for the sections that are open, or are not.
@@ -14,7 +14,7 @@ section_rules_script =
     (create 2 ∷ write r0_1 ∷ map r0_1 ∷ write r0_1 ∷ unmap r0_1 ∷ endread r0_1 ∷ write r0_1 ∷ change r0_1 1 (255 ∷ 255 ∷ []) ∷ change r0_1 0 (1 ∷ 2 ∷ []) ∷ endwrite r0_1 ∷ change r0_1 0 (0 ∷ []) ∷ endwrite r0_1 ∷ unmap r0_1 ∷ unmap r0_1 ∷ [])
     ∷ []
 
-abbrev pub section_rules_report : Report
+abbrev pub section_rules_report : Reported
 section_rules_report = record {
   entries =
       by 0 (what.Create r0_1 2)
@@ -43,7 +43,7 @@ names_and_sizes_script =
     (create 0 ∷ map r0_1 ∷ create 1 ∷ map r0_2 ∷ unmap r0_2 ∷ [])
     ∷ []
 
-abbrev pub names_and_sizes_report : Report
+abbrev pub names_and_sizes_report : Reported
 names_and_sizes_report = record {
   entries =
       by 0 (what.Refused word.Create (Region r0_1) refusal.BadSize)

@@ -7,8 +7,8 @@ use Rattle.crl_model.specs.declared.call.Refusal.TheVariants as refusal
 use Rattle.crl_model.specs.declared.collective.Part.TheVariants as part
 use Rattle.crl_model.specs.declared.collective.Fold.TheVariants as fold
 use Rattle.crl_model.specs.declared.statement.Statement.{Statement}
-use Rattle.crl_protocol.specs.Chosen.{picks}
-use Rattle.crl_protocol.specs.Ends.{Report}
+use Rattle.crl_protocol.specs.Chosen.{pick_at}
+use Rattle.crl_protocol.specs.Ends.{Reported}
 use Rattle.crl_protocol.specs.Worked.Words.{r0_1, create, map, unmap, read, endread, write, endwrite, add, barrier, send, receive, sum, by, holds}
 
 -- A map comes before the create, and finds nothing.
@@ -19,9 +19,9 @@ map_before_create_script =
     ∷ []
 
 abbrev pub map_before_create_order : ℕ → ℕ
-map_before_create_order = picks (1 ∷ 1 ∷ 1 ∷ [])
+map_before_create_order = pick_at (1 ∷ 1 ∷ 1 ∷ [])
 
-abbrev pub map_before_create_report : Report
+abbrev pub map_before_create_report : Reported
 map_before_create_report = record {
   entries =
       by 1 (what.Refused word.Map (Region r0_1) refusal.Unknown)
@@ -40,7 +40,7 @@ barrier_then_read_script =
     ∷ (barrier ∷ map r0_1 ∷ read r0_1 ∷ endread r0_1 ∷ unmap r0_1 ∷ [])
     ∷ []
 
-abbrev pub barrier_then_read_report : Report
+abbrev pub barrier_then_read_report : Reported
 barrier_then_read_report = record {
   entries =
       by 0 (what.Create r0_1 4)
@@ -66,7 +66,7 @@ mixed_kinds_script =
     ∷ (sum 5 ∷ [])
     ∷ []
 
-abbrev pub mixed_kinds_report : Report
+abbrev pub mixed_kinds_report : Reported
 mixed_kinds_report = record {
   entries =
       by 0 (what.Come part.Barrier)
@@ -87,7 +87,7 @@ broadcast_script =
     ∷ (send (10 ∷ 255 ∷ []) ∷ [])
     ∷ []
 
-abbrev pub broadcast_report : Report
+abbrev pub broadcast_report : Reported
 broadcast_report = record {
   entries =
       by 0 (what.Come part.Receive)
@@ -107,7 +107,7 @@ additions_script =
     (create 8 ∷ map r0_1 ∷ write r0_1 ∷ add r0_1 0 18446744073709551615 ∷ add r0_1 0 2 ∷ add r0_1 1 1 ∷ endwrite r0_1 ∷ unmap r0_1 ∷ [])
     ∷ []
 
-abbrev pub additions_report : Report
+abbrev pub additions_report : Reported
 additions_report = record {
   entries =
       by 0 (what.Create r0_1 8)

@@ -4,8 +4,8 @@ use Rattle.crl_model.specs.declared.entry.What.TheVariants as what
 use Rattle.crl_model.specs.declared.collective.Part.TheVariants as part
 use Rattle.crl_model.specs.declared.collective.Fold.TheVariants as fold
 use Rattle.crl_model.specs.declared.statement.Statement.{Statement}
-use Rattle.crl_protocol.specs.Chosen.{picks}
-use Rattle.crl_protocol.specs.Ends.{Report}
+use Rattle.crl_protocol.specs.Chosen.{pick_at}
+use Rattle.crl_protocol.specs.Ends.{Reported}
 use Rattle.crl_protocol.specs.Worked.Words.{r0_1, create, map, flush, read, endread, write, endwrite, change, barrier, by, holds}
 
 -- Two readers write: one keeps its bytes, and the other is sent them.
@@ -16,7 +16,7 @@ two_upgrades_script =
     ∷ (barrier ∷ map r0_1 ∷ read r0_1 ∷ endread r0_1 ∷ barrier ∷ write r0_1 ∷ change r0_1 0 (2 ∷ []) ∷ endwrite r0_1 ∷ [])
     ∷ []
 
-abbrev pub two_upgrades_report : Report
+abbrev pub two_upgrades_report : Reported
 two_upgrades_report = record {
   entries =
       by 0 (what.Create r0_1 1)
@@ -56,7 +56,7 @@ downgrade_script =
     ∷ (map r0_1 ∷ write r0_1 ∷ change r0_1 0 (1 ∷ []) ∷ endwrite r0_1 ∷ barrier ∷ barrier ∷ read r0_1 ∷ endread r0_1 ∷ [])
     ∷ []
 
-abbrev pub downgrade_report : Report
+abbrev pub downgrade_report : Reported
 downgrade_report = record {
   entries =
       by 0 (what.Create r0_1 1)
@@ -91,9 +91,9 @@ return_before_release_script =
     ∷ []
 
 abbrev pub return_before_release_order : ℕ → ℕ
-return_before_release_order = picks (replicate 25 0 ++ 1 ∷ 1 ∷ 0 ∷ 1 ∷ [])
+return_before_release_order = pick_at (replicate 25 0 ++ 1 ∷ 1 ∷ 0 ∷ 1 ∷ [])
 
-abbrev pub return_before_release_report : Report
+abbrev pub return_before_release_report : Reported
 return_before_release_report = record {
   entries =
       by 0 (what.Create r0_1 1)

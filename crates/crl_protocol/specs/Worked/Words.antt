@@ -8,7 +8,7 @@ use Rattle.crl_model.specs.declared.entry.What.{What}
 use Rattle.crl_model.specs.declared.statement.Statement.{Statement}
 use Rattle.crl_model.specs.declared.statement.Statement.TheVariants as statement
 use Rattle.crl_protocol.specs.Chosen.{Running, IsChosen}
-use Rattle.crl_protocol.specs.Ends.{Region, Report, report}
+use Rattle.crl_protocol.specs.Ends.{FinalRegion, Reported, report}
 
 -- the regions of the worked runs
 abbrev pub r0_1 : Name
@@ -67,11 +67,11 @@ sum v = statement.Call (call.Come (part.Sum (pos v)))
 abbrev pub by : ℕ → What → Entry
 by node what = record { node = node; what = what }
 
-abbrev pub holds : Name → List ℕ → Region
+abbrev pub holds : Name → List ℕ → FinalRegion
 holds name bytes = record { name = name; bytes = bytes }
 
 -- The run that a script of so many nodes, with so many names in each cache, and an order choose has this report.
-pub record Gives (count capacity : ℕ) (blocks : List (List Statement)) (words : ℕ → ℕ) (expected : Report) : Type 0 where
+pub record Gives (count capacity : ℕ) (blocks : List (List Statement)) (words : ℕ → ℕ) (expected : Reported) : Type 0 where
   pub end : Running
   pub chosen : IsChosen count capacity blocks words end
   pub reported : report end ≡ expected

@@ -1,5 +1,5 @@
 use Rattle.std.proofs.Common.{◌≡◌, ◌+◌, ◌-◌, ◌++◌, ◌∙◌, refl, sym, ap, arith}
-use Rattle.crl_model.specs.Seen.{state}
+use Rattle.crl_machine.specs.Seen.{state}
 use Rattle.crl_cli.specs.Report.{serials_text}
 use Rattle.crl_cli.proofs.Regions.{region_written, no_more_regions}
 use Rattle.crl_cli.proofs.report.write_home.Goals as goal

@@ -3,7 +3,7 @@ use Rattle.std.proofs.lemmas.Result.{on_ok_weaker}
 use Rattle.crl_model.specs.declared.name.Name.{Name}
 use Rattle.crl_model.specs.declared.entry.Entry.{Entry}
 use Rattle.crl_model.specs.declared.call.Call.TheVariants.{EndWrite}
-use Rattle.crl_model.specs.SingleMachine.{State}
+use Rattle.crl_machine.specs.SingleMachine.{State}
 use Rattle.crl_model.specs.declared.statement.Statement.TheVariants.{Call}
 use Rattle.crl_cli.specs.OneNode.{Drafts}
 use Rattle.crl_cli.specs.Steps.{IsRunOn}

@@ -1,6 +1,6 @@
 use Rattle.std.specs.BTreeMap.{get}
 use Rattle.crl_model.specs.Names.{name_cmp}
-use Rattle.crl_model.specs.Seen.{state}
+use Rattle.crl_machine.specs.Seen.{state}
 use Rattle.crl_cli.proofs.Runs.{SoFar}
 use Rattle.crl_cli.proofs.runner.Runner.run.Given as goal
 

@@ -1,7 +1,7 @@
 use Rattle.std.proofs.Common.{Some, None}
 use Rattle.std.specs.BTreeMap.{get}
 use Rattle.crl_model.specs.Names.{name_cmp}
-use Rattle.crl_model.specs.Seen.{state}
+use Rattle.crl_machine.specs.Seen.{state}
 use Rattle.crl_cli.proofs.Answerable.{answerable_so}
 use Rattle.crl_cli.proofs.runner.Runner.step.Goals as goal
 

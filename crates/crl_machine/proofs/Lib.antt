@@ -1,0 +1,10 @@
+mod Blank
+mod DeskRead
+mod DeskSet
+mod FullRounds
+mod Histories
+pub mod Laws
+mod Runs
+mod Sections
+mod States
+mod Tables

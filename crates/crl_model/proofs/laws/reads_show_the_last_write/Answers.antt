@@ -1,7 +1,0 @@
-use Rattle.std.proofs.Common.{◌∙◌}
-use Rattle.crl_model.specs.SingleMachine.{start}
-use Rattle.crl_model.proofs.Runs.{newest_all, legal_behind}
-use Rattle.crl_model.proofs.laws.reads_show_the_last_write.Goals as goal
-
-pub returns : goal.returns
-returns c = λ n m q seen es fs h. (legal_behind (start n) es fs _ h).1.2 ∙ newest_all (start n) q es

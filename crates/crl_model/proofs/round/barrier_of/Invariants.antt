@@ -1,6 +1,0 @@
-use Rattle.std.proofs.Common.{◌≡◌, drop}
-use Rattle.crl_model.specs.Rounds.{cames, parts_in, are_barriers}
-use Rattle.crl_model.proofs.round.barrier_of.Given as goal
-
-abbrev pub invariant-loop-desk : goal.invariant-loop-desk
-invariant-loop-desk l = are_barriers (parts_in l.last l.k (cames (drop l.desk-index l.desks))) ≡ are_barriers (parts_in l.last l.k (cames l.desks))
