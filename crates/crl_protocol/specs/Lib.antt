@@ -5,7 +5,6 @@ pub mod Ends
 pub mod Gathering
 pub mod Handlers
 pub mod Home
-pub mod Laws
 pub mod Lifetimes
 pub mod Mail
 pub mod Node

@@ -1,7 +1,6 @@
 //! The protocol of the region library, as definitions: what a region's home and the other nodes keep, which
 //! messages they send, and which runs there are. There is no code here but empty functions, whose
-//! contracts are laws of the definitions.
+//! contracts are worked runs that the definitions compute.
 #![tactic(auto)]
 
-pub mod theorems;
 pub mod worked;

@@ -1,0 +1,17 @@
+use Rattle.std.proofs.Common.{◌+◌, ◌≤◌, length, arith}
+use Rattle.crl_protocol.specs.Chosen.{running, turns_from}
+use Rattle.crl_deeds.proofs.Bounding.{turns_bounded}
+use Rattle.crl_deeds.proofs.Following.{follow_turns, follow_world, follow_account}
+use Rattle.crl_deeds.proofs.Sound.{sound_start}
+use Rattle.crl_deeds.proofs.Allowing.{follow_runs}
+use Rattle.crl_deeds.proofs.theorems.choices_make_runs.Goals as goal
+
+pub returns : goal.returns
+returns c = record {
+  world = λ count capacity blocks words k. follow_world (follow_turns count capacity blocks words k);
+  account = λ count capacity blocks words k. follow_account (follow_turns count capacity blocks words k);
+  run = λ count capacity blocks words k are limit. record {
+    enabled = follow_runs (follow_turns count capacity blocks words k) (sound_start count capacity blocks are);
+    limit = let b : length (turns_from words 1 k (running count capacity blocks)).events ≤ 0 + k = turns_bounded words 1 k (running count capacity blocks) in omega (arith, b, limit);
+  };
+}

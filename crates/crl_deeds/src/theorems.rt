@@ -1,0 +1,44 @@
+//! Laws of the definitions.
+ghost use Rattle.std.specs.Prelude.{◌≡◌, ◌≤◌, ◌^◌, ℕ, List, [], ◌∷◌, ◌++◌, Bool, true, false, None};
+ghost use Rattle.std.specs.List.{All};
+ghost use Rattle.crl_model.specs.declared.event.Event.{Event};
+ghost use Rattle.crl_model.specs.declared.event.Event.TheVariants as event;
+ghost use Rattle.crl_model.specs.declared.statement.Statement.{Statement};
+ghost use Rattle.crl_protocol.specs.Places.{take_out};
+ghost use Rattle.crl_protocol.specs.World.{World, step, is_enabled, IsRun, world_of, account};
+ghost use Rattle.crl_protocol.specs.Chosen.{Running, running, turns_from};
+ghost use Rattle.crl_deeds.specs.Laws.{touches, IsDecided, Follows, AreStatements};
+
+/// An event changes only the nodes that it touches.
+pub fn events_touch_few()
+    ensures { (e : Event) (w : World) (m : ℕ) → touches e w m ≡ false → (step e w).world.nodes m ≡ w.nodes m }
+{}
+
+/// What isn't there can't happen: without a message at the place there is no event of it, and each event of a
+/// run may come after those before it.
+pub fn events_are_enabled()
+    ensures handle { (i place : ℕ) (w : World) → take_out place (w.nodes i).inbox ≡ None → is_enabled (event.Handle i place) w ≡ false }
+    ensures carry { (i place : ℕ) (w : World) → take_out place (w.nodes i).outbox ≡ None → is_enabled (event.Carry i place) w ≡ false }
+    ensures run { (count capacity : ℕ) (before : List Event) (e : Event) (behind : List Event) → IsRun count capacity (before ++ e ∷ behind) → is_enabled e (world_of count capacity before) ≡ true }
+{}
+
+/// An account grows with each event by the entries that are decided there, and by no other.
+pub fn entries_are_decided()
+    ensures grows { (count capacity : ℕ) (run : List Event) (e : Event) → account count capacity (run ++ e ∷ []) ≡ account count capacity run ++ (step e (world_of count capacity run)).entries }
+    ensures world { (count capacity : ℕ) (run : List Event) (e : Event) → world_of count capacity (run ++ e ∷ []) ≡ (step e (world_of count capacity run)).world }
+    ensures decided { (e : Event) (w : World) → All (IsDecided e w) (step e w).entries }
+{}
+
+/// What a script and an order choose is a run, with its world and its account. It has at most an event for
+/// each turn.
+pub fn choices_make_runs()
+    ensures world { (count capacity : ℕ) (blocks : List (List Statement)) (words : ℕ → ℕ) (k : ℕ) → (turns_from words 1 k (running count capacity blocks)).world ≡ world_of count capacity (turns_from words 1 k (running count capacity blocks)).events }
+    ensures account { (count capacity : ℕ) (blocks : List (List Statement)) (words : ℕ → ℕ) (k : ℕ) → (turns_from words 1 k (running count capacity blocks)).entries ≡ account count capacity (turns_from words 1 k (running count capacity blocks)).events }
+    ensures run { (count capacity : ℕ) (blocks : List (List Statement)) (words : ℕ → ℕ) (k : ℕ) → AreStatements blocks → k ≤ 2 ^ 62 → IsRun count capacity (turns_from words 1 k (running count capacity blocks)).events }
+{}
+
+/// The runs that follow a script are those that its choices give.
+pub fn choices_give_all_runs()
+    ensures follow { (count capacity : ℕ) (blocks : List (List Statement)) (words : ℕ → ℕ) (k : ℕ) → Follows (running count capacity blocks) (turns_from words 1 k (running count capacity blocks)).events (turns_from words 1 k (running count capacity blocks)) }
+    ensures all { (count capacity : ℕ) (blocks : List (List Statement)) (es : List Event) (end : Running) → Follows (running count capacity blocks) es end → (words : ℕ → ℕ) × (k : ℕ) × (end ≡ turns_from words 1 k (running count capacity blocks)) }
+{}

@@ -1,9 +1,0 @@
-use Rattle.crl_protocol.proofs.Following.{follow_turns}
-use Rattle.crl_protocol.proofs.Wording.{all_worded}
-use Rattle.crl_protocol.proofs.theorems.choices_give_all_runs.Goals as goal
-
-pub returns : goal.returns
-returns c = record {
-  follow = follow_turns;
-  all = λ count capacity blocks es end f. all_worded f;
-}
