@@ -3,7 +3,7 @@
 An entry is a node, the word of its line, and the fields behind it. A name is a pair of its home and its serial.
 """
 
-REGION_LIMIT = 65_536
+REGION_LIMIT = 16_777_216
 SEND_LIMIT = 65_536
 LAST = 2**32 - 1  # of serials, map counts and nested reads
 

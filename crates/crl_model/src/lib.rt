@@ -15,6 +15,7 @@ pub mod journal;
 pub mod mapping;
 pub mod message;
 pub mod name;
+pub mod piece;
 pub mod report;
 pub mod stage;
 pub mod statement;
@@ -28,7 +29,7 @@ pub type NodeNo = u16;
 pub const NODE_LIMIT: NodeNo = 64;
 
 /// The largest region, in bytes.
-pub const REGION_LIMIT: u32 = 65_536;
+pub const REGION_LIMIT: u32 = 16_777_216;
 
 /// The most bytes that a broadcast sends.
 pub const BROADCAST_LIMIT: usize = 65_536;

@@ -2,21 +2,19 @@
 use Rattle.std.specs.Prelude.{ℕ, zero, suc, ◌+◌, ◌-◌, ◌*◌, ◌/◌, Bool, true, false, if◌then◌else◌, List, [], ◌∷◌, ◌++◌, length, take, drop, replicate, min}
 use Rattle.std.specs.declared.option.Option.{Option}
 use Rattle.std.specs.declared.option.Option.TheVariants.{None, Some}
-
-abbrev pub PIECE : ℕ
-PIECE = 32768
+use Rattle.crl_pieces.specs.declared.TheConstants.{PIECE_LEN}
 
 -- how many pieces so many bytes have, from 1, and how long each of them is
 abbrev pub count : ℕ → ℕ
-count size = (size - 1) / PIECE + 1
+count size = (size - 1) / PIECE_LEN + 1
 
 abbrev pub piece_size : ℕ → ℕ → ℕ
-piece_size size index = min PIECE (size - index * PIECE)
+piece_size size index = min PIECE_LEN (size - index * PIECE_LEN)
 
 -- bytes cut into so many pieces
 abbrev pub cut_in : ℕ → List ℕ → List (List ℕ)
 cut_in zero bytes = []
-cut_in (suc n) bytes = take PIECE bytes ∷ cut_in n (drop PIECE bytes)
+cut_in (suc n) bytes = take PIECE_LEN bytes ∷ cut_in n (drop PIECE_LEN bytes)
 
 unfoldable pub cut : List ℕ → List (List ℕ)
 cut bytes = cut_in (count (length bytes)) bytes

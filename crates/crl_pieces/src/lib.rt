@@ -4,6 +4,9 @@
 ghost use Rattle.std.specs.Prelude.{◌≡◌, ℕ, List, length, true};
 ghost use Rattle.crl_pieces.specs.Pieces.{count, cut, join, slots, fresh, joined, is_complete, Cell, Came};
 
+/// The number of bytes of a piece that isn't the last.
+pub const PIECE_LEN: u32 = 32_768;
+
 /// Joined, the pieces of bytes are the bytes; there are as many as their number of bytes gives. In whatever order they
 /// come, what was gathered is the whole where none is missing.
 pub fn pieces_join()

@@ -2,6 +2,7 @@
 use Rattle.std.specs.Prelude.{ℕ, ◌==◌, Bool, true, false, ◌&&◌, if◌then◌else◌, List, [], ◌∷◌, ◌++◌, length}
 use Rattle.std.specs.declared.option.Option.{Option}
 use Rattle.std.specs.declared.option.Option.TheVariants.{None, Some}
+pub use Rattle.crl_model.specs.declared.piece.Piece.{Piece}
 use Rattle.crl_model.specs.declared.name.Name.{Name}
 use Rattle.crl_model.specs.declared.message.Granted.{Granted}
 use Rattle.crl_model.specs.declared.message.Granted.TheVariants.{Shared, Exclusive, Upgrade}
@@ -10,12 +11,6 @@ use Rattle.crl_model.specs.declared.message.Kind.{Kind}
 use Rattle.crl_model.specs.declared.message.Kind.TheVariants as kind
 use Rattle.crl_model.specs.Names.{name_eq}
 use Rattle.crl_pieces.specs.Pieces.{count, piece_size, cut, fresh, left_from, nothing_came}
-
--- a message with a part of its bytes: of so many pieces, the one of this index
-pub record Piece : Type 0 where
-  pub message : Message
-  pub pieces : ℕ
-  pub index : ℕ
 
 -- the bytes that travel in pieces
 abbrev pub load_of_grant : Granted → List ℕ

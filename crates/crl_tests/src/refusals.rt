@@ -27,7 +27,7 @@ fn refuses(
     Ok(())
 }
 
-// A region has 1 to 65,536 bytes.
+// A region has 1 to 16,777,216 bytes.
 #[test]
 fn creates_of_other_sizes(rt: HostRuntime) -> Result<(), Fail> {
     refuses(
@@ -36,8 +36,8 @@ fn creates_of_other_sizes(rt: HostRuntime) -> Result<(), Fail> {
         ("create a 1\n", "0 create 0:1 1\n", "region 0:1 00\n", 2),
         &[
             ("create b 0", "create 0:2 BadSize"),
-            ("create b 65537", "create 0:2 BadSize"),
-            ("create b 65540", "create 0:2 BadSize"),
+            ("create b 16777217", "create 0:2 BadSize"),
+            ("create b 16777220", "create 0:2 BadSize"),
             ("create b 4294967295", "create 0:2 BadSize"),
         ],
     )
