@@ -5,6 +5,10 @@ use Rattle.std.specs.Fmt.{signed_decimal}
 use Rattle.std.specs.List.{flat_map}
 use Rattle.hex.specs.Hex.{encode_lower}
 use Rattle.crl_model.specs.declared.name.Name.{Name}
+use Rattle.crl_model.specs.declared.blocked.Blocked.{Blocked}
+use Rattle.crl_model.specs.declared.blocked.Blocked.TheVariants as blocks
+use Rattle.crl_model.specs.declared.report.FinalRegion.{FinalRegion}
+use Rattle.crl_model.specs.Reports.{Reported}
 use Rattle.crl_model.specs.declared.call.CallKind.{CallKind}
 use Rattle.crl_model.specs.declared.call.CallKind.TheVariants as kinds
 use Rattle.crl_model.specs.declared.call.Refusal.{Refusal}
@@ -125,6 +129,19 @@ stuck_round_text node round absent = codes "stuck" ++ spaced (decimal node ∷ c
 -- `events E messages M`
 abbrev pub counts_text : ℕ → ℕ → List ℕ
 counts_text events messages = codes "events" ++ spaced (decimal events ∷ codes "messages" ∷ decimal messages ∷ []) ++ codes "\n"
+
+-- a region that is there at the end, and what keeps a node waiting
+abbrev pub final_text : FinalRegion → List ℕ
+final_text region = region_text region.name region.bytes
+
+abbrev pub blocked_text : Blocked → List ℕ
+blocked_text (blocks.Region node name holder) = stuck_section_text node name holder
+blocked_text (blocks.Round node round absent) = stuck_round_text node round absent
+
+-- what is printed of a run
+abbrev pub report_text : Reported → List ℕ
+report_text report =
+    account_text report.entries ++ flat_map final_text report.regions ++ flat_map blocked_text report.blocked ++ counts_text report.events report.messages
 
 -- whether a refusal for this reason names a round
 abbrev pub is_of_round : Refusal → Bool

@@ -8,12 +8,14 @@ mod guess;
 mod line;
 mod piece;
 mod read;
+mod report;
 mod sound;
 mod words;
 mod write;
 
 pub use fault::AccountFault;
 pub use read::read_account;
+pub use report::print_report;
 pub use sound::is_printable;
 pub use words::{call_word, refusal_word};
 pub use write::{

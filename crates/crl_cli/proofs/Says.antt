@@ -13,7 +13,7 @@ use Rattle.crl_cli.specs.Texts.{usage_text, read_fault_text}
 use Rattle.crl_cli.specs.declared.command.Command.{Command}
 use Rattle.crl_cli.specs.declared.command.Command.TheVariants.{OrderFirst, Check}
 use Rattle.std.specs.declared.option.Option.{Option}
-use Rattle.crl_cli.specs.declared.TheConstants.{TEXT_LIMIT}
+use Rattle.crl_cli.specs.declared.TheConstants.{SCRIPT_LIMIT, ACCOUNT_LIMIT}
 use Rattle.crl_cli.specs.declared.outcome.Outcome.{Outcome}
 use Rattle.crl_cli.specs.declared.status.Status.{Status}
 use Rattle.crl_cli.specs.declared.status.Status.TheVariants as status
@@ -28,7 +28,7 @@ pub bad_bytes : {E : Type 0} (r : Result Outcome E) (bytes text : List ℕ) → 
 bad_bytes (Ok o) bytes text bad is same = bad_one bytes text o.text.items o.status bad is same
 bad_bytes (Err e) bytes text bad is same = tt
 
-of_script : (s : Status) (bytes text : List ℕ) (program : Program) → length bytes ≤ TEXT_LIMIT → script_of bytes ≡ Ok program → SaysOf s program text → SaysOrder s bytes text
+of_script : (s : Status) (bytes text : List ℕ) (program : Program) → length bytes ≤ SCRIPT_LIMIT → script_of bytes ≡ Ok program → SaysOf s program text → SaysOrder s bytes text
 of_script status.Ok bytes text program within reads h = record { program = program; within = within; reads = reads; account = h }
 of_script status.BadScript bytes text program within reads h = rw h.1 (not_yet program within reads h.0)
 of_script status.Usage bytes text program within reads h = h
@@ -39,7 +39,7 @@ of_script status.Illegal bytes text program within reads h = h
 of_script status.BadAccount bytes text program within reads h = h
 
 -- the answer to bytes that are a script
-pub read_bytes : {E : Type 0} (r : Result Outcome E) (bytes : List ℕ) (program : Program) → length bytes ≤ TEXT_LIMIT → script_of bytes ≡ Ok program
+pub read_bytes : {E : Type 0} (r : Result Outcome E) (bytes : List ℕ) (program : Program) → length bytes ≤ SCRIPT_LIMIT → script_of bytes ≡ Ok program
     → IfOk r (λ o. SaysOf o.status program o.text.items) → IfOk r (λ o. SaysOrder o.status bytes o.text.items)
 read_bytes (Ok o) bytes program within reads h = of_script o.status bytes o.text.items program within reads h
 read_bytes (Err e) bytes program within reads h = tt
@@ -53,7 +53,7 @@ pub bad_account_bytes : {E : Type 0} (r : Result Outcome E) (nodes : ℕ) (bytes
 bad_account_bytes (Ok o) nodes bytes text bad is same = bad_account_one nodes bytes text o.text.items o.status bad is same
 bad_account_bytes (Err e) nodes bytes text bad is same = tt
 
-of_entries : (s : Status) (nodes : ℕ) (bytes text : List ℕ) (entries : List Entry) → length bytes ≤ TEXT_LIMIT → IsAccount (lines_of bytes) entries → SaysEntries nodes s entries text → SaysCheck nodes s bytes text
+of_entries : (s : Status) (nodes : ℕ) (bytes text : List ℕ) (entries : List Entry) → length bytes ≤ ACCOUNT_LIMIT → IsAccount (lines_of bytes) entries → SaysEntries nodes s entries text → SaysCheck nodes s bytes text
 of_entries status.Ok nodes bytes text entries within account h = record { within = within; entries = entries; account = account; legal = h.0; says = h.1 }
 of_entries status.Illegal nodes bytes text entries within account h = record { within = within; entries = entries; account = account; place = h.0; first = h.1; says = h.2 }
 of_entries status.Usage nodes bytes text entries within account h = h
@@ -64,7 +64,7 @@ of_entries status.OutOfMemory nodes bytes text entries within account h = h
 of_entries status.BadAccount nodes bytes text entries within account h = absurd h
 
 -- the answer to bytes that are an account
-pub judged_bytes : {E : Type 0} (r : Result Outcome E) (nodes : ℕ) (bytes : List ℕ) (entries : List Entry) → length bytes ≤ TEXT_LIMIT → IsAccount (lines_of bytes) entries
+pub judged_bytes : {E : Type 0} (r : Result Outcome E) (nodes : ℕ) (bytes : List ℕ) (entries : List Entry) → length bytes ≤ ACCOUNT_LIMIT → IsAccount (lines_of bytes) entries
     → IfOk r (λ o. SaysEntries nodes o.status entries o.text.items) → IfOk r (λ o. SaysCheck nodes o.status bytes o.text.items)
 judged_bytes (Ok o) nodes bytes entries within account h = of_entries o.status nodes bytes o.text.items entries within account h
 judged_bytes (Err e) nodes bytes entries within account h = tt
@@ -88,7 +88,7 @@ fault_comes (Ok o) a command some rose is same = fault_one a o.status o.text.ite
 fault_comes (Err e) a command some rose is same = tt
 
 -- the answer of a command to the bytes that were read
-pub said_comes : {E : Type 0} (r : Result Outcome E) (a : Asked) (command : Command) (bytes : List ℕ) → command_of a.words ≡ Some command → IsInput a.left a.later bytes
+pub said_comes : {E : Type 0} (r : Result Outcome E) (a : Asked) (command : Command) (bytes : List ℕ) → command_of a.words ≡ Some command → IsInput command a.left a.later bytes
     → IfOk r (λ o. Says command o.status bytes o.text.items) → IfOk r (λ o. Comes a o.status o.text.items)
 said_comes (Ok o) a command bytes some input h = said command o.status bytes o.text.items some input h
 said_comes (Err e) a command bytes some input h = tt
@@ -107,7 +107,7 @@ not_check : (n : ℕ) (o : Option Command) → o ≡ Some (Check n) → o ≡ So
 not_check n o e h = cc
 
 -- Ok, where the words are those of a run, is the account of a script
-pub ran : (a : Asked) (s : Status) (text : List ℕ) → Comes a s text → s ≡ status.Ok → command_of a.words ≡ Some OrderFirst → (bytes : List ℕ) × IsInput a.left a.later bytes × IsRun bytes text
+pub ran : (a : Asked) (s : Status) (text : List ℕ) → Comes a s text → s ≡ status.Ok → command_of a.words ≡ Some OrderFirst → (bytes : List ℕ) × IsInput OrderFirst a.left a.later bytes × IsRun bytes text
 ran a s text (usage none) e first = cc
 ran a s text (read_fault command some rose) e first = cc
 ran a s text (said OrderFirst status bytes shown some input h) e first = (bytes, input, run_of status bytes text h e)

@@ -5,6 +5,7 @@ use Rattle.std.specs.Io.KnownBytes.{Appends}
 use Rattle.crl_outside.specs.Faults.{AppendsFront}
 use Rattle.crl_cli.specs.declared.status.Status.{Status}
 use Rattle.crl_cli.specs.declared.status.Status.TheVariants.{WriteFault, OutOfMemory}
+use Rattle.crl_cli.specs.declared.command.Command.TheVariants.{OrderFirst}
 use Rattle.crl_cli.specs.Outcome.{Asked, Comes, IsInput, IsRun}
 
 -- The text of the status was printed whole; a fault of the sink left a first part of the text of some
@@ -19,6 +20,6 @@ Prints asked held later status = (text : List ℕ) × Comes asked status text ×
 pub record IsHeadline (left left_later held held_later : Option (List ℕ)) : Type 0 where
   pub bytes : List ℕ
   pub text : List ℕ
-  pub input : IsInput left left_later bytes
+  pub input : IsInput OrderFirst left left_later bytes
   pub run : IsRun bytes text
   pub shown : Appends held held_later text

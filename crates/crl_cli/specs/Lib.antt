@@ -2,9 +2,5 @@ pub mod Answers
 pub mod Codes
 pub mod CommandLine
 pub mod Commands
-pub mod OneNode
 pub mod Outcome
-pub mod Refusals
-pub mod Report
-pub mod Steps
 pub mod Texts

@@ -11,41 +11,45 @@ use Rattle.crl_script.specs.Program.{Program, Fault}
 use Rattle.crl_script.specs.Sentence.{script_of}
 use Rattle.crl_account.specs.Account.{lines_of, IsAccount, IsFirstBad}
 use Rattle.crl_check.specs.Histories.{IsFirstIllegal}
-use Rattle.crl_cli.specs.declared.TheConstants.{TEXT_LIMIT}
+use Rattle.crl_cli.specs.declared.TheConstants.{SCRIPT_LIMIT, ACCOUNT_LIMIT}
 use Rattle.crl_cli.specs.declared.command.Command.{Command}
 use Rattle.crl_cli.specs.declared.command.Command.TheVariants.{OrderFirst, Check}
 use Rattle.crl_cli.specs.Commands.{command_of}
 use Rattle.crl_cli.specs.declared.status.Status.{Status}
 use Rattle.crl_cli.specs.declared.status.Status.TheVariants as status
-use Rattle.crl_cli.specs.OneNode.{no_drafts, CanRunAll, account_from}
-use Rattle.crl_cli.specs.Report.{report_text}
+use Rattle.crl_alone.specs.OneNode.{CanRunAll}
+use Rattle.crl_alone.specs.Reports.{IsReportOf}
+use Rattle.crl_account.specs.Text.{report_text}
+use Rattle.crl_model.specs.Reports.{Reported}
 use Rattle.crl_cli.specs.Texts.{usage_text, read_fault_text, bad_script_text, why_word, too_long_text, not_yet_text, legal_text, illegal_text, bad_account_text}
 
--- the bytes that were read: all that the source had, or one more than a text may have
-pub record IsInput (left later : Option (List ℕ)) (bytes : List ℕ) : Type 0 where
+-- the most bytes of a text that the command reads
+abbrev pub limit_of : Command → ℕ
+limit_of OrderFirst = SCRIPT_LIMIT
+limit_of (Check nodes) = ACCOUNT_LIMIT
+
+-- the bytes that were read: all that the source had, or one more than the text may have
+pub record IsInput (command : Command) (left later : Option (List ℕ)) (bytes : List ℕ) : Type 0 where
   pub taken : Consumes left later bytes
-  pub whole : (length bytes ≡ TEXT_LIMIT + 1) ⊎ IsAtEnd later
+  pub whole : (length bytes ≡ limit_of command + 1) ⊎ IsAtEnd later
 
 -- these are the statements of a script of one node
 abbrev pub IsAlone : Program → List Statement → Type 0
 IsAlone program statements = (program.nodes ≡ 1) × (slice_get program.blocks 0 ≡ Some statements)
 
--- What is printed of a script is one history of the single machine, and then its array: each statement
--- can be run, each entry is a legal step after those before it, the script's calls stand once, in order,
--- with their answers, of which one may be a refusal, and the final regions are the array's.
+-- What is printed of a script is one history of the single machine, and then its array: the run of its
+-- statements is reported, and the text has the report's lines.
 pub record IsAccountOf (program : Program) (text : List ℕ) : Type 0 where
   pub statements : List Statement
   pub alone : IsAlone program statements
-  pub can : CanRunAll statements
-  pub history : List Entry
-  pub legal : IsHistory (start program.nodes) history
-  pub calls : history ≡ account_from (start program.nodes) no_drafts statements
-  pub printed : text ≡ report_text history (after_all (start program.nodes) history) (length history) 0
+  pub report : Reported
+  pub reported : IsReportOf statements report
+  pub printed : text ≡ report_text report
 
 -- the bytes are a script, and the text is its account
 pub record IsRun (bytes text : List ℕ) : Type 0 where
   pub program : Program
-  pub within : length bytes ≤ TEXT_LIMIT
+  pub within : length bytes ≤ SCRIPT_LIMIT
   pub reads : script_of bytes ≡ Ok program
   pub account : IsAccountOf program text
 
@@ -55,14 +59,14 @@ IsNotYet program = (statements : List Statement) → IsAlone program statements 
 
 -- the bytes are too many, aren't a script, or are one that can't be run yet, and the text says so
 pub data IsBadScript (bytes : List ℕ) : List ℕ → Type 0 where
-  too_long : TEXT_LIMIT < length bytes → IsBadScript bytes too_long_text
-  unread : (fault : Fault) → length bytes ≤ TEXT_LIMIT → script_of bytes ≡ Err fault → IsBadScript bytes (bad_script_text fault.line (why_word fault.why))
-  not_yet : (program : Program) → length bytes ≤ TEXT_LIMIT → script_of bytes ≡ Ok program → IsNotYet program → IsBadScript bytes not_yet_text
+  too_long : SCRIPT_LIMIT < length bytes → IsBadScript bytes too_long_text
+  unread : (fault : Fault) → length bytes ≤ SCRIPT_LIMIT → script_of bytes ≡ Err fault → IsBadScript bytes (bad_script_text fault.line (why_word fault.why))
+  not_yet : (program : Program) → length bytes ≤ SCRIPT_LIMIT → script_of bytes ≡ Ok program → IsNotYet program → IsBadScript bytes not_yet_text
 
 -- The bytes are the account of a history that is no legal one: this is the first entry that is no legal
 -- step, each on its line.
 pub record IsIllegal (nodes : ℕ) (bytes text : List ℕ) : Type 0 where
-  pub within : length bytes ≤ TEXT_LIMIT
+  pub within : length bytes ≤ ACCOUNT_LIMIT
   pub entries : List Entry
   pub account : IsAccount (lines_of bytes) entries
   pub place : ℕ
@@ -71,7 +75,7 @@ pub record IsIllegal (nodes : ℕ) (bytes text : List ℕ) : Type 0 where
 
 -- the bytes are the account of a legal history
 pub record IsLegalAccount (nodes : ℕ) (bytes text : List ℕ) : Type 0 where
-  pub within : length bytes ≤ TEXT_LIMIT
+  pub within : length bytes ≤ ACCOUNT_LIMIT
   pub entries : List Entry
   pub account : IsAccount (lines_of bytes) entries
   pub legal : IsHistory (start nodes) entries
@@ -79,8 +83,8 @@ pub record IsLegalAccount (nodes : ℕ) (bytes text : List ℕ) : Type 0 where
 
 -- the bytes are too many, or this line is the first that fits no place, and the text says so
 pub data IsBadAccount (bytes : List ℕ) : List ℕ → Type 0 where
-  account_too_long : TEXT_LIMIT < length bytes → IsBadAccount bytes (bad_account_text 0)
-  bad_line : (line : ℕ) → length bytes ≤ TEXT_LIMIT → IsFirstBad (lines_of bytes) line → IsBadAccount bytes (bad_account_text line)
+  account_too_long : ACCOUNT_LIMIT < length bytes → IsBadAccount bytes (bad_account_text 0)
+  bad_line : (line : ℕ) → length bytes ≤ ACCOUNT_LIMIT → IsFirstBad (lines_of bytes) line → IsBadAccount bytes (bad_account_text line)
 
 -- what a command says of the bytes that were read
 abbrev pub SaysOrder : Status → List ℕ → List ℕ → Type 0
@@ -127,4 +131,4 @@ asked words left later faults faults_later = record { words = words; left = left
 pub data Comes (a : Asked) : Status → List ℕ → Type 0 where
   usage : command_of a.words ≡ None → Comes a status.Usage usage_text
   read_fault : (command : Command) → command_of a.words ≡ Some command → Rose a.faults a.faults_later → Comes a status.ReadFault read_fault_text
-  said : (command : Command) (status : Status) (bytes text : List ℕ) → command_of a.words ≡ Some command → IsInput a.left a.later bytes → Says command status bytes text → Comes a status text
+  said : (command : Command) (status : Status) (bytes text : List ℕ) → command_of a.words ≡ Some command → IsInput command a.left a.later bytes → Says command status bytes text → Comes a status text

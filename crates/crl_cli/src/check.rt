@@ -3,7 +3,7 @@ ghost use Rattle.std.specs.Prelude.{◌≡◌, ◌≤◌, ◌<◌, ◌+◌, IfOk
 ghost use Rattle.crl_cli.specs.Outcome.{SaysCheck, SaysEntries};
 ghost use Rattle.crl_cli.specs.Texts.{legal_text, illegal_text, bad_account_text};
 
-use crate::TEXT_LIMIT;
+use crate::ACCOUNT_LIMIT;
 use crate::outcome::Outcome;
 use crate::status::Status;
 use crl_account::{AccountFault, read_account};
@@ -14,12 +14,12 @@ use std::alloc::Global;
 
 /// Judges the account that these bytes are.
 pub(crate) fn check_text(alloc: Global, bytes: &[u8], nodes: NodeNo) -> Result<Outcome, OutOfMemory>
-    requires within { length bytes.now ≤ TEXT_LIMIT + 1 }
+    requires within { length bytes.now ≤ ACCOUNT_LIMIT + 1 }
     requires some { 1 ≤ nodes }
     requires few { nodes ≤ NODE_LIMIT }
     ensures { IfOk result (λ o. SaysCheck nodes o.status bytes.now o.text.items) }
 {
-    if bytes.len() > TEXT_LIMIT {
+    if bytes.len() > ACCOUNT_LIMIT {
         return bad_account(alloc, 0);
     }
     match read_account(alloc, bytes) {

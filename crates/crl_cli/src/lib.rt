@@ -7,10 +7,10 @@ pub mod command;
 mod command_line;
 mod order;
 mod outcome;
-mod refusal;
-mod report;
-mod runner;
 pub mod status;
 
-/// The most bytes that a script or an account may have.
-pub const TEXT_LIMIT: usize = 16_777_216;
+/// The most bytes that a script may have.
+pub const SCRIPT_LIMIT: usize = 16_777_216;
+
+/// The most bytes that an account may have.
+pub const ACCOUNT_LIMIT: usize = 268_435_456;

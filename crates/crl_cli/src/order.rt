@@ -3,21 +3,20 @@ ghost use Rattle.std.specs.Prelude.{◌≡◌, ◌≤◌, ◌<◌, ◌^◌, ◌+
 ghost use Rattle.crl_cli.specs.Outcome.{SaysOrder, SaysOf};
 ghost use Rattle.crl_cli.specs.Texts.{bad_script_text, why_word, not_yet_text};
 
-use crate::TEXT_LIMIT;
+use crate::SCRIPT_LIMIT;
 use crate::outcome::Outcome;
-use crate::report::report;
-use crate::runner::Runner;
 use crate::status::Status;
+use crl_account::print_report;
 use crl_model::OutOfMemory;
 use crl_script::{Script, ScriptFault, ScriptWhy, read_script};
 use std::alloc::Global;
 
 /// The run of the script that these bytes are.
 pub(crate) fn run_text(alloc: Global, bytes: &[u8]) -> Result<Outcome, OutOfMemory>
-    requires { length bytes.now ≤ TEXT_LIMIT + 1 }
+    requires { length bytes.now ≤ SCRIPT_LIMIT + 1 }
     ensures { IfOk result (λ o. SaysOrder o.status bytes.now o.text.items) }
 {
-    if bytes.len() > TEXT_LIMIT {
+    if bytes.len() > SCRIPT_LIMIT {
         return bad_script(alloc, 0, "TooLong");
     }
     match read_script(alloc, bytes) {
@@ -34,13 +33,12 @@ fn run_script(alloc: Global, script: &Script) -> Result<Outcome, OutOfMemory>
     if script.nodes() != 1 {
         return not_yet(alloc);
     }
-    let Some(run) = Runner::run(alloc, script.statements(0))? else {
+    let Some(report) = crl_alone::run(alloc, script.statements(0))? else {
         return not_yet(alloc);
     };
-    let entries = run.entries();
     Ok(Outcome {
         status: Status::Ok,
-        text: report(alloc, entries, run.machine(), entries.len() as u64, 0)?,
+        text: print_report(alloc, &report)?,
     })
 }
 

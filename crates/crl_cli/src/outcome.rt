@@ -1,14 +1,14 @@
 //! What a command ends with: its status, and the text to be printed with it.
 ghost use Rattle.std.specs.Prelude.{◌≡◌, ◌≤◌, ◌+◌, IfOk, None, length, map, string_bytes};
 ghost use Rattle.crl_cli.specs.Commands.{command_of, IsSound};
-ghost use Rattle.crl_cli.specs.Outcome.{Says, Comes, asked};
+ghost use Rattle.crl_cli.specs.Outcome.{Says, Comes, asked, limit_of};
 ghost use Rattle.crl_cli.specs.Texts.{usage_text, read_fault_text};
 
-use crate::TEXT_LIMIT;
 use crate::check::check_text;
 use crate::command::{Command, command_of};
 use crate::order::run_text;
 use crate::status::Status;
+use crate::{ACCOUNT_LIMIT, SCRIPT_LIMIT};
 use crl_model::OutOfMemory;
 use crl_outside::source::Source;
 use crl_outside::whole::{ReadFault, read_all};
@@ -34,16 +34,26 @@ pub(crate) fn outcome_of<S: Source>(
     let Some(command) = command_of(alloc, words)? else {
         return usage(alloc);
     };
-    match read_all(alloc, source, TEXT_LIMIT + 1) {
+    match read_all(alloc, source, limit_of(command) + 1) {
         Ok(bytes) => say(alloc, command, bytes.as_slice()),
         Err(ReadFault::Failed) => read_fault(alloc),
         Err(ReadFault::OutOfMemory) => Err(OutOfMemory),
     }
 }
 
+/// The most bytes of a text that the command reads.
+fn limit_of(command: Command) -> usize
+    ensures { result ≡ limit_of command }
+{
+    match command {
+        Command::OrderFirst => SCRIPT_LIMIT,
+        Command::Check(_) => ACCOUNT_LIMIT,
+    }
+}
+
 /// What the command says of the bytes that were read.
 fn say(alloc: Global, command: Command, bytes: &[u8]) -> Result<Outcome, OutOfMemory>
-    requires within { length bytes.now ≤ TEXT_LIMIT + 1 }
+    requires within { length bytes.now ≤ limit_of command + 1 }
     requires sound { IsSound command }
     ensures { IfOk result (λ o. Says command o.status bytes.now o.text.items) }
 {

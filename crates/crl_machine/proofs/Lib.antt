@@ -4,6 +4,7 @@ mod DeskSet
 mod FullRounds
 mod Histories
 pub mod Laws
+mod Listing
 mod Runs
 mod Sections
 mod States

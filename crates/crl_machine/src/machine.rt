@@ -21,6 +21,7 @@ use std::alloc::Global;
 use std::collections::BTreeMap;
 
 mod refusals;
+mod regions;
 mod rounds;
 mod rows;
 

@@ -8,7 +8,7 @@ returns-in_default-clause-comes g c = usage_comes c.usage.result _ (sym c.in_ok-
 pub returns-in-Ok-clause-comes : goal.returns-in-Ok-clause-comes
 returns-in-Ok-clause-comes g c =
     said_comes c.say.result _ c.in-Some.command c.as_slice.result.now (sym c.in_ok-command.ensures.command ∙ c.in-Some.is)
-    (rw c.as_slice.ensures.value (record { taken = c.in-Ok.ensures.taken; whole = c.in-Ok.ensures.whole })) c.say.ensures
+    (rw c.as_slice.ensures.value (record { taken = c.in-Ok.ensures.taken; whole = rw (sym c.limit_of.ensures) c.in-Ok.ensures.whole })) c.say.ensures
 
 pub returns-in-Err-Failed-clause-comes : goal.returns-in-Err-Failed-clause-comes
 returns-in-Err-Failed-clause-comes g c =

@@ -1,0 +1,3 @@
+mod Answerable
+mod Runs
+mod Standing

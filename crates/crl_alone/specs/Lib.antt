@@ -1,0 +1,4 @@
+pub mod OneNode
+pub mod Refusals
+pub mod Reports
+pub mod Steps
