@@ -7,6 +7,7 @@ pub mod command;
 mod command_line;
 mod order;
 mod outcome;
+pub mod program;
 pub mod status;
 
 /// The most bytes that a script may have.

@@ -12,7 +12,7 @@ pub trait Sink {
     /// The bytes that it holds, where the sink tells them.
     ghost held: { Self → Option (List ℕ) };
 
-    /// The count of its faults. It never falls, and rises where a push fails.
+    /// The count of its faults. It never falls, rises if a push fails, and stays if it takes.
     ghost faults: { Self → ℕ };
 
     /// Takes a first part of the piece, and says how many bytes that is: at least 1, unless the

@@ -12,7 +12,7 @@ pub trait Source {
     /// The bytes that are left, where the source tells them.
     ghost left: { Self → Option (List ℕ) };
 
-    /// The count of its faults. It never falls, and rises where a pull fails.
+    /// The count of its faults. It never falls, rises if a pull fails, and stays if it gives.
     ghost faults: { Self → ℕ };
 
     /// Takes the first bytes that are left into the front of `into`, and says how many. That is

@@ -64,6 +64,7 @@ pub fn read_all<S: Source>(
 
     ensures lost { OnErr result (ConsumesFront (S.left source.old) (S.left source.new)) }
     ensures later { S.faults source.old ≤ S.faults source.new }
+    ensures unfailed { OnOk result (S.faults source.new ≡ S.faults source.old) }
     ensures cause { IsErrOf result ReadFault.Failed →
         Rose (S.faults source.old) (S.faults source.new) }
 {
