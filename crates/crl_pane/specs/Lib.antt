@@ -1,0 +1,8 @@
+pub mod Blocks
+pub mod GuardLends
+pub mod Guards
+pub mod PaneLends
+pub mod Panes
+pub mod RowLends
+pub mod Shelves
+pub mod Shown
