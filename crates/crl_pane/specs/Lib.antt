@@ -1,6 +1,5 @@
 pub mod Blocks
 pub mod GuardLends
-pub mod Guards
 pub mod PaneLends
 pub mod Panes
 pub mod RowLends

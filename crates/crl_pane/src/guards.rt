@@ -18,28 +18,28 @@ pub struct Reading {
     pane: Arc<Pane, Global>,
     node: NodeNo,
     name: Name,
-    section: u64,
+    number: u64,
 }
 
 impl Model for Reading {
     ghost use Rattle.std.specs.Arc.{arc_value};
-    ghost use Rattle.crl_pane.specs.Guards.{Guard};
+    ghost use Rattle.crl_model.specs.Guards.{Guard};
 
     ghost Value = { Guard };
 
-    ghost view = { λ g. record { node = g.node; name = g.name; section = g.section; bytes = arc_value g.pane } };
+    ghost view = { λ g. record { node = g.node; name = g.name; number = g.number; bytes = arc_value g.pane } };
 }
 
 impl Reading {
     /// The guard of this section of a node, which shows the pane's bytes.
-    pub fn new(pane: Arc<Pane, Global>, node: NodeNo, name: Name, section: u64) -> Reading
-        ensures { result ≡ record { node = node; name = name; section = section; bytes = arc_value pane } }
+    pub fn new(pane: Arc<Pane, Global>, node: NodeNo, name: Name, number: u64) -> Reading
+        ensures { result ≡ record { node = node; name = name; number = number; bytes = arc_value pane } }
     {
         Reading {
             pane,
             node,
             name,
-            section,
+            number,
         }
     }
 
@@ -58,10 +58,10 @@ impl Reading {
     }
 
     /// The number of the section, by the node's count.
-    pub fn section(&self) -> u64
-        ensures { result ≡ self.now.section }
+    pub fn number(&self) -> u64
+        ensures { result ≡ self.now.number }
     {
-        self.section
+        self.number
     }
 
     /// The bytes.
@@ -77,7 +77,7 @@ impl Reading {
             pane,
             node: _,
             name: _,
-            section: _,
+            number: _,
         } = self;
         drop(pane);
     }
@@ -88,29 +88,29 @@ pub struct Writing {
     pane: Pane,
     node: NodeNo,
     name: Name,
-    section: u64,
+    number: u64,
 }
 
 impl Model for Writing {
-    ghost use Rattle.crl_pane.specs.Guards.{Guard};
+    ghost use Rattle.crl_model.specs.Guards.{Guard};
 
     ghost Value = { Guard };
 
-    ghost view = { λ g. record { node = g.node; name = g.name; section = g.section; bytes = g.pane } };
+    ghost view = { λ g. record { node = g.node; name = g.name; number = g.number; bytes = g.pane } };
 }
 
 impl Writing {
     ghost use Rattle.crl_pane.specs.GuardLends.{LendsWriting};
 
     /// The guard of this section of a node, with its own pane.
-    pub fn new(pane: Pane, node: NodeNo, name: Name, section: u64) -> Writing
-        ensures { result ≡ record { node = node; name = name; section = section; bytes = pane } }
+    pub fn new(pane: Pane, node: NodeNo, name: Name, number: u64) -> Writing
+        ensures { result ≡ record { node = node; name = name; number = number; bytes = pane } }
     {
         Writing {
             pane,
             node,
             name,
-            section,
+            number,
         }
     }
 
@@ -129,10 +129,10 @@ impl Writing {
     }
 
     /// The number of the section, by the node's count.
-    pub fn section(&self) -> u64
-        ensures { result ≡ self.now.section }
+    pub fn number(&self) -> u64
+        ensures { result ≡ self.now.number }
     {
-        self.section
+        self.number
     }
 
     /// The bytes.
@@ -159,7 +159,7 @@ impl Writing {
             pane,
             node: _,
             name: _,
-            section: _,
+            number: _,
         } = self;
         pane
     }
