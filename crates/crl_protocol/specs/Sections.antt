@@ -3,6 +3,7 @@ use Rattle.std.specs.Prelude.{ℕ, ◌+◌, Bool, true, false, if◌then◌else�
 use Rattle.std.specs.declared.option.Option.{Option}
 use Rattle.std.specs.declared.option.Option.TheVariants.{None, Some}
 use Rattle.crl_model.specs.declared.name.Name.{Name}
+pub use Rattle.crl_model.specs.Guards.{Guard}
 use Rattle.crl_model.specs.declared.directory.Section.{Section}
 use Rattle.crl_model.specs.declared.directory.Section.TheVariants.{Closed, Reading, Writing}
 use Rattle.crl_model.specs.Names.{at_name}
@@ -21,13 +22,6 @@ pub record Sections : Type 0 where
 
 abbrev pub no_sections : Sections
 no_sections = record { records = λ name. None; last = 0 }
-
--- what a program holds while its section is open
-pub record Guard : Type 0 where
-  pub node : ℕ
-  pub name : Name
-  pub number : ℕ
-  pub bytes : List ℕ
 
 abbrev pub section_of : Option OpenSection → Section
 section_of None = Closed

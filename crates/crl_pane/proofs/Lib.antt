@@ -1,0 +1,3 @@
+mod Crosses
+mod Sharing
+mod Walks

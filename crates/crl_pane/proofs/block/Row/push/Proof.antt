@@ -1,0 +1,163 @@
+-- `push` writes the first of the empty places. Assumes `Logic`.
+use mathlib.Core.Path.{◌≡◌, refl, sym, ap, subst, ◌∙◌}
+use Prim.Native.Nat.{ℕ, suc, ◌+◌, ◌-◌, ◌*◌, ◌<◌, ◌^◌}
+use native.Mathlib.Omega.{arith}
+use native.Mathlib.Nat.{suc-mul}
+use mathlib.Core.List.{List, [], ◌∷◌, ◌++◌}
+use seplogic.Ra.Ura.{Ura}
+use base.Fraction.{full_share}
+use mir.Syntax.{Fn, named, w64}
+use mir.MapTy.{inst_fn}
+use mir.Val.{Val, vptr, vint, vunit}
+use base.Logic.{SProp, ent, never, id⊢}
+use base.Fml.{Lft, GName, Share, ftrue, fat, flft, fobs, fbor}
+use prog.Wp.{Env, Calls, Loops, WpFn, Tables}
+use types.Logic.{Logic}
+use contract.Monad.{fact}
+use contract.Running.{tables, tables_of}
+use sound.WpLaws.{WpFn-mono}
+use types.Kit.{Item, ⋆, ‵, ◌⊛◌, at_ret, ◌$◌, ◌∵◌, !, qed, by, move, keep, use1, use2, split, join, rewrite, fsplit, fsplit3, fjoin, fjoin3, feq_i, feq_l, suffices, frame, done}
+use types.Part.{whole, sub}
+use types.Run.{init, stop, fld, unit_lit, of_opd, assigns_last, first, blocks, exec, returns, enter}
+use types.ByLocal.{alloc_all, pass_all, free_all, look_at, get, get_in, through, sets, env}
+use types.SemTy.{Body as Borrowed}
+use denote.Exit.{yes, no}
+use denote.RattleType.{owns}
+use denote.Memory.{mem, part_at}
+use types.SemTy.{cells}
+use base.Fml.{froom}
+use mir.Syntax.{ty_array}
+use mir.Raw.{raw as bare}
+use borrow.Table.OneValue.{part_in}
+use denote.Param.{layout}
+use denote.RawPtr.{Ptr, in_a_block}
+use denote.Ref.{MutBor, MutRef}
+use denote.Builtin.{RefMutOf, unit}
+use denote.Signature.{plain}
+use denote.Steps.{nothing, opens, closes}
+use denote.Triple.Carry.{spared}
+use denote.Triple.Clauses.{Clauses, Ended, closing}
+use denote.Triple.Entry.{on_entry}
+use denote.Triple.Spec.{Meets, triple_of}
+use denote.Triple.Table.{entered, run_framed}
+use denote.Triple.Walked.{says, needs, Stays, stay_dropped, stay_ref, walk_of, ends_at, Goes-dropped, Goes-ref, walk_Meets}
+use Rattle.std_alloc.proofs.VecSteps.Shapes.{after}
+use Rattle.std_alloc.proofs.RcSteps.{Good, word, word-Good}
+use lib.ListN.{length, length-append}
+use types.Kit.{flt_l, flt_i}
+use types.Run.{bin, size_lit}
+use types.ByLocal.{take_at, give_at}
+use denote.Builtin.{usize}
+use Rattle.core.proofs.mem.Param.{El, R, args, elτ}
+use Rattle.core.proofs.ptr.Rows.{times_below, one_below}
+use Rattle.std_alloc.proofs.RawLayout.{as_written, as_raw}
+use Rattle.crl_pane.specs.Blocks.{row_owns}
+use Rattle.crl_pane.proofs.Walks.{Rw, St, sz, word_had, tells, one_more}
+use Rattle.crl_pane.specs.contracts.block.Row.push.Key.{name as #self}
+use Rattle.crl_pane.proofs.block.Row.push.Statement as stated
+use Rattle.crl_pane.proofs.block.Row.push.Code as code
+
+module _ (E : El) where
+  abbrev function : Fn
+  function = inst_fn (args E) code.function
+
+  abbrev ended : Ended
+  ended = record { signature = record { lifetimes = 1; outlives = []; params = RefMutOf (0 ∷ []) tt (plain (λ _. Rw E)) (λ _. tt) ∷ plain (λ _. St E) ∷ plain (λ _. usize) ∷ plain (λ _. R E) ∷ []; result = plain (λ _. unit) }; kept = (yes, (no, (no, (no, tt)))) }
+
+  abbrev stayed : Stays ended.signature.params ended.kept
+  stayed = (stay_ref (0 ∷ []) tt (plain (λ _. Rw E)), (stay_dropped (plain (λ _. St E)) no, (stay_dropped (plain (λ _. usize)) no, (stay_dropped (plain (λ _. R E)) no, tt))))
+
+  abbrev Asks : (Rw E).Denot → (St E).Denot → (usize).Denot → (R E).Denot → Type 0
+  Asks d start index item = (start.ptr ≡ d.at) × (index ≡ length d.items) × (0 < d.left)
+
+  abbrev Gives0 : (Rw E).Denot → (St E).Denot → (usize).Denot → (R E).Denot → (unit).Denot → (Rw E).Denot → Type 0
+  Gives0 d start index item r new = (new.at ≡ d.at) × (new.items ≡ d.items ++ item ∷ []) × (new.left + 1 ≡ d.left)
+
+  abbrev spec : {M : Type 1} {𝓤 : Ura M} (𝓛 : Logic 𝓤) → Clauses 𝓤 ended
+  spec {𝓤 = 𝓤} 𝓛 κs a = record { ghost = Unit {0}; requires = λ _. fact 𝓤 (Asks a.0.now a.1.0 a.1.1.0 a.1.1.1.0); ensures = λ _ r w. fact 𝓤 (Gives0 a.0.now a.1.0 a.1.1.0 a.1.1.1.0 r w.0.now) }
+
+module _ (E : El) {M : Type 1} {𝓤 : Ura M} (𝓛 : Logic 𝓤) (C : Calls 𝓤 𝓛.H) (Λ : Loops 𝓤 𝓛.H) (κ : Lft) (q : Share) (rb ro : ℕ) (γ : GName) (d : (Rw E).Denot) (start : (St E).Denot) (index : (usize).Denot) (item : (R E).Denot) (us0 us1 us2 us3 : List Val) where
+  open 𝓛 use {H, A}
+
+  abbrev self : MutBor (Rw E).Denot
+  self = record { ref_ptr = (rb, ro); ghost_name = γ; now = d }
+
+  abbrev bound : (walk_of 𝓛 (ended E) (stayed E) (spec E 𝓛)).Ghost
+  bound = (((κ, tt), (q, tt), tt, (self, (start, (index, (item, tt)))), (us0, (us1, (us2, (us3, tt))))), tt)
+
+  abbrev Post : Val → SProp 𝓤
+  Post = (walk_of 𝓛 (ended E) (stayed E) (spec E 𝓛)).post bound
+
+  exits : us0 ≡ vptr rb ro ∷ [] → (r : (unit).Denot) (v : Val) (new : (Rw E).Denot) → Gives0 E d start index item r new → ent 𝓤 (⋆ 𝓛 (‵ (fobs γ ((Rw E).coded.code new)) ∷ ‵ (fbor κ (Borrowed (mem (Rw E)) rb ro γ)) ∷ ‵ (flft κ q) ∷ ‵ ((unit).own_val r (v ∷ [])) ∷ [])) (Post v)
+  exits passed r v new g0 =
+      qed 𝓛 (‵ (fobs γ ((Rw E).coded.code new)) ∷ ‵ (fbor κ (Borrowed (mem (Rw E)) rb ro γ)) ∷ ‵ (flft κ q) ∷ ‵ ((unit).own_val r (v ∷ [])) ∷ []) ∵
+      suffices ! _ (ends_at 𝓛 (ended E) (stayed E) (spec E 𝓛) bound v r (new, (tt, (tt, (tt, tt)))) (tt, (tt, (tt, (tt, tt))))) $ says ! g0 $
+      nothing ! $ move ! (3 ∷ 0 ∷ []) $ join ! $ frame ! $ feq_i ! (List Val) us0 (vptr rb ro ∷ []) passed $ fjoin3 ! $ nothing ! $ nothing ! $ fjoin ! $ nothing ! $ fjoin ! $ nothing ! $ fjoin ! $ move ! (1 ∷ 0 ∷ []) $ fjoin ! $ done !
+
+  abbrev Had : Val → List (Item 𝓤)
+  Had v_item = ‵ (fobs γ ((Rw E).coded.code d)) ∷ ‵ (fbor κ (Borrowed (mem (Rw E)) rb ro γ)) ∷ ‵ (flft κ q) ∷ ‵ ((R E).own_val item (v_item ∷ [])) ∷ []
+
+  walk : us0 ≡ vptr rb ro ∷ [] → Asks E d start index item → index < 2 ^ 64 → (v_item : Val) → Good (layout (R E)) v_item → ent 𝓤 (⋆ 𝓛 (Had v_item)) (WpFn 𝓤 H C Λ (function E) (vptr rb ro ∷ word start.ptr ∷ vint w64 index ∷ v_item ∷ []) Post)
+  walk passed asked fits_index v_item good_item =
+      let left : ℕ = d.left - 1 in let fewer : d.left ≡ suc left = omega (arith, asked.2) in
+      let new : (Rw E).Denot = record { mark = d.mark; at = d.at; items = d.items ++ item ∷ []; left = left } in
+      qed 𝓛 (Had v_item) ∵ enter ! C Λ (function E) (vptr rb ro ∷ word start.ptr ∷ vint w64 index ∷ v_item ∷ []) _ $ alloc_all ! (λ l. pass_all ! refl ((tt, tt), (word-Good [] start.ptr, ((tt, record { fits = fits_index }), (good_item, tt)))) $
+      let En : Env 𝓤 H = env (function E).locals l in
+      opens ! tt (Rw E) {h = d} rb ro (λ vs. move ! (1 ∷ []) $ fsplit ! $ move ! (1 ∷ []) $
+      in_a_block ! d.at (λ p. row_owns (R E) p d.items d.left) (id⊢ 𝓤 (never 𝓤)) (λ b o e. fsplit ! $ flt_l ! (λ small.
+      let long : length new.items ≡ length d.items + 1 = length-append d.items (item ∷ []) in
+      let all : length d.items + d.left ≡ length new.items + left = omega (arith, long, fewer) in
+      let s = sz E in let many : ℕ = length d.items + d.left in
+      let tiny : s < 2 ^ 64 = omega (arith, one_below many s (2 ^ 63) (omega (arith, asked.2)) small) in
+      let far : index * s < 2 ^ 64 = omega (arith, times_below index many s (2 ^ 63) (omega (arith, asked.1)) small) in
+      let next : length new.items ≡ suc index = omega (arith, long, asked.1) in
+      let behind : index * s + o + s ≡ length new.items * s + o = omega (arith, ap (λ k. k * s) next, suc-mul index s) in
+      take_at ! 2 $ rewrite ! 0 (λ (p : Ptr). ‵ (fat full_share (layout (St E)) (l 2) 0 (word p))) (asked.0 ∙ e) refl $ give_at ! 2 $ first ! $ blocks ! $
+      sets ! (bin ! (get ! refl) (size_lit ! (record { fits = tiny })) (record { fits = far })) refl (tt, record { fits = far }) $
+      sets ! (bin ! (get_in ! (fld ! refl (stop !)) (sub ! 0 refl (whole !))) (get ! refl) tt) refl (tt, tt) $
+      fsplit ! $ move ! (1 ∷ []) $
+      rewrite ! 0 (λ (p : ℕ × ℕ). ‵ (froom (bare (ty_array (elτ E) p.0)) b (p.1 * s + o))) (λ i. (fewer i, sym asked.1 i)) refl $ as_written ! (ty_array (elτ E) (suc left)) b (index * s + o) $
+      use1 𝓛 (‵ (froom (elτ E) b (index * s + o)) ⊛ ‵ (froom (ty_array (elτ E) left) b (index * s + o + s))) (𝓛.laws.room_uncons (elτ E) left b (index * s + o)) $ split ! $
+      -- [the room; the room behind it; the values; the mark; its cell; the open borrow; obs; auth; what the item owns]
+      sets ! (of_opd ! (get ! refl)) refl good_item $ assigns_last ! (of_opd ! (get ! refl)) (through ! refl (stop !)) (init ! 0 refl good_item) $
+      exec ! C Λ En (after 1 (function E).body) (at_ret En Post) $ sets ! (of_opd ! (unit_lit !)) refl (tt, tt) $
+      move ! (0 ∷ 8 ∷ []) $ use2 𝓛 (‵ (part_at (R E) full_share item b (index * s + o))) (part_in 𝓛 (R E) refl full_share item b (index * s + o) v_item) $
+      move ! (0 ∷ 2 ∷ []) $ use2 𝓛 (‵ (cells (mem (R E)) new.items b o)) (one_more E 𝓛 b d.items item o (index * s + o) (ap (λ k. k * s + o) asked.1)) $
+      move ! (1 ∷ []) $ as_raw ! (ty_array (elτ E) left) b (index * s + o + s) $
+      rewrite ! 0 (λ (k : ℕ). ‵ (froom (bare (ty_array (elτ E) left)) b k)) {x = length new.items * s + o} behind refl $ move ! (1 ∷ 0 ∷ []) $ fjoin ! $
+      flt_i ! ((length new.items + left) * s) (2 ^ 63) (subst (λ k. k * s < 2 ^ 63) all small) $ fjoin ! $
+      rewrite ! 0 (λ (p : Ptr). ‵ (row_owns (R E) p new.items new.left)) (sym e) refl $ move ! (1 ∷ 0 ∷ []) $ fjoin ! $ move ! (1 ∷ 0 ∷ []) $ closes ! tt (Rw E) new vs rb ro $
+      returns ! (look_at ! 0 refl) $ free_all ! refl $ keep ! (0 ∷ 1 ∷ 2 ∷ []) $ feq_i ! (List Val) (vunit ∷ []) (vunit ∷ []) refl $ move ! (1 ∷ 2 ∷ 3 ∷ 0 ∷ []) $
+      by ! (exits passed tt vunit new (refl, refl, omega (arith, fewer)))))))
+
+  entry : Asks E d start index item → ent 𝓤 (on_entry 𝓛 (ended E).signature (κ, tt) (q, tt) (self, (start, (index, (item, tt)))) (us0, (us1, (us2, (us3, tt))))) (WpFn 𝓤 H C Λ (function E) (us0 ++ (us1 ++ (us2 ++ (us3 ++ [])))) Post)
+  entry asked =
+      qed 𝓛 ((‵ (flft κ q) ⊛ ‵ ftrue) ∷ ‵ (owns (MutRef (named 0) κ (Rw E) ∷ St E ∷ usize ∷ R E ∷ []) (self, (start, (index, (item, tt)))) (us0, (us1, (us2, (us3, tt))))) ∷ []) ∵
+      split ! $ move ! (2 ∷ []) $
+      fsplit ! $
+      fsplit3 ! $ feq_l ! (λ e0.
+      move ! (2 ∷ []) $
+      fsplit ! $
+      word_had ! start.ptr us1 (λ e1.
+      fsplit ! $
+      fsplit ! $ feq_l ! (λ e2. flt_l ! (λ fits_index.
+      fsplit ! $
+      tells E.row E.laws ! item us3 (λ v_item e3 good_item.
+      keep ! (2 ∷ 3 ∷ 4 ∷ 0 ∷ []) $
+      by ! (subst (λ (ws : List Val × List Val × List Val × List Val). ent 𝓤 (⋆ 𝓛 (Had v_item)) (WpFn 𝓤 H C Λ (function E) (ws.0 ++ (ws.1 ++ (ws.2 ++ (ws.3 ++ [])))) Post)) (λ j. (sym e0 j, sym e1 j, sym e2 j, sym e3 j)) (walk e0 asked fits_index v_item good_item)))))))
+
+meets : (E : El) {M : Type 1} {𝓤 : Ura M} (𝓛 : Logic 𝓤) (𝓣 : Tables 𝓤 𝓛.H)
+    → Meets 𝓛 (ended E).signature (WpFn 𝓤 𝓛.H 𝓣.C 𝓣.Λ (function E)) (closing 𝓛 (ended E) (spec E 𝓛))
+meets E {𝓤 = 𝓤} 𝓛 𝓣 =
+    walk_Meets 𝓛 (ended E) (stayed E) (Goes-ref 𝓛 1 0 tt (plain (λ _. Rw E)), (Goes-dropped 𝓛 1 (plain (λ _. St E)) no (λ κs x f. refl), (Goes-dropped 𝓛 1 (plain (λ _. usize)) no (λ κs x f. refl), (Goes-dropped 𝓛 1 (plain (λ _. R E)) no (λ κs x f. refl), tt)))) (spec E 𝓛) (WpFn 𝓤 𝓛.H 𝓣.C 𝓣.Λ (function E)) (WpFn-mono 𝓤 𝓛.H 𝓛.laws 𝓣 (function E))
+    (λ z. needs 𝓤 (Asks E z.0.3.0.now z.0.3.1.0 z.0.3.1.1.0 z.0.3.1.1.1.0) _ (entry E 𝓛 𝓣.C 𝓣.Λ z.0.0.0 z.0.1.0 z.0.3.0.ref_ptr.0 z.0.3.0.ref_ptr.1 z.0.3.0.ghost_name z.0.3.0.now z.0.3.1.0 z.0.3.1.1.0 z.0.3.1.1.1.0 z.0.4.0 z.0.4.1.0 z.0.4.1.1.0 z.0.4.1.1.1.0))
+
+pub push_spec : {M : Type 1} → stated.statement M
+unfolding tables_of
+push_spec 𝓤 𝓛 𝓜 𝓡 wired X LX y =
+    let E : El = record { row = X; laws = LX } in
+    let 𝓣 : Tables 𝓤 𝓛.H = tables_of 𝓤 𝓛.H 𝓜 (tables 𝓤 𝓛.H 𝓜 𝓡 𝓡.env) in
+    let k = #self (args E) in
+    spared 𝓛 (ended E).signature (𝓡.run (𝓡.env k)) (run_framed 𝓤 𝓛.H 𝓜 𝓡 (𝓡.env k)) 1 (X.lives, tt) (closing 𝓛 (ended E) (spec E 𝓛))
+    (entered 𝓤 𝓛.H (triple_of 𝓛 (ended E).signature (closing 𝓛 (ended E) (spec E 𝓛))) 𝓣.C 𝓣.Λ k (function E) (code.unfolded 𝓤 𝓛.H 𝓜 𝓡 wired (X, tt)) (meets E 𝓛 𝓣))
+    ((y.0.0, y.0.1, tt, y.0.3, y.0.4), y.1)
