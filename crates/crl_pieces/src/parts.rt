@@ -14,7 +14,8 @@ pub fn count(size: u32) -> u32
 /// The piece of this index, from 0.
 pub fn cut(bytes: &[u8], index: u32) -> &[u8]
     requires { index < pieces.count (length bytes.now) }
-    ensures { slice_get (pieces.cut bytes.now) index ≡ Some result.now }
+    ensures piece { slice_get (pieces.cut bytes.now) index ≡ Some result.now }
+    ensures size { length result.now ≡ pieces.piece_size (length bytes.now) index }
 {
     let start = index as usize * PIECE_LEN as usize;
     let end = bytes.len().min(start + PIECE_LEN as usize);

@@ -4,8 +4,8 @@ use Rattle.crl_pieces.proofs.Cut.{cut_at}
 use Rattle.crl_pieces.proofs.Slots.{place_fits}
 use Rattle.crl_pieces.proofs.parts.cut.Goals as goal
 
-pub returns : goal.returns
-returns c =
+pub returns-clause-piece : goal.returns-clause-piece
+returns-clause-piece c =
     let bytes = c.args.bytes.now in
     let i = c.args.index in
     let fits = place_fits (length bytes) i c.requires in
