@@ -1,7 +1,8 @@
 -- Pieces that come: what is left, and what the gathering has.
-use Rattle.std.proofs.Common.{◌≡◌, ℕ, zero, suc, ◌+◌, Bool, true, false, None, Some, List, [], ◌∷◌, ◌++◌, length, if◌then◌else◌, refl, ap, ◌∙◌}
+use Rattle.std.proofs.Common.{◌≡◌, ℕ, zero, suc, ◌+◌, Bool, true, false, None, Some, List, [], ◌∷◌, ◌++◌, length, get_or, if◌then◌else◌, refl, sym, ap, ◌∙◌}
 use Rattle.crl_pieces.specs.Pieces.{cut, join, nothing_came, is_missing, with_piece, is_complete, joined, Cell, fresh, parts_of, slots, left_from, has_come, comes_at, Came, none_yet, one_more}
-use Rattle.crl_pieces.proofs.Cut.{join_cut}
+use Rattle.crl_pieces.specs.Gathering.{with_pieces, gathered}
+use Rattle.crl_pieces.proofs.Cut.{join_cut, length_cut}
 
 pub parts_fresh : (parts : List (List ℕ)) → parts_of (fresh parts) ≡ parts
 parts_fresh [] = refl
@@ -89,3 +90,31 @@ parts_in_order (one_more {cells = cells} i c) = parts_in_order c ∙ parts_came 
 
 pub any_order : (bytes : List ℕ) (order : List ℕ) (after : List Cell) → Came (fresh (cut bytes)) order after → is_complete (slots after) ≡ true → joined (slots after) ≡ bytes
 any_order bytes order after c e = complete_joins after e ∙ ap join (parts_in_order c ∙ parts_fresh (cut bytes)) ∙ join_cut bytes
+
+part_at_is : (i : ℕ) (parts : List (List ℕ)) → part_at i parts ≡ get_or parts i []
+part_at_is i [] = refl
+part_at_is zero (part ∷ parts) = refl
+part_at_is (suc i) (part ∷ parts) = part_at_is i parts
+
+-- pieces put into slots, whatever their order
+abbrev came_all : List ℕ → List Cell → List Cell
+came_all [] cells = cells
+came_all (i ∷ order) cells = came_all order (comes_at i cells)
+
+all_come : (order : List ℕ) (cells : List Cell) → Came cells order (came_all order cells)
+all_come [] cells = none_yet
+all_come (i ∷ order) cells = one_more i (all_come order (comes_at i cells))
+
+slots_came_all : (order : List ℕ) (cells : List Cell) → slots (came_all order cells) ≡ with_pieces (parts_of cells) order (slots cells)
+slots_came_all [] cells = refl
+slots_came_all (i ∷ order) cells =
+    slots_came_all order (comes_at i cells) ∙ ap (λ parts. with_pieces parts order (slots (comes_at i cells))) (parts_came i cells)
+    ∙ ap (with_pieces (parts_of cells) order) (slots_came i cells ∙ ap (λ part. with_piece i part (slots cells)) (part_at_is i (parts_of cells)))
+
+pub gathered_is : (bytes : List ℕ) (order : List ℕ) → is_complete (gathered bytes order) ≡ true → joined (gathered bytes order) ≡ bytes
+gathered_is bytes order e =
+    let after = came_all order (fresh (cut bytes)) in
+    let same : slots after ≡ gathered bytes order =
+    slots_came_all order (fresh (cut bytes)) ∙ ap (λ parts. with_pieces parts order (slots (fresh (cut bytes)))) (parts_fresh (cut bytes))
+    ∙ ap (with_pieces (cut bytes) order) (slots_fresh (cut bytes) ∙ ap nothing_came (length_cut bytes)) in
+    sym (ap joined same) ∙ any_order bytes order after (all_come order (fresh (cut bytes))) (ap is_complete same ∙ e)

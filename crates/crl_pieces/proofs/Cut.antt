@@ -1,6 +1,7 @@
 -- The pieces of bytes: joined they are the bytes; their number and their lengths.
-use Rattle.std.proofs.Common.{◌≡◌, ℕ, zero, suc, ◌+◌, ◌-◌, ◌*◌, ◌/◌, ◌<◌, ◌≤◌, List, [], ◌∷◌, ◌++◌, length, take, drop, min, refl, ap, sym, ◌∙◌, arith}
-use Rattle.std.proofs.lemmas.List.{take-append-drop, length-drop, length-take}
+use Rattle.std.proofs.Common.{◌≡◌, ℕ, zero, suc, ◌+◌, ◌-◌, ◌*◌, ◌/◌, ◌<◌, ◌≤◌, Some, List, [], ◌∷◌, ◌++◌, length, take, drop, min, refl, ap, sym, ◌∙◌, arith}
+use Rattle.std.specs.Prelude.{slice_get}
+use Rattle.std.proofs.lemmas.List.{take-append-drop, drop-drop, length-drop, length-take}
 use Rattle.std.proofs.Math.Nat.{lt-mul-div-succ}
 use Rattle.crl_pieces.specs.Pieces.{count, piece_size, cut_in, cut, join}
 
@@ -45,3 +46,16 @@ cut_in_sizes size k (suc n) bytes e =
 pub cut_sizes : (bytes : List ℕ) → HaveSizes (length bytes) 0 (cut bytes)
 unfolding cut
 cut_sizes bytes = cut_in_sizes (length bytes) 0 (count (length bytes)) bytes (omega arith)
+
+-- ---- a piece by its index
+
+cut_in_at : (n i : ℕ) (bytes : List ℕ) → i < n → slice_get (cut_in n bytes) i ≡ Some (take 32768 (drop (i * 32768) bytes))
+cut_in_at zero i bytes l = absurd (omega arith)
+cut_in_at (suc n) zero bytes l = refl
+cut_in_at (suc n) (suc i) bytes l =
+    let place : 32768 + i * 32768 ≡ suc i * 32768 = omega arith in
+    cut_in_at n i (drop 32768 bytes) (omega arith) ∙ ap (λ bs. Some (take 32768 bs)) (drop-drop (i * 32768) 32768 bytes ∙ ap (λ k. drop k bytes) place)
+
+pub cut_at : (i : ℕ) (bytes : List ℕ) → i < count (length bytes) → slice_get (cut bytes) i ≡ Some (take 32768 (drop (i * 32768) bytes))
+unfolding cut
+cut_at i bytes l = cut_in_at (count (length bytes)) i bytes l

@@ -1,23 +1,35 @@
-//! Frames of messages, in hexadecimal. A header is kind and flag in a byte each; sender, addressee and a
-//! zero in two each; home and serial of the name in four each; the number in eight; the body's length and
-//! a zero in four each.
+//! Frames of messages, in hexadecimal. A header is kind and flag in a byte each; sender, addressee and the
+//! number of pieces minus 1 in two each; home and serial of the name in four each; the number in eight; the
+//! body's length and the piece's index in four each.
 
 use crl_model::bytes::Bytes;
 use crl_model::collective::{Fold, Part};
 use crl_model::message::{DeleteTold, Granted, Kind, Message, Told};
 use crl_model::name::Name;
+use crl_model::piece::Piece;
 use crl_model::{NodeNo, OutOfMemory};
 use crl_wire::{WireFault, decode, encode_into, frame_len, is_in_table};
 use std::alloc::Global;
 use std::process::Abort;
 use std::test::Fail;
 
-fn message(sender: NodeNo, addressee: NodeNo, kind: Kind) -> Message {
-    Message {
+/// The piece of this index, of so many.
+pub fn piece(message: Message, pieces: u32, index: u32) -> Piece {
+    Piece {
+        message,
+        pieces,
+        index,
+    }
+}
+
+/// A message in one piece.
+fn message(sender: NodeNo, addressee: NodeNo, kind: Kind) -> Piece {
+    let message = Message {
         sender,
         addressee,
         kind,
-    }
+    };
+    piece(message, 1, 0)
 }
 
 fn told(serial: u32, told: Told) -> Kind {
@@ -32,7 +44,7 @@ fn ask(write: bool, have: u64) -> Kind {
 
 const ASKS: [&str; 7] = [
     "0100000500020000000000020000000700000000000000000000000000000000",
-    "0200000200050000000000020000000700000000000100000000000000000000",
+    "0200000200050000000000020000000700000000010000000000000000000000",
     "0201000200050000000000020000000700000000000000000000000000000000",
     "02020002003f000000000002ffffffff00000000000000000000000000000000",
     "0300000100000000000000000000000100000000000000000000000000000000",
@@ -40,9 +52,9 @@ const ASKS: [&str; 7] = [
     "0301000100000000000000000000000100000000000001020000000000000000",
 ];
 
-fn asks(alloc: Global) -> Result<Vec<Message>, OutOfMemory> {
+fn asks(alloc: Global) -> Result<Vec<Piece>, OutOfMemory> {
     let name = Name::new(2, 7);
-    let live = Told::Live { size: 65_536 };
+    let live = Told::Live { size: 16_777_216 };
     Ok(vec![in alloc;
         message(5, 2, Kind::InfoAsk { name }),
         message(2, 5, told(7, live)),
@@ -54,7 +66,7 @@ fn asks(alloc: Global) -> Result<Vec<Message>, OutOfMemory> {
     ]?)
 }
 
-fn grant(name: Name, version: u64, granted: Granted) -> Kind {
+pub fn grant(name: Name, version: u64, granted: Granted) -> Kind {
     Kind::Grant {
         name,
         version,
@@ -90,7 +102,7 @@ const COPIES: [&str; 9] = [
     "0e00000100000000000000000000000100000000000000060000000300000000010203",
 ];
 
-fn copies(alloc: Global) -> Result<Vec<Message>, OutOfMemory> {
+fn copies(alloc: Global) -> Result<Vec<Piece>, OutOfMemory> {
     let name = Name::new(0, 1);
     let far = Name::new(62, 0x0102_0304);
     let seven = Granted::Shared(Bytes::copy_of(alloc, b"\x07")?);
@@ -124,7 +136,7 @@ const DELETES: [&str; 6] = [
     "0a00000900030000000000030000000200000000000000000000000000000000",
 ];
 
-fn deletes(alloc: Global) -> Result<Vec<Message>, OutOfMemory> {
+fn deletes(alloc: Global) -> Result<Vec<Piece>, OutOfMemory> {
     let name = Name::new(3, 2);
     Ok(vec![in alloc;
         message(9, 3, Kind::DeleteAsk { name }),
@@ -136,11 +148,11 @@ fn deletes(alloc: Global) -> Result<Vec<Message>, OutOfMemory> {
     ]?)
 }
 
-fn come(sender: NodeNo, round: u64, part: Part) -> Message {
+fn come(sender: NodeNo, round: u64, part: Part) -> Piece {
     message(sender, 0, Kind::Come { round, part })
 }
 
-fn result_of(round: u64, fold: Fold) -> Message {
+fn result_of(round: u64, fold: Fold) -> Piece {
     message(0, 1, Kind::Result { round, fold })
 }
 
@@ -159,7 +171,7 @@ const ROUNDS: [&str; 12] = [
     "0c06000000010000000000000000000000000000000000040000000000000000",
 ];
 
-fn rounds(alloc: Global) -> Result<Vec<Message>, OutOfMemory> {
+fn rounds(alloc: Global) -> Result<Vec<Piece>, OutOfMemory> {
     let part = Part::Send(Bytes::copy_of(alloc, b"\xaa\xbb")?);
     let fold = Fold::Broadcast(Bytes::copy_of(alloc, b"\xaa\xbb")?);
     Ok(vec![in alloc;
@@ -178,32 +190,32 @@ fn rounds(alloc: Global) -> Result<Vec<Message>, OutOfMemory> {
     ]?)
 }
 
-/// The frame that is written of the message.
-fn written(rt: &impl Abort, alloc: Global, message: &Message) -> Result<Vec<u8>, Fail> {
-    assert!(rt; is_in_table(message));
-    let mut out = Vec::with_capacity(alloc, frame_len(message))?;
-    encode_into(message, &mut out);
+/// The frame that is written of the piece.
+fn written(rt: &impl Abort, alloc: Global, sent: &Piece) -> Result<Vec<u8>, Fail> {
+    assert!(rt; is_in_table(sent));
+    let mut out = Vec::with_capacity(alloc, frame_len(sent))?;
+    encode_into(sent, &mut out);
     Ok(out)
 }
 
-/// Asserts that the bytes are read as this message.
-fn reads_as(rt: &impl Abort, alloc: Global, bytes: &[u8], message: &Message) -> Result<(), Fail> {
+/// Asserts that the bytes are read as this piece.
+fn reads_as(rt: &impl Abort, alloc: Global, bytes: &[u8], sent: &Piece) -> Result<(), Fail> {
     let read = decode(alloc, bytes)?;
-    assert!(rt; read == *message);
+    assert!(rt; read == *sent);
     Ok(())
 }
 
 /// Asserts that the bytes are refused for this fault.
-fn fails(rt: &impl Abort, alloc: Global, bytes: &[u8], fault: WireFault) {
+pub fn fails(rt: &impl Abort, alloc: Global, bytes: &[u8], fault: WireFault) {
     match decode(alloc, bytes) {
         Ok(_) => panic!(rt; "it was read"),
         Err(found) => assert_eq!(rt; found, fault),
     }
 }
 
-/// Asserts that the message has this frame both ways, that each front of it is short, and that with a
-/// byte more it is long.
-fn has_frame(rt: &impl Abort, alloc: Global, sent: &Message, text: &str) -> Result<(), Fail> {
+/// Asserts that the piece has this frame both ways, that each front of it is short, and that with a byte
+/// more it is long.
+pub fn has_frame(rt: &impl Abort, alloc: Global, sent: &Piece, text: &str) -> Result<(), Fail> {
     let mut frame = hex::decode(alloc, text.as_bytes())?;
     assert!(rt; written(rt, alloc, sent)? == frame, "{text}");
     reads_as(rt, alloc, frame.as_slice(), sent)?;
@@ -219,7 +231,7 @@ fn has_frame(rt: &impl Abort, alloc: Global, sent: &Message, text: &str) -> Resu
 fn have_frames(
     rt: &impl Abort,
     alloc: Global,
-    messages: &[Message],
+    messages: &[Piece],
     frames: &[&str],
 ) -> Result<(), Fail> {
     assert_eq!(rt; messages.len(), frames.len());
@@ -285,7 +297,7 @@ const OTHER_GRANTS: [Other; 12] = [
     (23, 1, 0x0000_0000_0000_00ff),
 ];
 
-// Kind; flag, ends, zero and home; length and zero.
+// Kind; flag, ends, pieces and home; length and index.
 #[test]
 fn a_recall_with_a_byte_changed(rt: HostRuntime) -> Result<(), Fail> {
     let alloc = rt.alloc();
@@ -310,7 +322,7 @@ fn a_recall_with_a_byte_changed(rt: HostRuntime) -> Result<(), Fail> {
     Ok(())
 }
 
-// A length of 0xffNNNN or more is too large, one of 0xff01 or 0xff isn't, and the body is short then.
+// A length of 0xff01 or more is too large, one of 0xff isn't, and the body is short then.
 #[test]
 fn a_grant_with_a_byte_changed(rt: HostRuntime) -> Result<(), Fail> {
     let alloc = rt.alloc();
@@ -318,8 +330,8 @@ fn a_grant_with_a_byte_changed(rt: HostRuntime) -> Result<(), Fail> {
     let faults = [
         (0, 1, WireFault::BadKind),
         (1, 12, WireFault::BadField),
-        (24, 26, WireFault::BadField),
-        (26, 28, WireFault::Short),
+        (24, 27, WireFault::BadField),
+        (27, 28, WireFault::Short),
         (28, 32, WireFault::BadField),
     ];
     for (from, to, fault) in faults {
@@ -350,8 +362,8 @@ const BAD_KINDS: [&str; 3] = [
 
 /// Headers with one bad field.
 const BAD_FIELDS: [&str; 22] = [
-    // A recall: flag 1; node 64 as sender and as addressee; one node; a zero; another home; serial 0;
-    // version 0; a body; the last zero.
+    // A recall: flag 1; node 64 as sender and as addressee; one node; two pieces; another home; serial 0;
+    // version 0; a body; index 1.
     "0501000000010000000000000000000100000000000000030000000000000000",
     "0500004000010000000000400000000100000000000000030000000000000000",
     "0500000000400000000000000000000100000000000000030000000000000000",
@@ -362,14 +374,14 @@ const BAD_FIELDS: [&str; 22] = [
     "0500000000010000000000000000000100000000000000000000000000000000",
     "050000000001000000000000000000010000000000000003000000010000000000",
     "0500000000010000000000000000000100000000000000030000000000000001",
-    // A size of 0 and of 65,537, a size where there is none, a version had by a reader.
+    // A size of 0 and of 16,777,217, a size where there is none, a version had by a reader.
     "0200000200050000000000020000000700000000000000000000000000000000",
-    "0200000200050000000000020000000700000000000100010000000000000000",
+    "0200000200050000000000020000000700000000010000010000000000000000",
     "0201000200050000000000020000000700000000000000010000000000000000",
     "0300000100000000000000000000000100000000000000010000000000000000",
-    // A shared grant of no byte and of 65,537.
+    // A shared grant of no byte and of 32,769.
     "0400000000010000000000000000000100000000000000010000000000000000",
-    "0400000000010000000000000000000100000000000000010001000100000000",
+    "0400000000010000000000000000000100000000000000010000800100000000",
     // A part that doesn't go to node 0, one with a name, and a value of 7 bytes.
     "0b00000100020000000000000000000000000000000000010000000000000000",
     "0b00000100000000000000000000000100000000000000010000000000000000",

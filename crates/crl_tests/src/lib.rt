@@ -1,4 +1,5 @@
-//! Tests of the program's commands over sources and sinks in memory, of frames and of lists of postings.
+//! Tests of the program's commands over sources and sinks in memory, of frames, of
+//! pieces and of lists of postings.
 //!
 //! What they expect was worked out by hand, from the rules of a single machine with one array and from
 //! the table of frames, or by `reference`, which writes these rules down once more.
@@ -20,6 +21,8 @@ mod faults;
 mod forms;
 #[cfg(test)]
 mod frames;
+#[cfg(test)]
+mod pieces;
 #[cfg(test)]
 mod plain;
 #[cfg(test)]

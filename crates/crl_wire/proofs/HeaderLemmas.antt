@@ -14,12 +14,12 @@ use Rattle.crl_wire.proofs.ValueLemmas.{IsBytes, IsBytes-drop, IsBytes-take}
 pub record IsWide (h : Header) : Type 0 where
   pub sender : h.sender < 2 ^ 16
   pub addressee : h.addressee < 2 ^ 16
-  pub zeros : h.zeros < 2 ^ 16
+  pub last_index : h.last_index < 2 ^ 16
   pub home : h.home < 2 ^ 32
   pub serial : h.serial < 2 ^ 32
   pub number : h.number < 2 ^ 64
   pub body_len : h.body_len < 2 ^ 32
-  pub last_zeros : h.last_zeros < 2 ^ 32
+  pub index : h.index < 2 ^ 32
 
 pub layout_len : (h : Header) → length (layout h) ≡ 32
 unfolding layout
@@ -30,23 +30,23 @@ unfolding layout header_at
 header_again h body wide =
     let sender = from_be_bytes-to_be_bytes_2 h.sender wide.sender in
     let addressee = from_be_bytes-to_be_bytes_2 h.addressee wide.addressee in
-    let zeros = from_be_bytes-to_be_bytes_2 h.zeros wide.zeros in
+    let last_index = from_be_bytes-to_be_bytes_2 h.last_index wide.last_index in
     let home = from_be_bytes-to_be_bytes_4 h.home wide.home in
     let serial = from_be_bytes-to_be_bytes_4 h.serial wide.serial in
     let number = from_be_bytes-to_be_bytes_8 h.number wide.number in
     let body_len = from_be_bytes-to_be_bytes_4 h.body_len wide.body_len in
-    let last_zeros = from_be_bytes-to_be_bytes_4 h.last_zeros wide.last_zeros in
+    let index = from_be_bytes-to_be_bytes_4 h.index wide.index in
     λ i. record {
       kind = h.kind;
       flag = h.flag;
       sender = sender i;
       addressee = addressee i;
-      zeros = zeros i;
+      last_index = last_index i;
       home = home i;
       serial = serial i;
       number = number i;
       body_len = body_len i;
-      last_zeros = last_zeros i;
+      index = index i;
     }
 
 -- ---- a field of a text

@@ -1,5 +1,5 @@
 -- The table: each form stands in it once, and what a header of it is.
-use Rattle.std.proofs.Common.{◌≡◌, ℕ, ◌<◌, ◌≤◌, Bool, true, false, ◌&&◌, not, cond, eqb, ltb, leb, List, [], ◌∷◌, Some, refl, subst, arith}
+use Rattle.std.proofs.Common.{◌≡◌, ℕ, ◌<◌, ◌≤◌, Bool, true, false, ◌&&◌, ◌||◌, not, cond, eqb, ltb, leb, List, [], ◌∷◌, Some, refl, subst, arith}
 use Rattle.std.specs.Prelude.{find}
 use Rattle.std.proofs.lemmas.Bool.{and_parts, eqb-true, ltb-true, leb-true}
 use Rattle.crl_model.specs.declared.message.DeleteTold.TheVariants as told
@@ -15,7 +15,7 @@ use Rattle.crl_wire.specs.declared.form.Body.{Body}
 use Rattle.crl_wire.specs.declared.form.Body.TheVariants.{Empty, Region, Broadcast, Value, Total}
 use Rattle.crl_wire.specs.declared.form.Shape.{Shape}
 use Rattle.crl_wire.specs.declared.header.Header.{Header}
-use Rattle.crl_wire.specs.Table.{shape_of, all_forms, is_kind, are_ends, is_home, is_number, is_len, is_shaped}
+use Rattle.crl_wire.specs.Table.{shape_of, all_forms, is_kind, are_ends, is_home, is_number, is_len, is_place, is_shaped}
 use Rattle.crl_wire.specs.Decoding.{form_at}
 
 -- the form is found by its kind and flag
@@ -78,17 +78,15 @@ pub record Parts (s : Shape) (h : Header) : Type 0 where
   pub home : is_home s.home h ≡ true
   pub number : is_number s.number h.number ≡ true
   pub len : is_len s.body h.body_len ≡ true
-  pub zeros : h.zeros ≡ 0
-  pub last_zeros : h.last_zeros ≡ 0
+  pub place : is_place s.body h ≡ true
 
 pub parts_of : (s : Shape) (h : Header) → is_shaped s h ≡ true → Parts s h
 parts_of s h e =
-    let a = and_parts (are_ends h.sender h.addressee && is_home s.home h && is_number s.number h.number && is_len s.body h.body_len && eqb h.zeros 0) (eqb h.last_zeros 0) e in
-    let b = and_parts (are_ends h.sender h.addressee && is_home s.home h && is_number s.number h.number && is_len s.body h.body_len) (eqb h.zeros 0) a.0 in
-    let c = and_parts (are_ends h.sender h.addressee && is_home s.home h && is_number s.number h.number) (is_len s.body h.body_len) b.0 in
-    let d = and_parts (are_ends h.sender h.addressee && is_home s.home h) (is_number s.number h.number) c.0 in
-    let f = and_parts (are_ends h.sender h.addressee) (is_home s.home h) d.0 in
-    record { ends = f.0; home = f.1; number = d.1; len = c.1; zeros = eqb-true h.zeros 0 b.1; last_zeros = eqb-true h.last_zeros 0 a.1 }
+    let a = and_parts (are_ends h.sender h.addressee && is_home s.home h && is_number s.number h.number && is_len s.body h.body_len) (is_place s.body h) e in
+    let b = and_parts (are_ends h.sender h.addressee && is_home s.home h && is_number s.number h.number) (is_len s.body h.body_len) a.0 in
+    let c = and_parts (are_ends h.sender h.addressee && is_home s.home h) (is_number s.number h.number) b.0 in
+    let d = and_parts (are_ends h.sender h.addressee) (is_home s.home h) c.0 in
+    record { ends = d.0; home = d.1; number = c.1; len = b.1; place = a.1 }
 
 pub ends_below : (sender addressee : ℕ) → are_ends sender addressee ≡ true → (sender < 64) × (addressee < 64)
 ends_below sender addressee e =
@@ -104,7 +102,23 @@ home_below FromZero h ends e = let p = and_parts (eqb h.home 0 && eqb h.serial 0
 
 pub len_below : (rule : Body) (n : ℕ) → is_len rule n ≡ true → n ≤ 65536
 len_below Empty n e = omega (arith, eqb-true n 0 e)
-len_below Region n e = leb-true n 65536 (and_parts (leb 1 n) (leb n 65536) e).1
+len_below Region n e = omega (arith, leb-true n 32768 (and_parts (leb 1 n) (leb n 32768) e).1)
 len_below Broadcast n e = leb-true n 65536 (and_parts (leb 1 n) (leb n 65536) e).1
 len_below Value n e = omega (arith, eqb-true n 8 e)
 len_below Total n e = omega (arith, eqb-true n 16 e)
+
+only_place : (h : Header) → (eqb h.last_index 0 && eqb h.index 0) ≡ true → (h.last_index < 512) × (h.index < 512)
+only_place h e =
+    let a = and_parts (eqb h.last_index 0) (eqb h.index 0) e in
+    (omega (arith, eqb-true h.last_index 0 a.0), omega (arith, eqb-true h.index 0 a.1))
+
+pub place_below : (rule : Body) (h : Header) → is_place rule h ≡ true → (h.last_index < 512) × (h.index < 512)
+place_below Region h e =
+    let a = and_parts (ltb h.last_index 512 && leb h.index h.last_index) (eqb h.index h.last_index || eqb h.body_len 32768) e in
+    let b = and_parts (ltb h.last_index 512) (leb h.index h.last_index) a.0 in
+    let last = ltb-true h.last_index 512 b.0 in
+    (last, omega (arith, last, leb-true h.index h.last_index b.1))
+place_below Empty h e = only_place h e
+place_below Broadcast h e = only_place h e
+place_below Value h e = only_place h e
+place_below Total h e = only_place h e

@@ -14,6 +14,7 @@ use Rattle.crl_model.specs.declared.message.Granted.TheVariants as granteds
 use Rattle.crl_model.specs.declared.message.Kind.{Kind}
 use Rattle.crl_model.specs.declared.message.Kind.TheVariants as kinds
 use Rattle.crl_model.specs.declared.message.Message.{Message}
+use Rattle.crl_model.specs.declared.piece.Piece.{Piece}
 use Rattle.crl_wire.specs.declared.form.Form.{Form}
 use Rattle.crl_wire.specs.declared.form.Form.TheVariants.{InfoAsk, InfoIs, AskRead, AskWrite, Grant, Recall, ReturnPlain, ReturnBytes, DeleteAsk, DeleteIs, Purge, Purged, Come, Yield, Release}
 use Rattle.crl_wire.specs.declared.form.Form.TheVariants as forms
@@ -42,15 +43,15 @@ header_at bytes = record {
   flag = slice_index bytes 1;
   sender = number_at w16 2 bytes;
   addressee = number_at w16 4 bytes;
-  zeros = number_at w16 6 bytes;
+  last_index = number_at w16 6 bytes;
   home = number_at w32 8 bytes;
   serial = number_at w32 12 bytes;
   number = number_at w64 16 bytes;
   body_len = number_at w32 24 bytes;
-  last_zeros = number_at w32 28 bytes;
+  index = number_at w32 28 bytes;
 }
 
--- ---- the message of a form with this name, number and body
+-- ---- the piece of a form with this name, number, place and body
 
 abbrev pub value_from : List ℕ → ℤ
 value_from body = cast_signed w64 (from_be_bytes w64 body)
@@ -108,6 +109,9 @@ name_in h = record { home = h.home; serial = h.serial }
 abbrev pub message_from : Header → Form → List ℕ → Message
 message_from h form body = record { sender = h.sender; addressee = h.addressee; kind = kind_from form (name_in h) h.number body }
 
+abbrev pub piece_from : Header → Form → List ℕ → Piece
+piece_from h form body = record { message = message_from h form body; pieces = h.last_index + 1; index = h.index }
+
 -- ---- the tests
 
 -- the form with this kind and flag
@@ -119,25 +123,25 @@ unfoldable pub form_in : Header → Option Form
 form_in h = option_and_then (λ form. if is_shaped (shape_of form) h then Some form else None) (form_at h.kind h.flag)
 
 -- the body has the length that the header says
-unfoldable pub with_body : Header → Form → List ℕ → Result Message WireFault
+unfoldable pub with_body : Header → Form → List ℕ → Result Piece WireFault
 with_body h form body =
     if nat_lt (length body) h.body_len then Err Short
     else (if nat_lt h.body_len (length body) then Err Long
-    else Ok (message_from h form body))
+    else Ok (piece_from h form body))
 
 -- the header is one of the table's
-unfoldable pub with_form : Header → Option Form → List ℕ → Result Message WireFault
+unfoldable pub with_form : Header → Option Form → List ℕ → Result Piece WireFault
 with_form h None body = Err BadField
 with_form h (Some form) body = with_body h form body
 
-unfoldable pub with_header : Header → List ℕ → Result Message WireFault
+unfoldable pub with_header : Header → List ℕ → Result Piece WireFault
 with_header h body = if is_kind h.kind then with_form h (form_in h) body else Err BadKind
 
-unfoldable pub decoded : List ℕ → Result Message WireFault
+unfoldable pub decoded : List ℕ → Result Piece WireFault
 decoded bytes = if nat_lt (length bytes) 32 then Err Short else with_header (header_at bytes) (drop 32 bytes)
 
 -- What decoding returned is what it is, unless memory ran out.
-abbrev pub Gives : Result Message WireFault → Result Message WireFault → Type 0
+abbrev pub Gives : Result Piece WireFault → Result Piece WireFault → Type 0
 Gives (Err OutOfMemory) read = Unit {0}
 Gives result read = read ≡ result
 
@@ -145,16 +149,16 @@ Gives result read = read ≡ result
 
 -- the first bytes of a frame, and not all of them
 pub record BeginsFrame (bytes : List ℕ) : Type 0 where
-  pub message : Message
+  pub piece : Piece
   pub rest : List ℕ
-  pub fits : Fits message
+  pub fits : Fits piece
   pub more : 0 < length rest
-  pub spelled : frame message ≡ bytes ++ rest
+  pub spelled : frame piece ≡ bytes ++ rest
 
 -- a frame, and more bytes
 pub record ExceedsFrame (bytes : List ℕ) : Type 0 where
-  pub message : Message
+  pub piece : Piece
   pub rest : List ℕ
-  pub fits : Fits message
+  pub fits : Fits piece
   pub more : 0 < length rest
-  pub spelled : bytes ≡ frame message ++ rest
+  pub spelled : bytes ≡ frame piece ++ rest

@@ -1,5 +1,5 @@
--- The one frame of each message: its header, then its body.
-use Rattle.std.specs.Prelude.{◌≡◌, ℕ, ◌<◌, ◌^◌, true, false, List, [], ◌∷◌, ◌++◌, length, Some, None, ℤ, FitsSigned}
+-- The one frame of each piece of a message: its header, then its body.
+use Rattle.std.specs.Prelude.{◌≡◌, ℕ, ◌-◌, ◌<◌, ◌≤◌, ◌^◌, true, false, List, [], ◌∷◌, ◌++◌, length, Some, None, ℤ, FitsSigned}
 use Rattle.std.specs.Int.{w16, w32, w64, w128, to_be_bytes, cast_unsigned}
 use Rattle.crl_model.specs.declared.name.Name.{Name}
 use Rattle.crl_model.specs.declared.collective.Part.{Part}
@@ -12,7 +12,7 @@ use Rattle.crl_model.specs.declared.message.Granted.{Granted}
 use Rattle.crl_model.specs.declared.message.Granted.TheVariants as granteds
 use Rattle.crl_model.specs.declared.message.Kind.{Kind}
 use Rattle.crl_model.specs.declared.message.Kind.TheVariants.{InfoAsk, InfoIs, Ask, Grant, Recall, Return, DeleteAsk, DeleteIs, Purge, Purged, Come, Result, Yield, Release}
-use Rattle.crl_model.specs.declared.message.Message.{Message}
+use Rattle.crl_model.specs.declared.piece.Piece.{Piece}
 use Rattle.crl_wire.specs.declared.form.Form.{Form}
 use Rattle.crl_wire.specs.declared.form.Form.TheVariants as forms
 use Rattle.crl_wire.specs.declared.form.ToldForm.{ToldForm}
@@ -161,35 +161,35 @@ body_of (Release name version bytes) = bytes
 
 -- ---- the frame
 
-abbrev pub header_of : Message → Header
-header_of m = record {
-  kind = (shape_of (form_of m.kind)).kind;
-  flag = (shape_of (form_of m.kind)).flag;
-  sender = m.sender;
-  addressee = m.addressee;
-  zeros = 0;
-  home = (name_of m.kind).home;
-  serial = (name_of m.kind).serial;
-  number = number_of m.kind;
-  body_len = length (body_of m.kind);
-  last_zeros = 0;
+abbrev pub header_of : Piece → Header
+header_of p = record {
+  kind = (shape_of (form_of p.message.kind)).kind;
+  flag = (shape_of (form_of p.message.kind)).flag;
+  sender = p.message.sender;
+  addressee = p.message.addressee;
+  last_index = p.pieces - 1;
+  home = (name_of p.message.kind).home;
+  serial = (name_of p.message.kind).serial;
+  number = number_of p.message.kind;
+  body_len = length (body_of p.message.kind);
+  index = p.index;
 }
 
 -- at 0, 1, 2, 4, 6, 8, 12, 16, 24 and 28: 32 bytes
 unfoldable pub layout : Header → List ℕ
 layout h =
-    h.kind ∷ h.flag ∷ to_be_bytes w16 h.sender ++ to_be_bytes w16 h.addressee ++ to_be_bytes w16 h.zeros
+    h.kind ∷ h.flag ∷ to_be_bytes w16 h.sender ++ to_be_bytes w16 h.addressee ++ to_be_bytes w16 h.last_index
     ++ to_be_bytes w32 h.home ++ to_be_bytes w32 h.serial ++ to_be_bytes w64 h.number
-    ++ to_be_bytes w32 h.body_len ++ to_be_bytes w32 h.last_zeros
+    ++ to_be_bytes w32 h.body_len ++ to_be_bytes w32 h.index
 
-unfoldable pub frame : Message → List ℕ
-frame m = layout (header_of m) ++ body_of m.kind
+unfoldable pub frame : Piece → List ℕ
+frame p = layout (header_of p) ++ body_of p.message.kind
 
--- ---- which messages have one
+-- ---- which pieces have one
 
--- the header is as the table says
-abbrev pub IsInTable : Message → Type 0
-IsInTable m = is_shaped (shape_of (form_of m.kind)) (header_of m) ≡ true
+-- there is a piece, and the header is as the table says
+abbrev pub IsInTable : Piece → Type 0
+IsInTable p = (1 ≤ p.pieces) × (is_shaped (shape_of (form_of p.message.kind)) (header_of p) ≡ true)
 
 -- the numbers are within the types of their fields
 abbrev pub FitsPart : Part → Type 0
@@ -213,8 +213,8 @@ FitsValues (Come round part) = FitsPart part
 FitsValues (Result round fold) = FitsFold fold
 FitsValues _ = Unit {0}
 
-pub record Fits (m : Message) : Type 0 where
-  pub in_table : IsInTable m
-  pub serial : (name_of m.kind).serial < 2 ^ 32
-  pub number : number_of m.kind < 2 ^ 64
-  pub values : FitsValues m.kind
+pub record Fits (p : Piece) : Type 0 where
+  pub in_table : IsInTable p
+  pub serial : (name_of p.message.kind).serial < 2 ^ 32
+  pub number : number_of p.message.kind < 2 ^ 64
+  pub values : FitsValues p.message.kind

@@ -1,7 +1,8 @@
 -- What the header of each form of message is: the table, and what its words mean.
-use Rattle.std.specs.Prelude.{ℕ, ◌==◌, nat_lt, nat_le, Bool, true, not, ◌&&◌, List, [], ◌∷◌}
+use Rattle.std.specs.Prelude.{ℕ, ◌==◌, nat_lt, nat_le, Bool, true, not, ◌&&◌, ◌||◌, List, [], ◌∷◌}
 use Rattle.crl_model.specs.declared.TheConstants.{NODE_LIMIT, REGION_LIMIT, BROADCAST_LIMIT}
 use Rattle.crl_model.specs.declared.message.DeleteTold.TheVariants as told
+use Rattle.crl_pieces.specs.declared.TheConstants.{PIECE_LEN, PIECES_LIMIT}
 use Rattle.crl_wire.specs.declared.form.Form.{Form}
 use Rattle.crl_wire.specs.declared.form.Form.TheVariants.{InfoAsk, InfoIs, AskRead, AskWrite, Grant, Recall, ReturnPlain, ReturnBytes, DeleteAsk, DeleteIs, Purge, Purged, Come, Result, Yield, Release}
 use Rattle.crl_wire.specs.declared.form.ToldForm.TheVariants as tolds
@@ -82,7 +83,7 @@ is_number Size n = within REGION_LIMIT n
 
 abbrev pub is_len : Body → ℕ → Bool
 is_len Empty len = len == 0
-is_len Region len = within REGION_LIMIT len
+is_len Region len = within PIECE_LEN len
 is_len Broadcast len = within BROADCAST_LIMIT len
 is_len Value len = len == 8
 is_len Total len = len == 16
@@ -98,6 +99,11 @@ is_home FromZero h = (h.home == 0) && (h.serial == 0) && (h.sender == 0)
 abbrev pub are_ends : ℕ → ℕ → Bool
 are_ends sender addressee = nat_lt sender NODE_LIMIT && nat_lt addressee NODE_LIMIT && not (sender == addressee)
 
+-- The bytes of a region come in pieces, and only the last may have fewer bytes than a whole one. All else is one piece.
+abbrev pub is_place : Body → Header → Bool
+is_place Region h = nat_lt h.last_index PIECES_LIMIT && nat_le h.index h.last_index && ((h.index == h.last_index) || (h.body_len == PIECE_LEN))
+is_place _ h = (h.last_index == 0) && (h.index == 0)
+
 -- the header is as the table says, but for kind and flag
 abbrev pub is_shaped : Shape → Header → Bool
-is_shaped shape h = are_ends h.sender h.addressee && is_home shape.home h && is_number shape.number h.number && is_len shape.body h.body_len && (h.zeros == 0) && (h.last_zeros == 0)
+is_shaped shape h = are_ends h.sender h.addressee && is_home shape.home h && is_number shape.number h.number && is_len shape.body h.body_len && is_place shape.body h

@@ -92,7 +92,7 @@ pub(crate) enum Number {
 #[derive(Clone, Copy, Debug, PartialEq, Eq)]
 pub(crate) enum Body {
     Empty,
-    /// The bytes of a region.
+    /// A piece of the bytes of a region.
     Region,
     /// The bytes of a broadcast.
     Broadcast,

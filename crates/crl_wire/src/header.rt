@@ -10,19 +10,19 @@ use crl_model::NodeNo;
 pub(crate) const HEADER_LEN: usize = 32;
 
 /// The fields of a header, in their order. `home` and `serial` are the name's, `body_len` is the number
-/// of bytes of the body, and the fields of zeros have no meaning.
+/// of bytes of the body, `index` is the piece's place from 0, and `last_index` that of the last piece.
 #[derive(Clone, Copy, Debug, PartialEq, Eq)]
 pub(crate) struct Header {
     pub kind: u8,
     pub flag: u8,
     pub sender: NodeNo,
     pub addressee: NodeNo,
-    pub zeros: u16,
+    pub last_index: u16,
     pub home: u32,
     pub serial: u32,
     pub number: u64,
     pub body_len: u32,
-    pub last_zeros: u32,
+    pub index: u32,
 }
 
 /// The header at the front of a frame, which has a header's bytes.
@@ -36,12 +36,12 @@ pub(crate) fn read_header(frame: &[u8]) -> Header
         flag: frame[1],
         sender: u16_at(frame, 2),
         addressee: u16_at(frame, 4),
-        zeros: u16_at(frame, 6),
+        last_index: u16_at(frame, 6),
         home: u32_at(frame, 8),
         serial: u32_at(frame, 12),
         number: u64_at(frame, 16),
         body_len: u32_at(frame, 24),
-        last_zeros: u32_at(frame, 28),
+        index: u32_at(frame, 28),
     }
 }
 
@@ -55,10 +55,10 @@ pub(crate) fn put_header(header: &Header, out: &mut Vec<u8>)
     put(&[header.kind, header.flag], out);
     put(&header.sender.to_be_bytes(), out);
     put(&header.addressee.to_be_bytes(), out);
-    put(&header.zeros.to_be_bytes(), out);
+    put(&header.last_index.to_be_bytes(), out);
     put(&header.home.to_be_bytes(), out);
     put(&header.serial.to_be_bytes(), out);
     put(&header.number.to_be_bytes(), out);
     put(&header.body_len.to_be_bytes(), out);
-    put(&header.last_zeros.to_be_bytes(), out);
+    put(&header.index.to_be_bytes(), out);
 }

@@ -1,13 +1,13 @@
 //! What holds of all frames.
 ghost use Rattle.std.specs.Prelude.{◌≡◌, ℕ, List, [], ◌++◌, Ok, Err};
-ghost use Rattle.crl_model.specs.declared.message.Message.{Message};
+ghost use Rattle.crl_model.specs.declared.piece.Piece.{Piece};
 ghost use Rattle.crl_wire.specs.declared.fault.WireFault.TheVariants.{Short, Long};
 ghost use Rattle.crl_wire.specs.Frame.{frame, Fits};
 ghost use Rattle.crl_wire.specs.Decoding.{decoded, BeginsFrame, ExceedsFrame};
 
-/// The frame of a message is read as that message.
+/// The frame of a piece is read as that piece.
 pub fn frame_is_read()
-    ensures { (m : Message) → Fits m → decoded (frame m) ≡ Ok m }
+    ensures { (p : Piece) → Fits p → decoded (frame p) ≡ Ok p }
 {}
 
 /// A frame that lacks bytes at its end is short.
@@ -22,5 +22,5 @@ pub fn excess_is_long()
 
 /// No frame begins another.
 pub fn no_frame_begins_another()
-    ensures { (m n : Message) (rest : List ℕ) → Fits m → Fits n → frame n ≡ frame m ++ rest → (m ≡ n) × (rest ≡ []) }
+    ensures { (p q : Piece) (rest : List ℕ) → Fits p → Fits q → frame q ≡ frame p ++ rest → (p ≡ q) × (rest ≡ []) }
 {}

@@ -1,6 +1,6 @@
-//! The frames of messages: a header of 32 bytes and a body. `specs/Table.antt` is the table of what
-//! stands in a header, `specs/Frame.antt` says the one frame of each message, and `specs/Decoding.antt`
-//! what is read of any bytes.
+//! The frames of messages, and of the pieces that a region's bytes travel in: a header of 32 bytes and a
+//! body. `specs/Table.antt` is the table of what stands in a header, `specs/Frame.antt` says the one frame
+//! of each piece, and `specs/Decoding.antt` what is read of any bytes.
 #![tactic(auto)]
 
 mod body;

@@ -1,6 +1,6 @@
 //! Reading frames.
 ghost use Rattle.std.specs.Prelude.{◌≡◌, ◌≢◌, ◌⊎◌, ◌^◌, ◌<◌, true, Err, length, take, slice_index, IfOk, MatchResult};
-ghost use Rattle.crl_model.specs.declared.message.Message.{Message};
+ghost use Rattle.crl_model.specs.declared.piece.Piece.{Piece};
 ghost use Rattle.crl_wire.specs.Table as table;
 ghost use Rattle.crl_wire.specs.Frame.{frame, layout, header_of, Fits};
 ghost use Rattle.crl_wire.specs.Decoding as decoding;
@@ -14,6 +14,7 @@ use crate::table::form_in;
 use crl_model::NodeNo;
 use crl_model::message::Message;
 use crl_model::name::Name;
+use crl_model::piece::Piece;
 use std::alloc::Global;
 
 /// The largest number of a kind.
@@ -32,9 +33,9 @@ fn name_in(header: &Header) -> Name
     Name::new(header.home as NodeNo, header.serial)
 }
 
-/// The message of a header, which has this form, and of what stands behind it.
+/// The piece of a header, which has this form, and of what stands behind it.
 #[tactic(auto, unfolding(crate::specs::Decoding::with_body))]
-fn with_body(alloc: Global, header: &Header, form: Form, body: &[u8]) -> Result<Message, WireFault>
+fn with_body(alloc: Global, header: &Header, form: Form, body: &[u8]) -> Result<Piece, WireFault>
     requires { table.is_shaped (table.shape_of form) header.now ≡ true }
     ensures { Gives result (with_body header.now form body.now) }
 {
@@ -45,16 +46,21 @@ fn with_body(alloc: Global, header: &Header, form: Form, body: &[u8]) -> Result<
     if body.len() > len {
         return Err(WireFault::Long);
     }
-    Ok(Message {
+    let message = Message {
         sender: header.sender,
         addressee: header.addressee,
         kind: kind_from(alloc, form, name_in(header), header.number, body)?,
+    };
+    Ok(Piece {
+        message,
+        pieces: header.last_index as u32 + 1,
+        index: header.index,
     })
 }
 
-/// The message of a header and of what stands behind it.
+/// The piece of a header and of what stands behind it.
 #[tactic(auto, unfolding(crate::specs::Decoding::with_header, crate::specs::Decoding::with_form))]
-fn with_header(alloc: Global, header: &Header, body: &[u8]) -> Result<Message, WireFault>
+fn with_header(alloc: Global, header: &Header, body: &[u8]) -> Result<Piece, WireFault>
     ensures { Gives result (with_header header.now body.now) }
 {
     if !is_kind(header.kind) {
@@ -66,9 +72,9 @@ fn with_header(alloc: Global, header: &Header, body: &[u8]) -> Result<Message, W
     }
 }
 
-/// The message of the bytes.
+/// The piece of the bytes.
 #[tactic(auto, unfolding(crate::specs::Decoding::decoded))]
-fn message_of(alloc: Global, bytes: &[u8]) -> Result<Message, WireFault>
+fn piece_of(alloc: Global, bytes: &[u8]) -> Result<Piece, WireFault>
     ensures { Gives result (decoded bytes.now) }
 {
     if bytes.len() < HEADER_LEN {
@@ -78,25 +84,25 @@ fn message_of(alloc: Global, bytes: &[u8]) -> Result<Message, WireFault>
     with_header(alloc, &header, &bytes[HEADER_LEN..])
 }
 
-/// The message whose frame the bytes are, all of them.
+/// The piece whose frame the bytes are, all of them.
 ///
 /// # Errors
 ///
 /// `Short`, `BadKind`, `BadField`, `Short` and `Long`: the first whose test holds, in the order of
 /// `decoded`. `OutOfMemory`.
-pub fn decode(alloc: Global, bytes: &[u8]) -> Result<Message, WireFault>
+pub fn decode(alloc: Global, bytes: &[u8]) -> Result<Piece, WireFault>
     // Which answer it is.
     ensures exact { Gives result (decoded bytes.now) }
-    // What is read is a message of the table, and the bytes are its frame.
-    ensures found { IfOk result (λ m. Fits m × (bytes.now ≡ frame m)) }
-    // The frame of a message is read as that message, and refused only for memory.
-    ensures only { (m : Message) → Fits m → bytes.now ≡ frame m
-        → MatchResult result (λ read. read ≡ m) (λ fault. fault ≡ WireFault.OutOfMemory) }
-    // What the faults mean. A bad field is one that no message has.
+    // What is read is a piece of the table, and the bytes are its frame.
+    ensures found { IfOk result (λ p. Fits p × (bytes.now ≡ frame p)) }
+    // The frame of a piece is read as that piece, and refused only for memory.
+    ensures only { (p : Piece) → Fits p → bytes.now ≡ frame p
+        → MatchResult result (λ read. read ≡ p) (λ fault. fault ≡ WireFault.OutOfMemory) }
+    // What the faults mean. A bad field is one that no piece has.
     ensures short { result ≡ Err WireFault.Short → (length bytes.now < 32) ⊎ BeginsFrame bytes.now }
     ensures long { result ≡ Err WireFault.Long → ExceedsFrame bytes.now }
     ensures bad_kind { result ≡ Err WireFault.BadKind → (slice_index bytes.now 0 ≡ 0) ⊎ (14 < slice_index bytes.now 0) }
-    ensures bad_field { result ≡ Err WireFault.BadField → (m : Message) → Fits m → take 32 bytes.now ≢ layout (header_of m) }
+    ensures bad_field { result ≡ Err WireFault.BadField → (p : Piece) → Fits p → take 32 bytes.now ≢ layout (header_of p) }
 {
-    message_of(alloc, bytes)
+    piece_of(alloc, bytes)
 }

@@ -5,6 +5,7 @@ ghost use Rattle.crl_wire.specs.Table as table;
 use crate::form::{Body, Home, Number, Shape};
 use crate::header::Header;
 use crl_model::{BROADCAST_LIMIT, NODE_LIMIT, NodeNo, REGION_LIMIT};
+use crl_pieces::{PIECE_LEN, PIECES_LIMIT};
 
 /// Whether they are two nodes.
 fn are_ends(sender: NodeNo, addressee: NodeNo) -> bool
@@ -41,10 +42,26 @@ fn is_len(rule: Body, len: u32) -> bool
 {
     match rule {
         Body::Empty => len == 0,
-        Body::Region => len >= 1 && len <= REGION_LIMIT,
+        Body::Region => len >= 1 && len <= PIECE_LEN,
         Body::Broadcast => len >= 1 && len as usize <= BROADCAST_LIMIT,
         Body::Value => len == 8,
         Body::Total => len == 16,
+    }
+}
+
+/// Whether the piece has a place among the pieces, and the length that goes with it.
+fn is_place(rule: Body, header: &Header) -> bool
+    ensures { result ≡ table.is_place rule header.now }
+{
+    match rule {
+        Body::Region => {
+            (header.last_index as u32) < PIECES_LIMIT
+                && header.index <= header.last_index as u32
+                && (header.index == header.last_index as u32 || header.body_len == PIECE_LEN)
+        }
+        Body::Empty | Body::Broadcast | Body::Value | Body::Total => {
+            header.last_index == 0 && header.index == 0
+        }
     }
 }
 
@@ -56,6 +73,5 @@ pub(crate) fn is_shaped(shape: Shape, header: &Header) -> bool
         && is_home(shape.home, header)
         && is_number(shape.number, header.number)
         && is_len(shape.body, header.body_len)
-        && header.zeros == 0
-        && header.last_zeros == 0
+        && is_place(shape.body, header)
 }

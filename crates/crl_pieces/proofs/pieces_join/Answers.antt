@@ -10,3 +10,6 @@ returns-clause-number c = length_cut
 
 pub returns-clause-any_order : goal.returns-clause-any_order
 returns-clause-any_order c = cells.any_order
+
+pub returns-clause-gathers : goal.returns-clause-gathers
+returns-clause-gathers c = cells.gathered_is

@@ -3,7 +3,7 @@ use Rattle.std.proofs.lemmas.List.{take_rest}
 use Rattle.crl_wire.specs.declared.header.Header.{Header}
 use Rattle.crl_wire.specs.Decoding.{header_at, with_header, Gives}
 use Rattle.crl_wire.proofs.ReadingLemmas.{gives_of}
-use Rattle.crl_wire.proofs.reading.message_of.Goals as goal
+use Rattle.crl_wire.proofs.reading.piece_of.Goals as goal
 
 pub returns : goal.returns
 returns c =
