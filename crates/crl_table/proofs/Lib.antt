@@ -1,0 +1,4 @@
+mod Names
+mod Rows
+mod Weights
+pub mod Laws
