@@ -16,11 +16,11 @@ ghost use Rattle.crl_alone.specs.Reports.{IsReportOf, IsReportAt};
 ghost use Rattle.crl_alone.specs.Steps.{Stands, CanDo, IsTaken, IsRunOn, IsRunFrom};
 
 use crate::refusal::{refusal_of, refused};
+use crl_machine::machine::{Judged, Machine};
 use crl_model::OutOfMemory;
 use crl_model::bytes::Bytes;
 use crl_model::call::{Call, Refusal};
 use crl_model::entry::{Entry, What};
-use crl_machine::machine::{Judged, Machine};
 use crl_model::name::Name;
 use crl_model::report::Report;
 use crl_model::statement::Statement;

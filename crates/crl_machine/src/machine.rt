@@ -9,12 +9,12 @@ ghost use Rattle.crl_model.specs.Names.{name_cmp};
 ghost use Rattle.crl_machine.specs.Regions.{TablesAgree};
 ghost use Rattle.crl_machine.specs.Rounds.{cames, RoundsAgree};
 
+use crate::desk::Desk;
+use crate::region::{Region, Seat};
 use crl_model::bytes::Bytes;
 use crl_model::collective::Fold;
-use crate::desk::Desk;
 use crl_model::entry::{Entry, What};
 use crl_model::name::Name;
-use crate::region::{Region, Seat};
 use crl_model::stage::Stage;
 use crl_model::{NODE_LIMIT, NodeNo, OutOfMemory};
 use std::alloc::Global;

@@ -6,10 +6,10 @@ ghost use Rattle.crl_model.specs.declared.collective.Fold.{Fold};
 ghost use Rattle.crl_model.specs.FoldOf.{are_barriers, sum_from, least_from, greatest_from, sent_from, fold_of};
 ghost use Rattle.crl_machine.specs.Rounds.{cames, parts_in, came_past};
 
+use crate::desk::Desk;
 use crl_model::OutOfMemory;
 use crl_model::bytes::Bytes;
 use crl_model::collective::{Fold, Part};
-use crate::desk::Desk;
 use std::alloc::Global;
 
 /// What the round with `k` before it gives; a node that didn't come to it yet brings `last`.

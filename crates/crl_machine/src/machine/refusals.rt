@@ -8,10 +8,10 @@ ghost use Rattle.crl_machine.specs.Judging.{Judges};
 ghost use Rattle.crl_machine.specs.SingleMachine.{IsRefusedSerial, IsRefusedAt, IsRefusedIn};
 ghost use Rattle.crl_machine.specs.Seen.{state};
 
+use crate::machine::Machine;
 use crl_model::NodeNo;
 use crl_model::call::{CallKind, Refusal};
 use crl_model::entry::Place;
-use crate::machine::Machine;
 use crl_model::name::Name;
 use crl_model::stage::Stage;
 

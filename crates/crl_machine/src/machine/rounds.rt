@@ -10,10 +10,10 @@ ghost use Rattle.crl_model.specs.FoldOf.{fold_of};
 ghost use Rattle.crl_machine.specs.SingleMachine.{IsFull, part_at, parts_of, change};
 ghost use Rattle.crl_machine.specs.Seen.{state};
 
-use crl_model::call::CallKind;
-use crl_model::collective::{Fold, Part};
 use crate::machine::Machine;
 use crate::round::{came_past, fold_of};
+use crl_model::call::CallKind;
+use crl_model::collective::{Fold, Part};
 use crl_model::{NodeNo, OutOfMemory};
 
 impl Machine {

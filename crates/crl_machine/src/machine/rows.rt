@@ -5,12 +5,12 @@ ghost use Rattle.crl_machine.specs.SingleMachine.{IsFree, IsSendable};
 ghost use Rattle.crl_machine.specs.Seen.{state};
 ghost use Rattle.crl_machine.specs.Judging.{Judges, is_free_row};
 
+use crate::machine::{Judged, Machine};
+use crate::region::{Region, Seat};
 use crl_model::bytes::Bytes;
 use crl_model::collective::Part;
 use crl_model::entry::What;
-use crate::machine::{Judged, Machine};
 use crl_model::name::Name;
-use crate::region::{Region, Seat};
 use crl_model::stage::Stage;
 use crl_model::{BROADCAST_LIMIT, NodeNo, OutOfMemory, REGION_LIMIT};
 
