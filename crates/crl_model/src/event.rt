@@ -44,3 +44,15 @@ impl Event {
         })
     }
 }
+
+/// A value that stands for an event.
+pub trait Evented {
+    ghost use Rattle.crl_model.specs.declared.event.Event.{Event};
+
+    // The event for which the value stands.
+    ghost event: { Self → Event };
+}
+
+impl Evented for Event {
+    ghost event = { λ event. event };
+}
