@@ -1,8 +1,7 @@
-//! Tests of the program's commands over sources and sinks in memory, of frames, of
-//! pieces and of lists of postings.
+//! Tests of the program's commands over sources and sinks in memory.
 //!
-//! What they expect was worked out by hand, from the rules of a single machine with one array and from
-//! the table of frames, or by `reference`, which writes these rules down once more.
+//! What they expect was worked out by hand, from the rules of a single machine with one array, or by
+//! `reference`, which writes these rules down once more.
 #![tactic(auto)]
 
 #[cfg(test)]
@@ -20,12 +19,7 @@ mod faults;
 #[cfg(test)]
 mod forms;
 #[cfg(test)]
-mod frames;
-#[cfg(test)]
-mod pieces;
-#[cfg(test)]
 mod plain;
-#[cfg(test)]
 #[cfg(test)]
 mod refusals;
 #[cfg(test)]
