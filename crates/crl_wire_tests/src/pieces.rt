@@ -142,11 +142,13 @@ fn granted_bytes(message: &Message) -> &[u8] {
 
 /// Asserts that the bytes are those that their pieces, sent in this order, are gathered to.
 fn are_gathered(rt: &impl Abort, alloc: Global, bytes: &[u8], order: &[u32]) -> Result<(), Fail> {
-    let pieces = count(bytes.len() as u32);
+    assert!(rt; bytes.len() <= 16_777_216);
+    let size = bytes.len() as u32;
+    let pieces = count(size);
     assert_eq!(rt; order.len(), pieces as usize);
-    let mut gather = Gather::new(alloc, bytes.len() as u32)?;
+    let mut gather = Gather::new(alloc, size)?;
     for (i, index) in order.iter().enumerate() {
-        assert!(rt; *index < count(bytes.len() as u32));
+        assert!(rt; *index < count(size));
         assert!(rt; !gather.is_complete());
         let part = cut(bytes, *index);
         let sent = piece(granted(alloc, part)?, pieces, *index);
