@@ -1,5 +1,6 @@
 mod Acts
 mod ActsDeeds
+mod Addressed
 mod Calls
 mod Carried
 mod Ends
