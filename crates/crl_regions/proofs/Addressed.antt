@@ -27,7 +27,7 @@ use Rattle.crl_deeds.specs.Deeds.{Cause, Calls, Hears, parting, EndsCall, a_read
 use Rattle.crl_deeds.proofs.Turning.{Came, Local, Held}
 use Rattle.crl_deeds.proofs.Counting.{Plain, Counted, GoingFew, counted_local, counted_start}
 use Rattle.crl_regions.specs.Addresses.{GoesToOther}
-use Rattle.crl_regions.proofs.Near.{IsOther, ToOther, Near, NearServed, near_asked, near_returned, near_released, near_starts, near_read, near_write, near_new}
+use Rattle.crl_regions.proofs.NodesExist.{IsOther, ToOther, NodesExist, NodesExistAfter, near_asked, near_returned, near_released, near_starts, near_read, near_write, near_new}
 
 -- a part of a round goes to node 0
 abbrev ToRoot : ℕ → Kind → Type 0
@@ -38,9 +38,9 @@ abbrev pub Sent : ℕ → Message → Type 0
 Sent count m = GoesToOther count m × ToRoot m.addressee m.kind
 
 -- what a node has of regions: of its own, only other nodes of the world are listed; of others, their homes are such
-abbrev pub NearIf : ℕ → ℕ → Option Home → Type 0
-NearIf me count None = Unit {0}
-NearIf me count (Some h) = Near me count h
+abbrev pub NodesExistIf : ℕ → ℕ → Option Home → Type 0
+NodesExistIf me count None = Unit {0}
+NodesExistIf me count (Some h) = NodesExist me count h
 
 abbrev IsAway : ℕ → ℕ → Name → Type 0
 IsAway me count q = (q.home < count) × ((q.home == me) ≡ false)
@@ -54,7 +54,7 @@ MapsAway me count (Waiting (ForMap q purged)) = IsAway me count q
 MapsAway me count _ = Unit {0}
 
 pub record Addresses (count : ℕ) (n : Node) : Type 0 where
-  pub homes : (q : Name) → NearIf n.me count (home_of n q)
+  pub homes : (q : Name) → NodesExistIf n.me count (home_of n q)
   pub sides : (q : Name) → AwayIf n.me count q (n.remotes q)
   pub waits : MapsAway n.me count n.activity
 
@@ -83,24 +83,24 @@ parting_sent count n name None few h = tt
 parting_sent count n name (Some r) few h = mails_sent count n name (remote_flushes r).posts few h
 
 -- Over copies.
-near_at : (count : ℕ) (n : Node) (name : Name) (h : Home) → home_of n name ≡ Some h → ((q : Name) → NearIf n.me count (home_of n q)) → Near n.me count h
-near_at count n name h e k = subst (NearIf n.me count) e (k name)
+near_at : (count : ℕ) (n : Node) (name : Name) (h : Home) → home_of n name ≡ Some h → ((q : Name) → NodesExistIf n.me count (home_of n q)) → NodesExist n.me count h
+near_at count n name h e k = subst (NodesExistIf n.me count) e (k name)
 
 away_at : (count : ℕ) (n : Node) (name : Name) (r : Remote) → n.remotes name ≡ Some r → ((q : Name) → AwayIf n.me count q (n.remotes q)) → IsAway n.me count name
 away_at count n name r e k = subst (AwayIf n.me count name) e (k name)
 
-homes_with : (count : ℕ) (n : Node) (name : Name) (h g : Home) → home_of n name ≡ Some h → ((q : Name) → NearIf n.me count (home_of n q)) → Near n.me count g → (q : Name) → NearIf n.me count (home_of (with_home name g n) q)
+homes_with : (count : ℕ) (n : Node) (name : Name) (h g : Home) → home_of n name ≡ Some h → ((q : Name) → NodesExistIf n.me count (home_of n q)) → NodesExist n.me count g → (q : Name) → NodesExistIf n.me count (home_of (with_home name g n) q)
 homes_with count n name h g e k near q =
-    subst (NearIf n.me count) (sym (home_put n name h g e q)) (by_name name (λ b p. NearIf n.me count (if b then Some g else home_of n p)) near (λ p other. k p) q)
+    subst (NodesExistIf n.me count) (sym (home_put n name h g e q)) (by_name name (λ b p. NodesExistIf n.me count (if b then Some g else home_of n p)) near (λ p other. k p) q)
 
 sides_with : (count : ℕ) (n : Node) (name : Name) (o : Option Remote) → AwayIf n.me count name o → ((q : Name) → AwayIf n.me count q (n.remotes q)) → (q : Name) → AwayIf n.me count q (at_name n.remotes name o q)
 sides_with count n name o h k q = by_name name (λ b p. AwayIf n.me count p (if b then o else n.remotes p)) h (λ p other. k p) q
 
-ends_near : (n : Node) (count : ℕ) (bytes : List ℕ) (c : Call) (name : Name) (w : What) (ends : Home → HomeStep) (lowers : Remote → RemoteStep) (h : Home) → EndsCall bytes n c name w ends lowers → Near n.me count h → NearServed n.me count (ends h)
+ends_near : (n : Node) (count : ℕ) (bytes : List ℕ) (c : Call) (name : Name) (w : What) (ends : Home → HomeStep) (lowers : Remote → RemoteStep) (h : Home) → EndsCall bytes n c name w ends lowers → NodesExist n.me count h → NodesExistAfter n.me count (ends h)
 ends_near n count bytes c name w ends lowers h (a_read q v) k = near_read n.me count h k
 ends_near n count bytes c name w ends lowers h (a_write q after v) k = near_write n.me count after h k
 
-serves_near : (count : ℕ) (n : Node) (h : Home) (from : ℕ) (k : Kind) (name : Name) (s : HomeStep) → Serves n h from k name s → from < count → Near n.me count h → NearServed n.me count s
+serves_near : (count : ℕ) (n : Node) (h : Home) (from : ℕ) (k : Kind) (name : Name) (s : HomeStep) → Serves n h from k name s → from < count → NodesExist n.me count h → NodesExistAfter n.me count s
 serves_near count n h from k name s (ask_comes f q write have e) few near = near_asked n.me count _ h few near
 serves_near count n h from k name s (copy_returns f q version bytes e) few near = near_returned n.me count from bytes h near
 serves_near count n h from k name s (copy_lowers f q version bytes e) few near = near_released n.me count from version bytes h near
@@ -108,12 +108,12 @@ serves_near count n h from k name s (copy_lowers f q version bytes e) few near =
 abbrev Kept : ℕ → Node → Outcome → Type 0
 Kept count n o = Addresses count o.node × AllByRecursion (Sent count) o.posts
 
-at_home : (count : ℕ) (n m : Node) (name : Name) (h : Home) (s : HomeStep) → home_of n name ≡ Some h → n.me < count → NearServed n.me count s → Addresses count n
+at_home : (count : ℕ) (n m : Node) (name : Name) (h : Home) (s : HomeStep) → home_of n name ≡ Some h → n.me < count → NodesExistAfter n.me count s → Addresses count n
     → m.me ≡ n.me → ((q : Name) → home_of m q ≡ home_of (with_home name s.home n) q) → ((q : Name) → m.remotes q ≡ n.remotes q) → MapsAway n.me count m.activity
     → Addresses count m × AllByRecursion (Sent count) (letter_messages n name s.posts)
 at_home count n m name h s e few near k me homes sides waits = (
   record {
-    homes = λ q. subst (λ x. NearIf x count (home_of m q)) (sym me) (subst (NearIf n.me count) (sym (homes q)) (homes_with count n name h s.home e k.homes near.near q));
+    homes = λ q. subst (λ x. NodesExistIf x count (home_of m q)) (sym me) (subst (NodesExistIf n.me count) (sym (homes q)) (homes_with count n name h s.home e k.homes near.near q));
     sides = λ q. subst (λ x. AwayIf x count q (m.remotes q)) (sym me) (subst (AwayIf n.me count q) (sym (sides q)) (k.sides q));
     waits = subst (λ x. MapsAway x count m.activity) (sym me) waits;
   },
@@ -125,7 +125,7 @@ at_side : (count : ℕ) (n m : Node) (name : Name) (r : Remote) (s : RemoteStep)
     → Addresses count m × AllByRecursion (Sent count) (mail_messages n name s.posts)
 at_side count n m name r s e few k me homes sides waits = let away = away_at count n name r e k.sides in (
   record {
-    homes = λ q. subst (λ x. NearIf x count (home_of m q)) (sym me) (subst (NearIf n.me count) (sym (homes q)) (k.homes q));
+    homes = λ q. subst (λ x. NodesExistIf x count (home_of m q)) (sym me) (subst (NodesExistIf n.me count) (sym (homes q)) (k.homes q));
     sides = λ q. subst (λ x. AwayIf x count q (m.remotes q)) (sym me) (subst (AwayIf n.me count q) (sym (sides q)) (sides_with count n name (Some s.remote) away k.sides q));
     waits = subst (λ x. MapsAway x count m.activity) (sym me) waits;
   },
@@ -147,9 +147,9 @@ copies_kept count n cause o (grant_comes from name version g r e t) few came k =
     (record { homes = k.homes; sides = sides_with count n name _ (away_at count n name r e k.sides) k.sides; waits = tt }, tt)
 
 -- Over lifetimes.
-homes_made : (count : ℕ) (n : Node) (size : ℕ) → ((q : Name) → NearIf n.me count (home_of n q)) → (q : Name) → NearIf n.me count (home_of (creates size n).node q)
+homes_made : (count : ℕ) (n : Node) (size : ℕ) → ((q : Name) → NodesExistIf n.me count (home_of n q)) → (q : Name) → NodesExistIf n.me count (home_of (creates size n).node q)
 homes_made count n size k q =
-    subst (NearIf n.me count) (sym (home_end n (creates size n).node _ refl refl q)) (by_name (next_name n) (λ b p. NearIf n.me count (if b then Some (new_home n.nodes size) else home_of n p)) (near_new n.me count n.nodes size) (λ p other. k p) q)
+    subst (NodesExistIf n.me count) (sym (home_end n (creates size n).node _ refl refl q)) (by_name (next_name n) (λ b p. NodesExistIf n.me count (if b then Some (new_home n.nodes size) else home_of n p)) (near_new n.me count n.nodes size) (λ p other. k p) q)
 
 waits_warned : (me count : ℕ) (name : Name) (a : Activity) → MapsAway me count a → MapsAway me count (purges_waiting name a)
 waits_warned me count name (Waiting (ForMap p purged)) h = h
@@ -157,7 +157,7 @@ waits_warned me count name _ h = h
 
 lives_kept : (count : ℕ) (n : Node) (cause : Cause) (o : Outcome) → Lives n cause o → n.nodes ≡ count → Addresses count n → Addresses count o.node
 lives_kept count n cause o (made size e) all k = record { homes = homes_made count n size k.homes; sides = k.sides; waits = k.waits }
-lives_kept count n cause o (used_up size why e x) all k = record { homes = λ q. subst (NearIf n.me count) (sym (home_none n q)) (k.homes q); sides = k.sides; waits = k.waits }
+lives_kept count n cause o (used_up size why e x) all k = record { homes = λ q. subst (NodesExistIf n.me count) (sym (home_none n q)) (k.homes q); sides = k.sides; waits = k.waits }
 lives_kept count n cause o (map_asks name e other c real) all k = record { homes = k.homes; sides = k.sides; waits = (subst (λ k. name.home < k) all (ltb-true _ _ (and_parts _ _ real).0), other) }
 lives_kept count n cause o (map_comes from name purged size e) all k = record { homes = k.homes; sides = sides_with count n name _ (subst (MapsAway n.me count) e k.waits) k.sides; waits = tt }
 lives_kept count n cause o (map_denied from name purged s why t d u e) all k = record { homes = k.homes; sides = k.sides; waits = tt }
@@ -282,7 +282,7 @@ addressed_local count = record {
   parts = λ m part h. ((counted_local count).parts m part h.0, (record { sender = h.1.0.sender; addressee = h.1.0.addressee; other = h.1.0.other }, root_part m.addressee part m.kind h.1.1));
 }
 
-no_homes : (me count : ℕ) (b c : Bool) → NearIf me count (if b then if c then None else None else None)
+no_homes : (me count : ℕ) (b c : Bool) → NodesExistIf me count (if b then if c then None else None else None)
 no_homes me count true true = tt
 no_homes me count true false = tt
 no_homes me count false c = tt

@@ -1,2 +1,4 @@
 pub mod Addresses
+pub mod MailFits
+pub mod Steps
 pub mod View
