@@ -229,6 +229,20 @@ received_key : (p : Piece) (n : Node) (key : Key) (size : ℕ) → key_of p.mess
     → receives p n ≡ gathers_piece key p (slots_with p (n.parcels key)) n
 received_key p n key size e s f m = ap (λ o. receives_as o p n) e ∙ ap (λ o. receives_part key p o n) s ∙ cond-true (fits_size size p && is_missing p.index (slots_or p.pieces (n.parcels key))) _ _ (and_from _ _ f m)
 
+-- a piece of an inbox is taken out of all boxes
+pub box_took : (w : World) (i : ℕ) (p : Piece) (rest : List Piece) → i < w.count → Took p (w.nodes i).inbox rest → Took p (pieces_in_boxes w) (boxes_from 0 w.count (at_node w.nodes i (record (w.nodes i) { inbox = rest })))
+box_took w i p rest few took =
+    let n = record (w.nodes i) { inbox = rest } in
+    flight_took p w.count i w.nodes (at_node w.nodes i n) few (subst (λ (x : Node). Took p (boxes (w.nodes i)) (boxes x)) (sym (node_here w.nodes i n)) (took_left (w.nodes i).outbox took)) (λ l other. ap boxes (sym (node_there w.nodes i n l other)))
+
+-- the size of a message with bytes is known where it comes
+pub key_passes : (w : World) (drafts : ℕ → Name → List ℕ) (arrays : Name → List ℕ) (us : List Under) (i : ℕ) (u : Under) (others : List Under) (key : Key) (inbox : List Piece) (parcels : PartsGathered) → AllNodesHold w drafts arrays us → u.message.addressee ≡ i → Took u us others
+    → key_of u.message ≡ Some key → size_for key.load key.name (record (w.nodes i) { inbox = inbox; parcels = parcels }) ≡ Some (length (load_of u.message.kind))
+key_passes w drafts arrays us i u others key inbox parcels k to took of_u =
+    let fits = (all_took (MailFits (tables_of w)) (took_message took) k.mail).0 in
+    size_known i (tables_of w) (record (w.nodes i) { inbox = inbox; parcels = parcels }) u.message.sender key u.message.kind of_u (subst (λ a. KindFits (tables_of w) u.message.sender a u.message.kind) to fits)
+    (passes w drafts arrays us i u.message inbox parcels _ k to fits (took_message took)) (λ name h there at_i. subst (λ j. home_of (w.nodes j) name ≡ Some h) at_i there)
+
 pub handle_on : (w : World) (drafts later : ℕ → Name → List ℕ) (arrays : Name → List ℕ) (us : List Under) (i place : ℕ) (e : Event) (t : Taken Piece) → i < w.count → take_out place (w.nodes i).inbox ≡ Some t → AllNodesHold w drafts arrays us
     → let o = receives t.taken (record (w.nodes i) { inbox = t.rest }) in StepKeeps w later (steps_node i e o w).world → GoneOn w (steps_node i e o w).world us later arrays arrays
 handle_on w drafts later arrays us i place e t few out k fits = go (comes us (pieces_in_boxes w) after (λ j. (w.nodes j).parcels) t.taken k.flies (alone_in w.nodes tables arrays us k.mail k.coherent) under_way) fits
@@ -258,9 +272,7 @@ handle_on w drafts later arrays us i place e t few out k fits = go (comes us (pi
     fitted = (all_took (fitting.ComesIn (w.nodes i).me) took (k.fits i).inbox).1
 
     under_way : Took t.taken (pieces_in_boxes w) after
-    under_way =
-        flight_took t.taken w.count i w.nodes (at_node w.nodes i n) few (subst (λ (x : Node). Took t.taken (boxes (w.nodes i)) (boxes x)) (sym (node_here w.nodes i n)) (took_left (w.nodes i).outbox took))
-        (λ l other. ap boxes (sym (node_there w.nodes i n l other)))
+    under_way = box_took w i t.taken t.rest few took
 
     -- the boxes don't change with the gathering
     boxes_with : (g : PartsGathered) → after ≡ boxes_from 0 w.count (at_node w.nodes i (record n { parcels = g }))
@@ -282,12 +294,8 @@ handle_on w drafts later arrays us i place e t few out k fits = go (comes us (pi
     -- the piece is taken in
     taken_in : (key : Key) (u : Under) (others : List Under) → IsNext us (λ j. (w.nodes j).parcels) t.taken key u others → receives t.taken n ≡ gathers_piece key t.taken (slots_with t.taken (n.parcels key)) n
     taken_in key u others x =
-        let to_u = sym x.addressee ∙ to in
-        let fair = (all_took (MailFits tables) (took_message x.took) k.mail).0 in
-        let of_u : key_in u.message.sender u.message.kind ≡ Some key = x.of_message in
-        let known = size_known i tables n u.message.sender key u.message.kind of_u (subst (λ a. KindFits tables u.message.sender a u.message.kind) to_u fair)
-        (passes w drafts arrays us i u.message t.rest (w.nodes i).parcels _ k to_u fair (took_message x.took)) (λ name h there at_i. subst (λ j. home_of (w.nodes j) name ≡ Some h) at_i there) in
-        received_key t.taken n key (length (load_of u.message.kind)) x.of_key known x.fits (subst (λ a. is_missing t.taken.index (slots_or t.taken.pieces ((w.nodes a).parcels key)) ≡ true) to x.missing)
+        received_key t.taken n key (length (load_of u.message.kind)) x.of_key (key_passes w drafts arrays us i u others key t.rest (w.nodes i).parcels k (sym x.addressee ∙ to) x.took x.of_message) x.fits
+        (subst (λ a. is_missing t.taken.index (slots_or t.taken.pieces ((w.nodes a).parcels key)) ≡ true) to x.missing)
 
     go : PieceComes us after (λ j. (w.nodes j).parcels) t.taken → Ends (receives t.taken n)
     go (plain u others x none same f) =

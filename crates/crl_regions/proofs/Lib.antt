@@ -11,6 +11,7 @@ mod Mails
 mod MappedOrCached
 mod Messages
 mod Moves
+mod NodeLaws
 mod NodesExist
 mod Opened
 mod RegionDeeds

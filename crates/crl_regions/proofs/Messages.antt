@@ -170,7 +170,7 @@ called_side tables K i d from k n name r s (to_share q0 version) e goes l q =
     acts_called tables K i d from n name (Yield version) (remote_takes_yield version) r goes l (yields_same version r) (yields_goes version r (remote_bytes i d n name r e l.fits)).size (λ g rest took. region.yield_comes i version rest (eqb-false i name.home goes.1) took) e q
 
 -- a grant
-no_grant : (what : Granted) (size : ℕ) → grant_fits what (new_remote size) ≡ true → ⊥
+pub no_grant : (what : Granted) (size : ℕ) → grant_fits what (new_remote size) ≡ true → ⊥
 no_grant (Shared bytes) size e = cc
 no_grant (Exclusive bytes) size e = cc
 no_grant Upgrade size e = cc

@@ -183,7 +183,7 @@ go_on w v us later arrays left g = record {
 }
 
 -- whatever is under way and holds of all regions
-with_regions : (w : World) (us : List Under) (arrays before : Name → List ℕ) (k : NodesHold w before) → RegionsHold w us arrays → AllNodesHold w k.drafts arrays us
+pub with_regions : (w : World) (us : List Under) (arrays before : Name → List ℕ) (k : NodesHold w before) → RegionsHold w us arrays → AllNodesHold w k.drafts arrays us
 with_regions w us arrays before k h = let x = k.whole in record {
   fits = x.fits;
   agrees = x.agrees;

@@ -1,4 +1,5 @@
 pub mod Addresses
 pub mod MailFits
 pub mod Steps
+pub mod Tests
 pub mod View

@@ -1,0 +1,167 @@
+-- What is known of the nodes of a run and of what comes to them.
+use Rattle.std.proofs.Common.{◌≡◌, ◌≢◌, inl, inr, ℕ, ◌<◌, ◌==◌, Bool, true, false, ◌||◌, None, Some, Option, List, [], ◌∷◌, length, if◌then◌else◌, refl, ap, sym, ◌∙◌, subst}
+use Rattle.std.specs.List.{AllByRecursion}
+use Rattle.std.proofs.lemmas.Bool.{cond-true, cond-false, eqb-true, eqb-false, eq-eqb, ne_eqb}
+use Rattle.crl_model.specs.declared.name.Name.{Name}
+use Rattle.crl_model.specs.declared.event.Event.{Event}
+use Rattle.crl_model.specs.declared.directory.Asked.{Asked}
+use Rattle.crl_model.specs.declared.directory.Section.{Section}
+use Rattle.crl_model.specs.declared.directory.Section.TheVariants as section
+use Rattle.crl_model.specs.declared.message.Granted.{Granted}
+use Rattle.crl_model.specs.declared.message.Granted.TheVariants.{Shared, Exclusive, Upgrade}
+use Rattle.crl_model.specs.declared.message.Message.{Message}
+use Rattle.crl_model.specs.Names.{at_node}
+use Rattle.crl_model.specs.declared.message.Kind.{Kind}
+use Rattle.crl_model.specs.declared.message.Kind.TheVariants as kind
+use Rattle.crl_pieces.specs.Pieces.{is_missing}
+use Rattle.crl_protocol.specs.Places.{Took}
+use Rattle.crl_protocol.specs.Home.{Home, new_home}
+use Rattle.crl_protocol.specs.Remote.{Remote, new_remote, grant_fits}
+use Rattle.crl_protocol.specs.Sections as sections
+use Rattle.crl_protocol.specs.Node.{Node, Activity, Waiting, ForSection, is_mine, home_of}
+use Rattle.crl_protocol.specs.Handlers.{is_queued}
+use Rattle.crl_protocol.specs.Parcels.{Piece, Key, key_in, key_of, load_of, slots_or}
+use Rattle.crl_protocol.specs.World.{World, boxes_from, pieces_in_boxes, new_world, world_of, IsRunFrom}
+use Rattle.crl_deeds.proofs.Fitting.{NoOwn, QueueFits, AskingFits}
+use Rattle.crl_deeds.proofs.Turning.{HeldIn, all_took}
+use Rattle.crl_deeds.proofs.Outcomes.{queue_of, asking_of}
+use Rattle.crl_flight.specs.Flight.{Under, messages_of}
+use Rattle.crl_flight.specs.Coming.{PieceComes, plain, last, gathers, IsNext}
+use Rattle.crl_flight.proofs.Coming.{comes}
+use Rattle.crl_coherence.specs.Coherent.{section_at}
+use Rattle.crl_regions.specs.MailFits.{HasSize, KindFits, MailFits}
+use Rattle.crl_regions.specs.Steps.{RegionsHold}
+use Rattle.crl_regions.specs.Tests.{MeetsTest, PieceFits}
+use Rattle.crl_regions.specs.View.{side, table_of, tables_of, table_or_blank, view}
+use Rattle.crl_regions.proofs.Acts.{expected}
+use Rattle.crl_regions.proofs.Addressed.{PlainSent}
+use Rattle.crl_regions.proofs.AllNodesHold.{AllNodesHold, table_at, passes}
+use Rattle.crl_regions.proofs.Carried.{of_node, node_here}
+use Rattle.crl_regions.proofs.Events.{key_passes, box_took}
+use Rattle.crl_regions.proofs.Messages.{Passes, no_grant}
+use Rattle.crl_regions.proofs.Moves.{boxes, flight_took, took_left}
+use Rattle.crl_regions.proofs.Single.{took_message, alone_in, size_known}
+use Rattle.crl_regions.proofs.Runs.{NodesHold, nodes_hold, count_in_run, with_regions}
+
+-- The sections that a node notes are those of the region.
+own_section : (o : Option Home) (r : Option Remote) → ((x : Remote) → r ≡ Some x → (h : Home) × (o ≡ Some h)) → expected o r ≡ (table_or_blank o).mine
+own_section (Some h) r f = refl
+own_section None None f = refl
+own_section None (Some x) f = absurd (let t = (f x refl).1 in cc)
+
+side_section : (size : ℕ) (r : Option Remote) → expected None r ≡ (side size r).here
+side_section size None = refl
+side_section size (Some r) = refl
+
+section_noted : (w : World) (drafts : ℕ → Name → List ℕ) (arrays : Name → List ℕ) (us : List Under) (array : List ℕ) (messages : List Message) (i : ℕ) (q : Name) → AllNodesHold w drafts arrays us
+    → section_at q.home (view q array messages w) i ≡ sections.section_at q (w.nodes i).sections
+section_noted w drafts arrays us array messages i q k = go (i == q.home) refl
+  where
+    g : Home
+    g = table_or_blank (table_of q w)
+
+    go : (b : Bool) → (i == q.home) ≡ b → (if b then g.mine else (side g.size ((w.nodes i).remotes q)).here) ≡ sections.section_at q (w.nodes i).sections
+    go true e =
+        let at_i : i ≡ q.home = eqb-true i q.home e in
+        subst (λ j. g.mine ≡ sections.section_at q (w.nodes j).sections) (sym at_i)
+        (sym (own_section (table_of q w) ((w.nodes q.home).remotes q) (λ x f. let s = k.sizes q.home q x f in (s.0, s.1))) ∙ k.agrees q.home q)
+    go false e =
+        let none : home_of (w.nodes i) q ≡ None = cond-false (is_mine (w.nodes i) q) _ _ (ne_eqb q.home (w.nodes i).me (λ x. eqb-false i q.home e (sym (k.fits i).me ∙ sym x))) in
+        sym (side_section g.size ((w.nodes i).remotes q)) ∙ sym (ap (λ o. expected o ((w.nodes i).remotes q)) none) ∙ k.agrees i q
+
+pub sections_are_tables : (count capacity : ℕ) (run : List Event) → IsRunFrom (new_world count capacity) run → (i : ℕ) (q : Name) (array : List ℕ) (messages : List Message)
+    → section_at q.home (view q array messages (world_of count capacity run)) i ≡ sections.section_at q ((world_of count capacity run).nodes i).sections
+sections_are_tables count capacity run r i q array messages = section_noted _ _ _ _ array messages i q (nodes_hold count capacity run r).whole
+
+-- A size that a node has is the region's.
+pub sizes_known : (count capacity : ℕ) (run : List Event) → IsRunFrom (new_world count capacity) run → (i : ℕ) (q : Name) (r : Remote) → ((world_of count capacity run).nodes i).remotes q ≡ Some r → HasSize r.size (table_of q (world_of count capacity run))
+sizes_known count capacity run r i q x e = (nodes_hold count capacity run r).whole.sizes i q x e
+
+-- A node that asks waits for that section.
+asks_waits : (size : ℕ) (o : Option Remote) (q : Name) (a : Activity) → AskingFits q o a → (side size o).asking ≢ None → a ≡ Waiting (ForSection q)
+asks_waits size None q a f n = absurd (n refl)
+asks_waits size (Some r) q a (inl none) n = absurd (n none)
+asks_waits size (Some r) q a (inr waits) n = waits
+
+not_own : (me : ℕ) (queue : List Asked) → NoOwn me queue → is_queued me queue ≡ false
+not_own me [] h = refl
+not_own me (a ∷ queue) h = ap (λ b. b || is_queued me queue) h.0 ∙ not_own me queue h.1
+
+queued_waits : (me : ℕ) (o : Option Home) (q : Name) (a : Activity) → QueueFits me q o a → is_queued me (table_or_blank o).queue ≡ true → a ≡ Waiting (ForSection q)
+queued_waits me None q a f e = cc
+queued_waits me (Some h) q a (one, inl none) e = absurd (let no = not_own me h.queue none in cc)
+queued_waits me (Some h) q a (one, inr waits) e = waits
+
+pub other_waits : (count capacity : ℕ) (run : List Event) → IsRunFrom (new_world count capacity) run → (i : ℕ) (q : Name) (array : List ℕ) (messages : List Message) → ((view q array messages (world_of count capacity run)).remotes i).asking ≢ None
+    → ((world_of count capacity run).nodes i).activity ≡ Waiting (ForSection q)
+other_waits count capacity run r i q array messages asks =
+    let w = world_of count capacity run in
+    let k = (nodes_hold count capacity run r).whole in asks_waits (table_or_blank (table_of q w)).size ((w.nodes i).remotes q) q (w.nodes i).activity ((k.fits i).each q).asking asks
+
+pub home_waits : (count capacity : ℕ) (run : List Event) → IsRunFrom (new_world count capacity) run → (q : Name) (array : List ℕ) (messages : List Message) → is_queued q.home (view q array messages (world_of count capacity run)).home.queue ≡ true
+    → ((world_of count capacity run).nodes q.home).activity ≡ Waiting (ForSection q)
+home_waits count capacity run r q array messages queued =
+    let w = world_of count capacity run in
+    let k = (nodes_hold count capacity run r).whole in
+    queued_waits q.home (table_of q w) q (w.nodes q.home).activity (subst (λ me. QueueFits me q (table_of q w) (w.nodes q.home).activity) (k.fits q.home).me ((k.fits q.home).each q).queue) queued
+
+-- A message that is under way meets the test of its handler.
+grant_there : (granted : Granted) (size : ℕ) (o : Option Remote) → grant_fits granted (side size o) ≡ true → (r : Remote) × (o ≡ Some r) × (grant_fits granted r ≡ true)
+grant_there granted size None e = absurd (no_grant granted size e)
+grant_there granted size (Some r) e = (r, refl, e)
+
+meets : (w : World) (drafts : ℕ → Name → List ℕ) (arrays : Name → List ℕ) (us : List Under) (m : Message) (rest : List Message) → AllNodesHold w drafts arrays us → Took m (messages_of us) rest → MeetsTest (w.nodes m.addressee) m.sender m.kind
+meets w drafts arrays us m rest k took = go m.kind fits (passes w drafts arrays us m.addressee m (w.nodes m.addressee).inbox (w.nodes m.addressee).parcels rest k refl fits took)
+  where
+    n : Node
+    n = w.nodes m.addressee
+
+    fits : MailFits (tables_of w) m
+    fits = (all_took (MailFits (tables_of w)) took k.mail).0
+
+    go : (x : Kind) → KindFits (tables_of w) m.sender m.addressee x → Passes m.sender x n → MeetsTest n m.sender x
+    go (kind.Ask name write have) f p = ((f.2.0, subst (λ j. home_of (w.nodes j) name ≡ Some f.2.0) f.0 f.2.1), p.0)
+    go (kind.Grant name version granted) f p = grant_there granted p.0 (n.remotes name) p.1
+    go (kind.Return name version bytes) f p = let there = subst (λ j. home_of (w.nodes j) name ≡ Some f.2.0) f.0 f.2.1 in (f.2.0, there, (p f.2.0 there).0)
+    go (kind.Release name version bytes) f p = let there = subst (λ j. home_of (w.nodes j) name ≡ Some f.2.0) f.0 f.2.1 in (f.2.0, there, (p f.2.0 there).0)
+    go (kind.InfoIs name t) f p = tt
+    go (kind.InfoAsk name) f p = tt
+    go (kind.Recall name version) f p = tt
+    go (kind.Yield name version) f p = tt
+    go (kind.DeleteAsk name) f p = tt
+    go (kind.DeleteIs name t) f p = tt
+    go (kind.Purge name) f p = tt
+    go (kind.Purged name) f p = tt
+    go (kind.Come round part) f p = tt
+    go (kind.Result round fold) f p = tt
+
+pub messages_meet : (count capacity : ℕ) (run : List Event) → IsRunFrom (new_world count capacity) run → (us : List Under) (arrays : Name → List ℕ) → RegionsHold (world_of count capacity run) us arrays
+    → (m : Message) (rest : List Message) → Took m (messages_of us) rest → MeetsTest ((world_of count capacity run).nodes m.addressee) m.sender m.kind
+messages_meet count capacity run r us arrays h m rest took = meets _ _ arrays us m rest (with_regions _ us arrays _ (nodes_hold count capacity run r) h) took
+
+-- A piece that comes is taken in.
+piece_in : (w : World) (drafts : ℕ → Name → List ℕ) (arrays : Name → List ℕ) (us : List Under) (i : ℕ) (p : Piece) (rest : List Piece) (key : Key) → AllNodesHold w drafts arrays us → i < w.count → Took p (w.nodes i).inbox rest → key_of p.message ≡ Some key → PieceFits (w.nodes i) p key
+piece_in w drafts arrays us i p rest key k few took e =
+    go (comes us (pieces_in_boxes w) _ (λ j. (w.nodes j).parcels) p k.flies (alone_in w.nodes (tables_of w) arrays us k.mail k.coherent) (box_took w i p rest few took))
+  where
+    to : p.message.addressee ≡ i
+    to = (all_took (HeldIn (PlainSent w.count) i) took (k.addressed i).inbox).0.1
+
+    next : (l : Key) (u : Under) (others : List Under) → IsNext us (λ j. (w.nodes j).parcels) p l u others → PieceFits (w.nodes i) p key
+    next l u others x =
+        let same : l ≡ key = (let both : Some l ≡ Some key = sym x.of_key ∙ e in cc) in
+        subst (λ y. PieceFits (w.nodes i) p y) same (record {
+          size = length (load_of u.message.kind);
+          known = key_passes w drafts arrays us i u others l (w.nodes i).inbox (w.nodes i).parcels k (sym x.addressee ∙ to) x.took x.of_message;
+          fits = x.fits;
+          missing = subst (λ a. is_missing p.index (slots_or p.pieces ((w.nodes a).parcels l)) ≡ true) to x.missing;
+        })
+
+    go : PieceComes us (boxes_from 0 w.count (at_node w.nodes i (record (w.nodes i) { inbox = rest }))) (λ j. (w.nodes j).parcels) p → PieceFits (w.nodes i) p key
+    go (plain u others x none same f) = absurd (cc)
+    go (last l u others x full whole f) = next l u others x
+    go (gathers l u others left x less same f) = next l u others x
+
+pub pieces_meet : (count capacity : ℕ) (run : List Event) → IsRunFrom (new_world count capacity) run → (i : ℕ) (p : Piece) (rest : List Piece) (key : Key) → i < count → Took p ((world_of count capacity run).nodes i).inbox rest → key_of p.message ≡ Some key
+    → PieceFits ((world_of count capacity run).nodes i) p key
+pieces_meet count capacity run r i p rest key few took e = piece_in _ _ _ _ i p rest key (nodes_hold count capacity run r).whole (subst (λ c. i < c) (sym (count_in_run count capacity run r)) few) took e
