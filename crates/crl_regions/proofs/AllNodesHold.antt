@@ -33,6 +33,7 @@ use Rattle.crl_regions.proofs.Acts.{expected, CountFits, about_here, home_is}
 use Rattle.crl_regions.proofs.Sections.{Local}
 use Rattle.crl_regions.proofs.MappedOrCached.{IsMappedOrCached}
 use Rattle.crl_regions.proofs.Addressed.{Addressed}
+use Rattle.crl_regions.proofs.Asking.{WaitsAsking}
 use Rattle.crl_regions.proofs.Messages.{Passes}
 
 -- us is what is under way. The drafts are those of the nodes' actors, and the arrays the bytes of each region in the
@@ -43,6 +44,7 @@ pub record AllNodesHold (w : World) (drafts : ℕ → Name → List ℕ) (arrays
   pub counts : (i : ℕ) (q : Name) → CountFits (section_at q (w.nodes i).sections)
   pub cached : (i : ℕ) → IsMappedOrCached (w.nodes i)
   pub addressed : Addressed w
+  pub asks : (i : ℕ) → WaitsAsking (w.nodes i)
   pub sizes : (i : ℕ) (q : Name) (r : Remote) → (w.nodes i).remotes q ≡ Some r → HasSize r.size (table_of q w)
   pub mail : AllMailFits (tables_of w) (messages_of us)
   pub flies : UnderWay w us

@@ -48,6 +48,7 @@ use Rattle.crl_regions.proofs.Sections.{Local}
 use Rattle.crl_regions.proofs.RegionDeeds.{Known, acts_deed, acts_call}
 use Rattle.crl_regions.proofs.Mails.{fair_deed}
 use Rattle.crl_regions.proofs.MappedOrCached.{IsMappedOrCached, mapped_or_cached_deed}
+use Rattle.crl_regions.proofs.Asking.{WaitsAsking, asks_deed}
 use Rattle.crl_regions.proofs.Addressed.{PlainSent, Addressed}
 use Rattle.crl_regions.proofs.Carried.{of_node, node_here, node_there}
 use Rattle.crl_regions.proofs.AllNodesHold.{AllNodesHold, local, passes}
@@ -96,6 +97,7 @@ call_on w drafts later arrays us i e c few free may k keeps =
       few = few;
       fits = keeps.0;
       addressed = keeps.1;
+      asks = asks_deed i (drafts i) (w.nodes i) (Calls c) _ d free (local w drafts arrays us i k) (k.asks i);
       acts = λ q. acts_call (tables_of w) i (drafts i) (w.nodes i) c free may (local w drafts arrays us i k) q;
       frame = deed_frame (w.nodes i) (Calls c) _ d;
       cached = mapped_or_cached_deed (w.nodes i) (Calls c) _ d (own_nothing i (drafts i) (w.nodes i) (k.fits i)) (k.fits i).fresh (k.cached i);
@@ -120,6 +122,11 @@ cached_collected n Free h = h
 cached_collected n (Waiting awaited) h = h
 cached_collected n (Ready answer) h = h
 
+asks_collected : (n : Node) (a : Activity) → n.activity ≡ a → WaitsAsking n → WaitsAsking (collects a n).node
+asks_collected n Free e h = h
+asks_collected n (Waiting awaited) e h = h
+asks_collected n (Ready answer) e h = tt
+
 mail_collected : (tables : Tables) (n : Node) (a : Activity) → AllMailFits tables (collects a n).posts
 mail_collected tables n Free = tt
 mail_collected tables n (Waiting awaited) = tt
@@ -132,6 +139,7 @@ collect_on w drafts later arrays us i e few k keeps =
       few = few;
       fits = keeps.0;
       addressed = keeps.1;
+      asks = asks_collected (w.nodes i) (w.nodes i).activity refl (k.asks i);
       acts = λ q. acts_collected _ i (w.nodes i) (w.nodes i).activity q;
       frame = frame_collected (w.nodes i) (w.nodes i).activity;
       cached = cached_collected (w.nodes i) (w.nodes i).activity (k.cached i);
@@ -156,6 +164,7 @@ message_on w drafts later arrays us left i e m inbox parcels few k to from_few f
       few = few;
       fits = keeps.0;
       addressed = keeps.1;
+      asks = asks_deed i (drafts i) n (Hears m.sender m.kind) _ d tt local_n (k.asks i);
       acts = λ q. subst (λ a. Acts (Known tables) q i (flying q (record { sender = m.sender; addressee = a; kind = m.kind })) None n (node_handles m.sender m.kind n).node (node_handles m.sender m.kind n).posts) (sym to)
           (acts_deed tables i (drafts i) n (Hears m.sender m.kind) _ d (mail_i, passes w drafts arrays us i m inbox parcels _ k to parts.0 took) local_n q);
       frame = deed_frame n (Hears m.sender m.kind) _ d;
@@ -204,6 +213,7 @@ gathered_on w drafts later arrays us left i e inbox parcels few k same flies kee
       few = few;
       fits = keeps.0;
       addressed = keeps.1;
+      asks = k.asks i;
       acts = λ q. nothing refl refl refl refl refl refl;
       frame = record { me = refl; nodes = refl; capacity = refl; inbox = refl; outbox = refl; parcels = refl };
       cached = k.cached i;

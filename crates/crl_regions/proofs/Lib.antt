@@ -2,6 +2,7 @@ mod Acts
 mod Addressed
 mod Addressees
 mod AllNodesHold
+mod Asking
 mod Calls
 mod Carried
 mod Ends

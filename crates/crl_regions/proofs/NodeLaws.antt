@@ -35,6 +35,7 @@ use Rattle.crl_regions.specs.Tests.{MeetsTest, PieceFits}
 use Rattle.crl_regions.specs.View.{side, table_of, tables_of, table_or_blank, view}
 use Rattle.crl_regions.proofs.Acts.{expected}
 use Rattle.crl_regions.proofs.Addressed.{PlainSent}
+use Rattle.crl_regions.proofs.Asking.{AsksFor, asks_at}
 use Rattle.crl_regions.proofs.AllNodesHold.{AllNodesHold, table_at, passes}
 use Rattle.crl_regions.proofs.Carried.{of_node, node_here}
 use Rattle.crl_regions.proofs.Events.{key_passes, box_took}
@@ -104,6 +105,37 @@ home_waits count capacity run r q array messages queued =
     let w = world_of count capacity run in
     let k = (nodes_hold count capacity run r).whole in
     queued_waits q.home (table_of q w) q (w.nodes q.home).activity (subst (λ me. QueueFits me q (table_of q w) (w.nodes q.home).activity) (k.fits q.home).me ((k.fits q.home).each q).queue) queued
+
+-- And one that waits has asked.
+some_of : (o : Option Bool) → o ≢ None → (write : Bool) × (o ≡ Some write)
+some_of None n = absurd (n refl)
+some_of (Some write) n = (write, refl)
+
+asks_there : (me size : ℕ) (o : Option Home) (r : Option Remote) → o ≡ None → AsksFor me o r → (write : Bool) × ((side size r).asking ≡ Some write)
+asks_there me size None (Some r) e a = some_of r.asking a
+asks_there me size None None e a = absurd a
+asks_there me size (Some h) r e a = cc
+
+pub waits_elsewhere : (count capacity : ℕ) (run : List Event) → IsRunFrom (new_world count capacity) run → (i : ℕ) (q : Name) (array : List ℕ) (messages : List Message) → i ≢ q.home → ((world_of count capacity run).nodes i).activity ≡ Waiting (ForSection q)
+    → (write : Bool) × (((view q array messages (world_of count capacity run)).remotes i).asking ≡ Some write)
+waits_elsewhere count capacity run r i q array messages other waits =
+    let w = world_of count capacity run in
+    let k = (nodes_hold count capacity run r).whole in
+    let none : home_of (w.nodes i) q ≡ None = cond-false (is_mine (w.nodes i) q) _ _ (ne_eqb q.home (w.nodes i).me (λ x. other (sym (k.fits i).me ∙ sym x))) in
+    asks_there (w.nodes i).me (table_or_blank (table_of q w)).size (home_of (w.nodes i) q) ((w.nodes i).remotes q) none (asks_at (w.nodes i) (w.nodes i).activity q waits (k.asks i))
+
+asks_own : (me : ℕ) (o : Option Home) (r : Option Remote) → ((x : Remote) → r ≡ Some x → (h : Home) × (o ≡ Some h)) → AsksFor me o r → is_queued me (table_or_blank o).queue ≡ true
+asks_own me (Some h) r f a = a
+asks_own me None None f a = absurd a
+asks_own me None (Some x) f a = absurd (let t = (f x refl).1 in cc)
+
+pub waits_at_home : (count capacity : ℕ) (run : List Event) → IsRunFrom (new_world count capacity) run → (q : Name) (array : List ℕ) (messages : List Message) → ((world_of count capacity run).nodes q.home).activity ≡ Waiting (ForSection q)
+    → is_queued q.home (view q array messages (world_of count capacity run)).home.queue ≡ true
+waits_at_home count capacity run r q array messages waits =
+    let w = world_of count capacity run in
+    let k = (nodes_hold count capacity run r).whole in
+    subst (λ me. is_queued me (table_or_blank (table_of q w)).queue ≡ true) (k.fits q.home).me
+    (asks_own (w.nodes q.home).me (table_of q w) ((w.nodes q.home).remotes q) (λ x f. let s = k.sizes q.home q x f in (s.0, s.1)) (asks_at (w.nodes q.home) (w.nodes q.home).activity q waits (k.asks q.home)))
 
 -- A message that is under way meets the test of its handler.
 grant_there : (granted : Granted) (size : ℕ) (o : Option Remote) → grant_fits granted (side size o) ≡ true → (r : Remote) × (o ≡ Some r) × (grant_fits granted r ≡ true)

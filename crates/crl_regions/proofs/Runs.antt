@@ -30,6 +30,7 @@ use Rattle.crl_regions.specs.View.{UnderWay, flying, sight, table_of, tables_of,
 use Rattle.crl_deeds.proofs.Turning.{Held, HeldOut, all_took, turn_of, turn_count, held_turn}
 use Rattle.crl_regions.proofs.Acts.{expected, CountFits}
 use Rattle.crl_regions.proofs.Addressed.{AddressesAt, PlainSent, Addressed, addressed_local, addressed_start}
+use Rattle.crl_regions.proofs.Asking.{WaitsAsking}
 use Rattle.crl_regions.proofs.MappedOrCached.{IsMappedOrCached}
 use Rattle.crl_regions.proofs.Moves.{took_out}
 use Rattle.crl_regions.proofs.Lift.{run_of}
@@ -48,6 +49,7 @@ carry_on w drafts later arrays us i place e t few out k keeps = record {
     counts = arrived_all i e t w (λ j n. (q : Name) → CountFits (section_at q n.sections)) k.counts (λ h. h) (λ n h. h);
     cached = arrived_all i e t w (λ j n. IsMappedOrCached n) k.cached (λ h. h) (λ n h. h);
     addressed = keeps.1;
+    asks = arrived_all i e t w (λ j n. WaitsAsking n) k.asks (λ h. h) (λ n h. h);
     sizes = arrived_all i e t w (λ j n. (q : Name) (r : Remote) → n.remotes q ≡ Some r → HasSize r.size (table_of q v))
         (λ j q r f. let s = k.sizes j q r f in (s.0, table_carried q i e t w q.home ∙ s.1, s.2)) (λ h. h) (λ n h. h);
     mail = all_grown (tables_of w) (tables_of v) (messages_of us) (λ q h there. (h, table_carried q i e t w q.home ∙ there, refl)) k.mail;
@@ -138,6 +140,7 @@ whole_start count capacity = record {
   counts = λ i q. tt;
   cached = λ i. record { cached = λ q size c. absurd c; held = λ q r e m. absurd (cc); others = λ q size c. absurd c; once = tt };
   addressed = addressed_start count capacity;
+  asks = λ i. tt;
   sizes = λ i q r e. absurd (cc);
   mail = tt;
   flies = record { boxed = subst (λ (l : List Piece). Moves [] l) (sym (nothing_boxed 0 count count capacity)) still; each = tt; came = λ i key. refl };
@@ -190,6 +193,7 @@ with_regions w us arrays before k h = let x = k.whole in record {
   counts = x.counts;
   cached = x.cached;
   addressed = x.addressed;
+  asks = x.asks;
   sizes = x.sizes;
   mail = h.mail;
   flies = h.under_way;

@@ -37,6 +37,7 @@ use Rattle.crl_regions.proofs.MappedOrCached.{IsMappedOrCached}
 use Rattle.crl_regions.proofs.Addressed.{Addressed, NodesExistIf}
 use Rattle.crl_regions.specs.MailFits.{Tables, HasTable, HasSize, ToldFits, KindFits, MailFits, AllMailFits}
 use Rattle.crl_deeds.proofs.Turning.{Frame}
+use Rattle.crl_regions.proofs.Asking.{WaitsAsking}
 use Rattle.crl_regions.proofs.Mails.{Sends}
 use Rattle.crl_regions.proofs.Carried.{of_node, node_here, node_there}
 use Rattle.crl_regions.proofs.Lift.{Lifted, Outcomes, lift, run_of}
@@ -125,6 +126,7 @@ pub record StepFits (w : World) (after : ℕ → Name → List ℕ) (i : ℕ) (e
   pub frame : Frame (record (w.nodes i) { inbox = inbox; parcels = parcels }) o.node
   pub cached : IsMappedOrCached o.node
   pub addressed : Addressed (steps_node i e o w).world
+  pub asks : WaitsAsking o.node
   pub left_mail : AllMailFits (tables_of w) (messages_of left)
   pub flies : IsFlight left (boxes_from 0 w.count (at_node w.nodes i (record (w.nodes i) { inbox = inbox; parcels = parcels }))) (λ j. (at_node w.nodes i (record (w.nodes i) { inbox = inbox; parcels = parcels }) j).parcels)
   pub comes : (q : Name) → Comes (came q) (find_all (flying q) (messages_of us)) (find_all (flying q) (messages_of left))
@@ -146,6 +148,7 @@ whole_stepped w drafts later arrays i e inbox parcels us left o came written k x
     counts = of_node w.nodes i m (λ j n. (q : Name) → CountFits (section_at q n.sections)) (λ q. counts_now q (x.acts q)) (λ j other. k.counts j);
     cached = of_node w.nodes i m (λ j n. IsMappedOrCached n) x.cached (λ j other. k.cached j);
     addressed = x.addressed;
+    asks = of_node w.nodes i m (λ j n. WaitsAsking n) x.asks (λ j other. k.asks j);
     sizes = of_node w.nodes i m (λ j n. (q : Name) (r : Remote) → n.remotes q ≡ Some r → (h : Home) × (table_of q v ≡ Some h) × (h.size ≡ r.size)) (λ q r f. known q r.size (sizes_now q (x.acts q) r f))
         (λ j other q r f. known q r.size (k.sizes j q r f));
     mail = subst (λ ms. AllMailFits after ms) (sym (messages_posted left o.posts)) (all_append (MailFits after) (messages_of left) o.posts (all_grown before after (messages_of left) grows x.left_mail) (x.mail after sends));

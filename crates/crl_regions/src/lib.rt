@@ -2,7 +2,7 @@
 //! each region is coherent. There is no code here but empty functions, whose contracts are the theorems.
 #![tactic(auto)]
 
-ghost use Rattle.std.specs.Prelude.{◌≡◌, ◌≢◌, ℕ, ◌<◌, List, [], true};
+ghost use Rattle.std.specs.Prelude.{◌≡◌, ◌≢◌, ℕ, ◌<◌, Bool, List, [], true};
 ghost use Rattle.std.specs.declared.option.Option.TheVariants.{None, Some};
 ghost use Rattle.std.specs.List.{AllByRecursion};
 ghost use Rattle.crl_model.specs.declared.name.Name.{Name};
@@ -58,6 +58,12 @@ pub fn sizes_are_known()
 pub fn who_asks_waits()
     ensures other { (count capacity : ℕ) (run : List Event) → IsRunFrom (new_world count capacity) run → (i : ℕ) (name : Name) (array : List ℕ) (messages : List Message) → ((view name array messages (world_of count capacity run)).remotes i).asking ≢ None → ((world_of count capacity run).nodes i).activity ≡ Waiting (ForSection name) }
     ensures home { (count capacity : ℕ) (run : List Event) → IsRunFrom (new_world count capacity) run → (name : Name) (array : List ℕ) (messages : List Message) → is_queued name.home (view name array messages (world_of count capacity run)).home.queue ≡ true → ((world_of count capacity run).nodes name.home).activity ≡ Waiting (ForSection name) }
+{}
+
+/// And a node that waits for a section has asked for it. Of its asks `asks_stand_once` says that there is one, and where.
+pub fn who_waits_has_asked()
+    ensures other { (count capacity : ℕ) (run : List Event) → IsRunFrom (new_world count capacity) run → (i : ℕ) (name : Name) (array : List ℕ) (messages : List Message) → i ≢ name.home → ((world_of count capacity run).nodes i).activity ≡ Waiting (ForSection name) → (write : Bool) × (((view name array messages (world_of count capacity run)).remotes i).asking ≡ Some write) }
+    ensures home { (count capacity : ℕ) (run : List Event) → IsRunFrom (new_world count capacity) run → (name : Name) (array : List ℕ) (messages : List Message) → ((world_of count capacity run).nodes name.home).activity ≡ Waiting (ForSection name) → is_queued name.home (view name array messages (world_of count capacity run)).home.queue ≡ true }
 {}
 
 /// Each message about copies that is under way meets the test of its handler, and each piece of one that stands in an
