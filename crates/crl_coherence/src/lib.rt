@@ -19,7 +19,7 @@ ghost use Rattle.crl_protocol.specs.Sections.{is_writing};
 ghost use Rattle.crl_protocol.specs.Handlers.{is_queued};
 ghost use Rattle.crl_coherence.specs.Region.{Flying, Region, Happens, Run, flies, MayStart, IsIdle};
 ghost use Rattle.crl_coherence.specs.Pairs.{pair_of, Places};
-ghost use Rattle.crl_coherence.specs.Coherent.{IsCoherent, HeadWaits, created, section_at, MayOpen};
+ghost use Rattle.crl_coherence.specs.Coherent.{IsCoherent, HeadWaits, created, section_at, bytes_at_node, MayOpen};
 
 /// A region is coherent when it is created, and stays so whatever happens to it.
 pub fn stays_coherent()
@@ -47,6 +47,11 @@ pub fn sections_show_the_array()
     ensures at_home { (me : ℕ) (g : Region) (write : Bool) → IsCoherent me g → MayStart write g.home.mine → IsIdle me g.home.queue → (home_starts me write g.home).opened ≡ true → (home_starts me write g.home).home.bytes ≡ g.array }
     ensures by_return { (me : ℕ) (g : Region) (n version : ℕ) (bytes : Option (List ℕ)) (rest : List Flying) → IsCoherent me g → n ≢ me → Took (flies n (Return version bytes)) g.flight rest → (home_takes_return me n bytes g.home).opened ≡ true → (home_takes_return me n bytes g.home).home.bytes ≡ g.array }
     ensures by_release { (me : ℕ) (g : Region) (n version : ℕ) (bytes : List ℕ) (rest : List Flying) → IsCoherent me g → n ≢ me → Took (flies n (Release version bytes)) g.flight rest → (home_takes_release me n version bytes g.home).opened ≡ true → (home_takes_release me n version bytes g.home).home.bytes ≡ g.array }
+{}
+
+/// While a section is open, what its node has of the region is the array's bytes.
+pub fn open_sections_have_the_array()
+    ensures { (me : ℕ) (g : Region) (n : ℕ) → IsCoherent me g → section_at me g n ≢ Closed → bytes_at_node me g n ≡ g.array }
 {}
 
 /// While a section is open the array changes only where this section, a write section, ends.

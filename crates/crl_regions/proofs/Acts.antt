@@ -15,7 +15,7 @@ use Rattle.crl_protocol.specs.Node.{Node, Outcome, at_serial, is_mine, home_of, 
 use Rattle.crl_deeds.proofs.Fitting.{name_self, SizeIs}
 use Rattle.crl_deeds.proofs.Tabling.{home_put}
 use Rattle.crl_coherence.specs.Region.{Flying, Region, Happens, sent, sent_by, at_home, at_remote}
-use Rattle.crl_coherence.proofs.Lists.{picked_none, picked_some, more_none}
+use Rattle.crl_coherence.proofs.Laws.{picked_none, picked_some, more_none}
 use Rattle.crl_regions.specs.View.{if_about, mail_in, other_end, flown, flying, side}
 
 -- a message that comes is taken out of those under way, and without one they stay

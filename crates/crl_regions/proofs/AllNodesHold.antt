@@ -23,10 +23,10 @@ use Rattle.crl_flight.specs.Flight.{Under, IsFlight, messages_of}
 use Rattle.crl_coherence.specs.Region.{Flying, Region, flies}
 use Rattle.crl_coherence.specs.Pairs.{Given, AskPlace, SectionFits, pair_of, of_node, asked_in}
 use Rattle.crl_coherence.specs.Coherent.{IsCoherent}
-use Rattle.crl_coherence.proofs.Lists.{took_some, took_nothing}
-use Rattle.crl_coherence.proofs.Fits.{fits_grant, fits_return, fits_release, fits_ask, queued_none}
-use Rattle.crl_coherence.proofs.Opens.{grant_opens, asked_quiet}
-use Rattle.crl_coherence.proofs.Keeps.{return_opens, release_opens}
+use Rattle.crl_coherence.proofs.Laws.{took_some, took_nothing}
+use Rattle.crl_coherence.proofs.Laws.{fits_grant, fits_return, fits_release, fits_ask, queued_none}
+use Rattle.crl_coherence.proofs.Laws.{grant_opens, asked_quiet}
+use Rattle.crl_coherence.proofs.Laws.{return_opens, release_opens}
 use Rattle.crl_regions.specs.MailFits.{HasSize, KindFits, MailFits, AllMailFits}
 use Rattle.crl_regions.specs.View.{UnderWay, mail_in, flown, flying, side, sight, table_of, tables_of}
 use Rattle.crl_regions.proofs.Acts.{expected, CountFits, about_here, home_is}

@@ -26,14 +26,14 @@ use Rattle.crl_pieces.specs.Pieces.{is_missing, is_complete, joined}
 use Rattle.crl_protocol.specs.Parcels.{Piece, PartsGathered, Key, key_eq, key_in, key_of, load_of, with_load, slots_or, at_key, fits_size}
 use Rattle.crl_protocol.specs.Receiving.{size_for, slots_with, gathers_piece, receives_part, receives_as, receives}
 use Rattle.crl_flight.specs.Flight.{Under, posted, IsFlight, messages_of}
-use Rattle.crl_flight.proofs.Flying.{flight_as}
+use Rattle.crl_flight.proofs.Laws.{flight_as}
 use Rattle.crl_flight.specs.Coming.{put_at, IsNext, PieceComes, plain, last, gathers}
-use Rattle.crl_flight.proofs.Coming.{comes}
+use Rattle.crl_flight.proofs.Laws.{comes}
 use Rattle.crl_regions.proofs.Single.{took_message, alone_in, size_known}
 use Rattle.crl_flight.specs.Flight.{still}
 use Rattle.crl_coherence.specs.Region.{Flying, elsewhere}
 use Rattle.crl_coherence.specs.Coherent.{created}
-use Rattle.crl_coherence.proofs.Lists.{took_some, took_none}
+use Rattle.crl_coherence.proofs.Laws.{took_some, took_none}
 use Rattle.crl_deeds.specs.Deeds.{Calls, Hears, Deed}
 use Rattle.crl_deeds.proofs.Deeding.{call_deed}
 use Rattle.crl_deeds.proofs.Hearing.{message_deed}

@@ -14,7 +14,9 @@ mod Messages
 mod Moves
 mod NodeLaws
 mod NodesExist
+mod Noted
 mod Opened
+mod Records
 mod RegionDeeds
 mod Runs
 mod Sections

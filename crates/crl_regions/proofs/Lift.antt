@@ -11,7 +11,7 @@ use Rattle.crl_protocol.specs.Node.{Node, home_of}
 use Rattle.crl_deeds.proofs.Fitting.{SizeIs}
 use Rattle.crl_deeds.proofs.Growing.{append_nil}
 use Rattle.crl_coherence.specs.Region.{Flying, Region, Happens, elsewhere, Run, next}
-use Rattle.crl_coherence.proofs.Lists.{same_or}
+use Rattle.crl_coherence.proofs.Laws.{same_or}
 use Rattle.crl_regions.specs.View.{flying, side, sight}
 use Rattle.crl_regions.specs.Steps.{IsCarried, GoesOn}
 use Rattle.crl_flight.specs.Flight.{Moves}

@@ -7,7 +7,7 @@ use Rattle.crl_protocol.specs.World.{boxes_from}
 use Rattle.crl_deeds.proofs.Growing.{append_nil}
 use Rattle.crl_flight.specs.Flight.{Moves, still, moved}
 use Rattle.crl_coherence.specs.Region.{Flying, Region, carry, Run, done, next}
-use Rattle.crl_coherence.proofs.Lists.{took_some, took_none}
+use Rattle.crl_coherence.proofs.Laws.{took_some, took_none}
 
 pub moves_then : {A : Type 0} {xs ys zs : List A} → Moves xs ys → Moves ys zs → Moves xs zs
 moves_then still n = n

@@ -27,13 +27,13 @@ use Rattle.crl_deeds.proofs.Turning.{HeldIn, all_took}
 use Rattle.crl_deeds.proofs.Outcomes.{queue_of, asking_of}
 use Rattle.crl_flight.specs.Flight.{Under, messages_of}
 use Rattle.crl_flight.specs.Coming.{PieceComes, plain, last, gathers, IsNext}
-use Rattle.crl_flight.proofs.Coming.{comes}
+use Rattle.crl_flight.proofs.Laws.{comes}
 use Rattle.crl_coherence.specs.Coherent.{section_at}
 use Rattle.crl_regions.specs.MailFits.{HasSize, KindFits, MailFits}
 use Rattle.crl_regions.specs.Steps.{RegionsHold}
 use Rattle.crl_regions.specs.Tests.{MeetsTest, PieceFits}
 use Rattle.crl_regions.specs.View.{side, table_of, tables_of, table_or_blank, view}
-use Rattle.crl_regions.proofs.Acts.{expected}
+use Rattle.crl_regions.proofs.Noted.{section_noted}
 use Rattle.crl_regions.proofs.Addressed.{PlainSent}
 use Rattle.crl_regions.proofs.Asking.{AsksFor, asks_at}
 use Rattle.crl_regions.proofs.AllNodesHold.{AllNodesHold, table_at, passes}
@@ -45,31 +45,6 @@ use Rattle.crl_regions.proofs.Single.{took_message, alone_in, size_known}
 use Rattle.crl_regions.proofs.Runs.{NodesHold, nodes_hold, count_in_run, with_regions}
 
 -- The sections that a node notes are those of the region.
-own_section : (o : Option Home) (r : Option Remote) → ((x : Remote) → r ≡ Some x → (h : Home) × (o ≡ Some h)) → expected o r ≡ (table_or_blank o).mine
-own_section (Some h) r f = refl
-own_section None None f = refl
-own_section None (Some x) f = absurd (let t = (f x refl).1 in cc)
-
-side_section : (size : ℕ) (r : Option Remote) → expected None r ≡ (side size r).here
-side_section size None = refl
-side_section size (Some r) = refl
-
-section_noted : (w : World) (drafts : ℕ → Name → List ℕ) (arrays : Name → List ℕ) (us : List Under) (array : List ℕ) (messages : List Message) (i : ℕ) (q : Name) → AllNodesHold w drafts arrays us
-    → section_at q.home (view q array messages w) i ≡ sections.section_at q (w.nodes i).sections
-section_noted w drafts arrays us array messages i q k = go (i == q.home) refl
-  where
-    g : Home
-    g = table_or_blank (table_of q w)
-
-    go : (b : Bool) → (i == q.home) ≡ b → (if b then g.mine else (side g.size ((w.nodes i).remotes q)).here) ≡ sections.section_at q (w.nodes i).sections
-    go true e =
-        let at_i : i ≡ q.home = eqb-true i q.home e in
-        subst (λ j. g.mine ≡ sections.section_at q (w.nodes j).sections) (sym at_i)
-        (sym (own_section (table_of q w) ((w.nodes q.home).remotes q) (λ x f. let s = k.sizes q.home q x f in (s.0, s.1))) ∙ k.agrees q.home q)
-    go false e =
-        let none : home_of (w.nodes i) q ≡ None = cond-false (is_mine (w.nodes i) q) _ _ (ne_eqb q.home (w.nodes i).me (λ x. eqb-false i q.home e (sym (k.fits i).me ∙ sym x))) in
-        sym (side_section g.size ((w.nodes i).remotes q)) ∙ sym (ap (λ o. expected o ((w.nodes i).remotes q)) none) ∙ k.agrees i q
-
 pub sections_are_tables : (count capacity : ℕ) (run : List Event) → IsRunFrom (new_world count capacity) run → (i : ℕ) (q : Name) (array : List ℕ) (messages : List Message)
     → section_at q.home (view q array messages (world_of count capacity run)) i ≡ sections.section_at q ((world_of count capacity run).nodes i).sections
 sections_are_tables count capacity run r i q array messages = section_noted _ _ _ _ array messages i q (nodes_hold count capacity run r).whole

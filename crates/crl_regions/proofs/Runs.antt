@@ -9,7 +9,7 @@ use Rattle.crl_model.specs.declared.event.Event.TheVariants as event
 use Rattle.crl_model.specs.declared.message.Message.{Message}
 use Rattle.crl_protocol.specs.Parcels.{Piece}
 use Rattle.crl_flight.specs.Flight.{Moves, still, Under, IsFlight, messages_of}
-use Rattle.crl_flight.proofs.Flying.{flight_as, carried_fly}
+use Rattle.crl_flight.proofs.Laws.{flight_as, carried_fly}
 use Rattle.crl_protocol.specs.Places.{at, find_all, Taken, take_out}
 use Rattle.crl_protocol.specs.Home.{Home}
 use Rattle.crl_protocol.specs.Remote.{Remote}
@@ -23,7 +23,7 @@ use Rattle.crl_deeds.proofs.Placing.{all_append}
 use Rattle.crl_deeds.proofs.Sound.{Sound, sound_start, sound_event}
 use Rattle.crl_coherence.specs.Region.{Run}
 use Rattle.crl_coherence.specs.Coherent.{IsCoherent}
-use Rattle.crl_coherence.proofs.Events.{runs_kept}
+use Rattle.crl_coherence.proofs.Laws.{runs_kept}
 use Rattle.crl_regions.specs.MailFits.{HasSize, AllMailFits}
 use Rattle.crl_regions.specs.Steps.{RegionsHold, GoesOn, RegionsGoOn, RegionsStep}
 use Rattle.crl_regions.specs.View.{UnderWay, flying, sight, table_of, tables_of, table_or_blank, view, array_after, array_from, array_of}
@@ -37,6 +37,8 @@ use Rattle.crl_regions.proofs.Lift.{run_of}
 use Rattle.crl_regions.proofs.Carried.{table_carried, boxes_move, carried_run, arrived_all}
 use Rattle.crl_regions.proofs.AllNodesHold.{AllNodesHold}
 use Rattle.crl_regions.proofs.Steps.{all_grown}
+use Rattle.crl_regions.proofs.Records.{Shows, records_show, records_turn}
+use Rattle.crl_regions.proofs.Sections.{no_table as no_home}
 use Rattle.crl_regions.proofs.Events.{StepKeeps, GoneOn, nothing_on, is_freed, call_on, collect_on, handle_on}
 
 carry_on : (w : World) (drafts later : ℕ → Name → List ℕ) (arrays : Name → List ℕ) (us : List Under) (i place : ℕ) (e : Event) (t : Taken Piece) → i < w.count → take_out place (w.nodes i).outbox ≡ Some t → AllNodesHold w drafts arrays us
@@ -147,33 +149,15 @@ whole_start count capacity = record {
   coherent = λ q h e. absurd (let none = nothing_there count capacity q.home q in cc);
 }
 
--- A run, with what is under way in it.
-pub record NodesHold (w : World) (arrays : Name → List ℕ) : Type 0 where
-  pub drafts : ℕ → Name → List ℕ
-  pub under : List Under
-  pub whole : AllNodesHold w drafts arrays under
-
-run_on : (w : World) (arrays : Name → List ℕ) (es : List Event) → IsRunFrom w es → NodesHold w arrays → NodesHold (world_after w es) (λ q. array_from q w es (arrays q))
-run_on w arrays [] h k = k
-run_on w arrays (e ∷ es) h k =
-    let g = event_on w k.drafts arrays k.under e h.0 k.whole in run_on (step e w).world (λ q. array_after q e w (arrays q)) es h.1 (record { drafts = g.0; under = g.1.under; whole = g.1.whole })
-
-pub nodes_hold : (count capacity : ℕ) (run : List Event) → IsRunFrom (new_world count capacity) run → NodesHold (world_of count capacity run) (λ q. array_of q count capacity run)
-nodes_hold count capacity run r = run_on (new_world count capacity) (λ q. []) run r (record { drafts = λ i q. []; under = []; whole = whole_start count capacity })
-
-count_stays : (es : List Event) (w : World) → IsRunFrom w es → (world_after w es).count ≡ w.count
-count_stays [] w r = refl
-count_stays (e ∷ es) w r = count_stays es (step e w).world r.1 ∙ turn_count w _ (turn_of w e r.0)
-
-pub count_in_run : (count capacity : ℕ) (run : List Event) → IsRunFrom (new_world count capacity) run → (world_of count capacity run).count ≡ count
-count_in_run count capacity run r = count_stays run (new_world count capacity) r
-
 -- In words of views.
 as_view : (q : Name) (h : Home) (array : List ℕ) (messages : List Message) (w : World) → table_of q w ≡ Some h → sight q h w.nodes messages array ≡ view q array messages w
 as_view q h array messages w there = ap (λ o. sight q (table_or_blank o) w.nodes messages array) (sym there)
 
-holds : (w : World) (drafts : ℕ → Name → List ℕ) (arrays : Name → List ℕ) (us : List Under) → AllNodesHold w drafts arrays us → RegionsHold w us arrays
-holds w drafts arrays us k = record { under_way = k.flies; mail = k.mail; coherent = λ q h there. subst (λ g. IsCoherent q.home g) (as_view q h (arrays q) (messages_of us) w there) (k.coherent q h there) }
+in_views : (w : World) (drafts : ℕ → Name → List ℕ) (arrays : Name → List ℕ) (us : List Under) → AllNodesHold w drafts arrays us → (q : Name) (h : Home) → table_of q w ≡ Some h → IsCoherent q.home (view q (arrays q) (messages_of us) w)
+in_views w drafts arrays us k q h there = subst (λ g. IsCoherent q.home g) (as_view q h (arrays q) (messages_of us) w there) (k.coherent q h there)
+
+holds : (w : World) (drafts : ℕ → Name → List ℕ) (arrays : Name → List ℕ) (us : List Under) → AllNodesHold w drafts arrays us → Shows w arrays → RegionsHold w us arrays
+holds w drafts arrays us k shown = record { under_way = k.flies; mail = k.mail; coherent = in_views w drafts arrays us k; records = shown }
 
 go_on : (w v : World) (us : List Under) (later : ℕ → Name → List ℕ) (arrays left : Name → List ℕ) (g : GoneOn w v us later arrays left) → RegionsGoOn w v us g.under arrays left
 go_on w v us later arrays left g = record {
@@ -184,6 +168,37 @@ go_on w v us later arrays left g = record {
       (subst (λ y. GoesOn q.home (sight q h w.nodes (messages_of us) (arrays q)) y) (as_view q x.0 (left q) (messages_of g.under) v x.1) x.3);
   made = λ q h none there. let x = g.made q h none there in (x.0, x.1 ∙ as_view q h (left q) (messages_of g.under) v there);
 }
+
+-- A step keeps what the records show.
+no_tables : (w : World) (drafts : ℕ → Name → List ℕ) (arrays : Name → List ℕ) (us : List Under) → AllNodesHold w drafts arrays us → (i : ℕ) (q : Name) (r : Remote) → (w.nodes i).remotes q ≡ Some r → home_of (w.nodes i) q ≡ None
+no_tables w drafts arrays us k i q r e = no_home i (drafts i) (w.nodes i) q r e (k.fits i)
+
+shown_on : (w : World) (drafts later : ℕ → Name → List ℕ) (arrays left : Name → List ℕ) (us : List Under) (e : Event) → is_enabled e w ≡ true → AllNodesHold w drafts arrays us → (g : GoneOn w (step e w).world us later arrays left) → Shows w arrays → Shows (step e w).world left
+shown_on w drafts later arrays left us e may k g shown =
+    records_show w (step e w).world drafts later arrays left us g.under k g.whole (in_views w drafts arrays us k) (in_views (step e w).world later left g.under g.whole) (go_on w (step e w).world us later arrays left g)
+    (records_turn w (step e w) (turn_of w e may) (no_tables w drafts arrays us k)) shown
+
+-- A run, with what is under way in it.
+pub record NodesHold (w : World) (arrays : Name → List ℕ) : Type 0 where
+  pub drafts : ℕ → Name → List ℕ
+  pub under : List Under
+  pub whole : AllNodesHold w drafts arrays under
+  pub shown : Shows w arrays
+
+run_on : (w : World) (arrays : Name → List ℕ) (es : List Event) → IsRunFrom w es → NodesHold w arrays → NodesHold (world_after w es) (λ q. array_from q w es (arrays q))
+run_on w arrays [] h k = k
+run_on w arrays (e ∷ es) h k =
+    let g = event_on w k.drafts arrays k.under e h.0 k.whole in run_on (step e w).world (λ q. array_after q e w (arrays q)) es h.1 (record { drafts = g.0; under = g.1.under; whole = g.1.whole; shown = shown_on w k.drafts g.0 arrays _ k.under e h.0 k.whole g.1 k.shown })
+
+pub nodes_hold : (count capacity : ℕ) (run : List Event) → IsRunFrom (new_world count capacity) run → NodesHold (world_of count capacity run) (λ q. array_of q count capacity run)
+nodes_hold count capacity run r = run_on (new_world count capacity) (λ q. []) run r (record { drafts = λ i q. []; under = []; whole = whole_start count capacity; shown = λ i q r e. absurd (cc) })
+
+count_stays : (es : List Event) (w : World) → IsRunFrom w es → (world_after w es).count ≡ w.count
+count_stays [] w r = refl
+count_stays (e ∷ es) w r = count_stays es (step e w).world r.1 ∙ turn_count w _ (turn_of w e r.0)
+
+pub count_in_run : (count capacity : ℕ) (run : List Event) → IsRunFrom (new_world count capacity) run → (world_of count capacity run).count ≡ count
+count_in_run count capacity run r = count_stays run (new_world count capacity) r
 
 -- whatever is under way and holds of all regions
 pub with_regions : (w : World) (us : List Under) (arrays before : Name → List ℕ) (k : NodesHold w before) → RegionsHold w us arrays → AllNodesHold w k.drafts arrays us
@@ -201,14 +216,15 @@ with_regions w us arrays before k h = let x = k.whole in record {
 }
 
 pub regions_start : (count capacity : ℕ) → RegionsHold (new_world count capacity) [] (λ q. [])
-regions_start count capacity = holds _ _ _ _ (whole_start count capacity)
+regions_start count capacity = holds _ _ _ _ (whole_start count capacity) (λ i q r e. absurd (cc))
 
 pub regions_step : (count capacity : ℕ) (run : List Event) (e : Event) → IsRunFrom (new_world count capacity) run → is_enabled e (world_of count capacity run) ≡ true → (us : List Under) (arrays : Name → List ℕ)
     → RegionsHold (world_of count capacity run) us arrays → RegionsStep (world_of count capacity run) (step e (world_of count capacity run)).world us arrays (λ q. array_after q e (world_of count capacity run) (arrays q))
 regions_step count capacity run e r may us arrays h =
     let w = world_of count capacity run in
     let k = nodes_hold count capacity run r in
-    let g = (event_on w k.drafts arrays us e may (with_regions w us arrays _ k h)).1 in record { under = g.under; hold = holds _ _ _ _ g.whole; go_on = go_on w (step e w).world us _ arrays _ g }
+    let a = with_regions w us arrays _ k h in
+    let g = (event_on w k.drafts arrays us e may a).1 in record { under = g.under; hold = holds _ _ _ _ g.whole (shown_on w k.drafts _ arrays _ us e may a g h.records); go_on = go_on w (step e w).world us _ arrays _ g }
 
 pub regions_in_runs : (count capacity : ℕ) (run : List Event) → IsRunFrom (new_world count capacity) run → (us : List Under) × RegionsHold (world_of count capacity run) us (λ q. array_of q count capacity run)
-regions_in_runs count capacity run r = let k = nodes_hold count capacity run r in (k.under, holds _ _ _ _ k.whole)
+regions_in_runs count capacity run r = let k = nodes_hold count capacity run r in (k.under, holds _ _ _ _ k.whole k.shown)

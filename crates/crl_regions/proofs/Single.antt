@@ -17,12 +17,12 @@ use Rattle.crl_protocol.specs.Home.{Home, is_listed, bytes_fit, return_fits}
 use Rattle.crl_protocol.specs.Remote.{Remote, grant_fits, asks_to_read, asks_to_write}
 use Rattle.crl_protocol.specs.Node.{Node, home_of}
 use Rattle.crl_flight.specs.Flight.{Under, is_key, is_at, messages_of}
-use Rattle.crl_flight.proofs.Loads.{key_same}
+use Rattle.crl_flight.proofs.Laws.{key_same}
 use Rattle.crl_flight.specs.Coming.{Alone}
 use Rattle.crl_coherence.specs.Region.{Flying, Region, flies}
 use Rattle.crl_coherence.specs.Pairs.{Freed, HomeAndNode, PairHolds, pair_of, of_node, granted_in, returned_in, released_in, HasVersion, Distinct}
 use Rattle.crl_coherence.specs.Coherent.{IsCoherent}
-use Rattle.crl_coherence.proofs.Lists.{NoTwo, took_some, took_all, took_nothing}
+use Rattle.crl_coherence.proofs.Laws.{NoTwo, took_some, took_all, took_nothing}
 use Rattle.crl_regions.specs.View.{mail_in, other_end, flown, flying, side, sight}
 use Rattle.crl_regions.proofs.Acts.{about_here}
 use Rattle.crl_regions.specs.MailFits.{Tables, HasTable, KindFits, MailFits, AllMailFits}

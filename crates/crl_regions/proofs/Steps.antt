@@ -22,12 +22,12 @@ use Rattle.crl_deeds.proofs.Growing.{append_nil}
 use Rattle.crl_deeds.proofs.Placing.{all_append}
 use Rattle.crl_protocol.specs.Parcels.{Piece, Key, PartsGathered, pieces_in}
 use Rattle.crl_flight.specs.Flight.{Under, posted, IsFlight, messages_of}
-use Rattle.crl_flight.proofs.Orders.{moves_then, moves_before}
-use Rattle.crl_flight.proofs.Flying.{posts_fly, messages_posted, flight_as}
+use Rattle.crl_flight.proofs.Laws.{moves_then, moves_before}
+use Rattle.crl_flight.proofs.Laws.{posts_fly, messages_posted, flight_as}
 use Rattle.crl_coherence.specs.Region.{Flying}
 use Rattle.crl_coherence.specs.Coherent.{IsCoherent, created}
-use Rattle.crl_coherence.proofs.Lists.{picks-append, same_or, took_nothing, picked_none}
-use Rattle.crl_coherence.proofs.Events.{runs_kept, created_kept}
+use Rattle.crl_coherence.proofs.Laws.{picks-append, same_or, took_nothing, picked_none}
+use Rattle.crl_coherence.proofs.Laws.{runs_kept, created_kept}
 use Rattle.crl_regions.specs.View.{UnderWay, if_about, mail_in, other_end, flown, flying, side, sight, table_of, tables_of}
 use Rattle.crl_flight.specs.Flight.{Moves, still, moved}
 use Rattle.crl_regions.proofs.Moves.{moves_past, boxes, flight_more}

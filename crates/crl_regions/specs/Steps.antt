@@ -3,6 +3,7 @@ use Rattle.std.specs.Prelude.{◌≡◌, ℕ, List}
 use Rattle.std.specs.declared.option.Option.TheVariants.{None, Some}
 use Rattle.crl_model.specs.declared.name.Name.{Name}
 use Rattle.crl_protocol.specs.Home.{Home}
+use Rattle.crl_protocol.specs.Sections.{OpenSection}
 use Rattle.crl_protocol.specs.World.{World}
 use Rattle.crl_flight.specs.Flight.{Moves, Under, messages_of}
 use Rattle.crl_coherence.specs.Region.{Region, Happens}
@@ -11,11 +12,12 @@ use Rattle.crl_regions.specs.MailFits.{HasSize, AllMailFits}
 use Rattle.crl_regions.specs.View.{UnderWay, table_of, tables_of, view}
 
 -- These messages are under way in the world, each fits its region, and each region that is there is coherent, with
--- these bytes in the array.
+-- these bytes in the array. Each open section that a node notes has those bytes too.
 pub record RegionsHold (w : World) (us : List Under) (arrays : Name → List ℕ) : Type 0 where
   pub under_way : UnderWay w us
   pub mail : AllMailFits (tables_of w) (messages_of us)
   pub coherent : (name : Name) (h : Home) → table_of name w ≡ Some h → IsCoherent name.home (view name (arrays name) (messages_of us) w)
+  pub records : (i : ℕ) (name : Name) (r : OpenSection) → (w.nodes i).sections.records name ≡ Some r → r.bytes ≡ arrays name
 
 -- the region's messages stand at other places, and nothing else of it differs
 pub record IsCarried (c k : Region) : Type 0 where

@@ -1,7 +1,7 @@
 use Rattle.std.proofs.Common.{subst}
 use Rattle.crl_protocol.specs.World.{world_of}
 use Rattle.crl_flight.specs.Flight.{IsFlight}
-use Rattle.crl_flight.proofs.Flying.{none_boxed}
+use Rattle.crl_flight.proofs.Laws.{none_boxed}
 use Rattle.crl_regions.proofs.nothing_is_under_way.Goals as goal
 
 pub returns : goal.returns
