@@ -1,3 +1,4 @@
+mod Accounts
 mod Acts
 mod Addressed
 mod Addressees

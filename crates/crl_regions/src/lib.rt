@@ -15,7 +15,8 @@ ghost use Rattle.crl_protocol.specs.Node.{Waiting, ForSection};
 ghost use Rattle.crl_protocol.specs.Sections.{section_at};
 ghost use Rattle.crl_protocol.specs.Handlers.{is_queued};
 ghost use Rattle.crl_coherence.specs.Coherent as region;
-ghost use Rattle.crl_protocol.specs.World.{pieces_in_boxes, is_enabled, step, new_world, world_of, IsRunFrom};
+ghost use Rattle.crl_protocol.specs.World.{pieces_in_boxes, is_enabled, step, new_world, world_of, account, IsRunFrom};
+ghost use Rattle.crl_machine.specs.SingleMachine.{start, after_all};
 ghost use Rattle.crl_flight.specs.Flight.{Under, messages_of};
 ghost use Rattle.crl_regions.specs.Addresses.{GoesToOther};
 ghost use Rattle.crl_regions.specs.MailFits.{HasSize};
@@ -41,6 +42,12 @@ pub fn regions_hold()
 /// Where no piece is in a box, nothing is under way.
 pub fn nothing_is_under_way()
     ensures { (count capacity : ℕ) (run : List Event) (us : List Under) → UnderWay (world_of count capacity run) us → pieces_in_boxes (world_of count capacity run) ≡ [] → us ≡ [] }
+{}
+
+/// The array of a run is the single machine's after the run's account: each event leaves in the array what its entries
+/// leave there.
+pub fn array_is_the_accounts()
+    ensures { (count capacity : ℕ) (run : List Event) (name : Name) → (after_all (start count) (account count capacity run)).bytes name ≡ array_of name count capacity run }
 {}
 
 /// The sections that a node notes are those that the region's tables say are open there.
