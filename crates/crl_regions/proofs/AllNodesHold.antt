@@ -27,7 +27,7 @@ use Rattle.crl_coherence.proofs.Laws.{took_some, took_nothing}
 use Rattle.crl_coherence.proofs.Laws.{fits_grant, fits_return, fits_release, fits_ask, queued_none}
 use Rattle.crl_coherence.proofs.Laws.{grant_opens, asked_quiet}
 use Rattle.crl_coherence.proofs.Laws.{return_opens, release_opens}
-use Rattle.crl_regions.specs.MailFits.{HasSize, KindFits, MailFits, AllMailFits}
+use Rattle.crl_regions.specs.MailFits.{HasSize, FitsTables, MailFits, AllMailFits}
 use Rattle.crl_regions.specs.View.{UnderWay, mail_in, flown, flying, side, sight, table_of, tables_of}
 use Rattle.crl_regions.proofs.Acts.{expected, CountFits, about_here, home_is}
 use Rattle.crl_regions.proofs.Sections.{Local}
@@ -156,7 +156,7 @@ passes w drafts arrays us i m inbox parcels rest k to fair took = go m.kind refl
     table name h g there e =
         let t = table_at w drafts arrays us i name g k e in ((k.fits i).me ∙ t.0, (let both : Some h ≡ Some g = sym there ∙ t.1 in cc))
 
-    go : (x : Kind) → m.kind ≡ x → KindFits (tables_of w) m.sender m.addressee x → Passes m.sender x n
+    go : (x : Kind) → m.kind ≡ x → FitsTables (tables_of w) m.sender m.addressee x → Passes m.sender x n
     go (kind.Ask name write have) e f =
         let h = f.2.0 in let there = f.2.1 in let other = eqb-false m.sender name.home f.1 in
         let t = to_home_took name m (Ask write have) (messages_of us) rest e f.1 took in (

@@ -39,7 +39,7 @@ use Rattle.crl_deeds.proofs.Deeding.{call_deed}
 use Rattle.crl_deeds.proofs.Hearing.{message_deed}
 use Rattle.crl_deeds.proofs.Turning.{Frame, deed_frame, HeldIn}
 use Rattle.crl_regions.specs.View.{UnderWay, flying, sight, table_of, tables_of, left_by, array_after}
-use Rattle.crl_regions.specs.MailFits.{Tables, KindFits, MailFits, AllMailFits}
+use Rattle.crl_regions.specs.MailFits.{Tables, FitsTables, MailFits, AllMailFits}
 use Rattle.crl_regions.specs.Steps.{GoesOn}
 use Rattle.crl_regions.proofs.Moves.{boxes, flight_took, flight_same, took_out, took_left}
 use Rattle.crl_regions.proofs.Acts.{Comes, Acts, nothing}
@@ -187,8 +187,8 @@ message_on w drafts later arrays us left i e m inbox parcels few k to from_few f
     parts : MailFits tables m × AllMailFits tables (messages_of left)
     parts = all_took (MailFits tables) took k.mail
 
-    mail_i : KindFits tables m.sender i m.kind
-    mail_i = subst (λ a. KindFits tables m.sender a m.kind) to parts.0
+    mail_i : FitsTables tables m.sender i m.kind
+    mail_i = subst (λ a. FitsTables tables m.sender a m.kind) to parts.0
 
     comes_of : (q : Name) (o : Option Flying) → flying q m ≡ o → Comes (flying q m) (find_all (flying q) (messages_of us)) (find_all (flying q) (messages_of left))
     comes_of q None x = subst (λ c. Comes c (find_all (flying q) (messages_of us)) (find_all (flying q) (messages_of left))) (sym x) (sym (took_none (flying q) took x))
@@ -250,7 +250,7 @@ pub key_passes : (w : World) (drafts : ℕ → Name → List ℕ) (arrays : Name
     → key_of u.message ≡ Some key → size_for key.load key.name (record (w.nodes i) { inbox = inbox; parcels = parcels }) ≡ Some (length (load_of u.message.kind))
 key_passes w drafts arrays us i u others key inbox parcels k to took of_u =
     let fits = (all_took (MailFits (tables_of w)) (took_message took) k.mail).0 in
-    size_known i (tables_of w) (record (w.nodes i) { inbox = inbox; parcels = parcels }) u.message.sender key u.message.kind of_u (subst (λ a. KindFits (tables_of w) u.message.sender a u.message.kind) to fits)
+    size_known i (tables_of w) (record (w.nodes i) { inbox = inbox; parcels = parcels }) u.message.sender key u.message.kind of_u (subst (λ a. FitsTables (tables_of w) u.message.sender a u.message.kind) to fits)
     (passes w drafts arrays us i u.message inbox parcels _ k to fits (took_message took)) (λ name h there at_i. subst (λ j. home_of (w.nodes j) name ≡ Some h) at_i there)
 
 pub handle_on : (w : World) (drafts later : ℕ → Name → List ℕ) (arrays : Name → List ℕ) (us : List Under) (i place : ℕ) (e : Event) (t : Taken Piece) → i < w.count → take_out place (w.nodes i).inbox ≡ Some t → AllNodesHold w drafts arrays us

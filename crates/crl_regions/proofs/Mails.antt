@@ -39,7 +39,7 @@ use Rattle.crl_regions.proofs.NodesExist.{OfHome, ToOther, NodesExist, NodesExis
 use Rattle.crl_regions.proofs.Acts.{home_is}
 use Rattle.crl_model.specs.declared.entry.What.{What}
 use Rattle.crl_deeds.specs.Deeds.{Cause, Calls, Hears, parting, EndsCall, a_read, a_write, Serves, ask_comes, copy_returns, copy_lowers, CallsBack, wholly, to_share, Copies, Lives, Rounds, Deed, copies, lives, rounds, Unfit, never, home_opens, home_waits, side_opens, side_waits, home_ends, side_ends, side_flushes, home_serves, home_serves_own, grant_comes, side_called, map_asks, map_told, map_refused, unmaps_doomed, unmaps_evicting, deletes_own, delete_asks, deletes_alone_for, deletes_for, delete_refused, dooms, drops, warns, ends_for, comes_away, comes_last, part_last, part_last_idle}
-use Rattle.crl_regions.specs.MailFits.{Tables, HasTable, ToldFits, KindFits, MailFits, AllMailFits}
+use Rattle.crl_regions.specs.MailFits.{Tables, HasTable, ToldFits, FitsTables, MailFits, AllMailFits}
 
 -- the node that sends, where the tables are those after its step
 pub record Sends (i count : ℕ) (n : Node) (tables : Tables) : Type 0 where
@@ -52,7 +52,7 @@ pub record Sends (i count : ℕ) (n : Node) (tables : Tables) : Type 0 where
 
 -- The mail of a home.
 letter_fair : (tables : Tables) (me to : ℕ) (name : Name) (m : Mail) → me ≡ name.home → HasTable (tables name) → OfHome m → (to == me) ≡ false
-    → KindFits tables me to (kind_about name m)
+    → FitsTables tables me to (kind_about name m)
 letter_fair tables me to name (Grant version takes_grant) e t o other = (e, ap (λ k. to == k) (sym e) ∙ other, t)
 letter_fair tables me to name (Recall version) e t o other = (e, ap (λ k. to == k) (sym e) ∙ other, t)
 letter_fair tables me to name (Yield version) e t o other = (e, ap (λ k. to == k) (sym e) ∙ other, t)
@@ -84,7 +84,7 @@ abbrev pub Posts : RemoteStep → Type 0
 Posts s = AllSide s.posts
 
 mail_fair : (tables : Tables) (me : ℕ) (name : Name) (m : Mail) → (me == name.home) ≡ false → HasTable (tables name) → OfSide m
-    → KindFits tables me name.home (kind_about name m)
+    → FitsTables tables me name.home (kind_about name m)
 mail_fair tables me name (Ask write have) e t o = (refl, e, t)
 mail_fair tables me name (Return version bytes) e t o = (refl, e, t)
 mail_fair tables me name (Release version bytes) e t o = (refl, e, t)

@@ -27,7 +27,7 @@ use Rattle.crl_protocol.specs.Sections.{section_at, section_begins, is_writing}
 use Rattle.crl_protocol.specs.Sectioning.{copy_bytes}
 use Rattle.crl_protocol.specs.Handlers.{becomes_ready, is_queued_in}
 use Rattle.crl_protocol.specs.Lifetimes.{new_mapping}
-use Rattle.crl_regions.specs.MailFits.{Tables, IsToHome, IsFromHome, KindFits}
+use Rattle.crl_regions.specs.MailFits.{Tables, IsToHome, IsFromHome, FitsTables}
 use Rattle.crl_deeds.specs.Deeds as deed
 use Rattle.crl_deeds.specs.Deeds.{Hears, opened_at, ask_comes, copy_returns, copy_lowers, CallsBack, wholly, to_share, Idles}
 use Rattle.crl_deeds.proofs.Fitting.{by_name, name_self, same_name, AskingFits, IsMapped, FreshFits, WaitFits, IsCached, CopyFits}
@@ -103,7 +103,7 @@ pub acts_absent : (K : Name → ℕ → Type 0) (i from : ℕ) (n : Node) (name 
 acts_absent K i from n name mail e here =
     by_name name (λ b q. Acts K q i (coming q from i b mail) None n n []) (absent refl here e e refl refl refl) (λ q other. nothing refl refl refl refl refl refl)
 
-pub serves_home : (tables : Tables) (K : Name → ℕ → Type 0) (i : ℕ) (d : Name → List ℕ) (from : ℕ) (k : Kind) (n : Node) (name : Name) (h : Home) (s : HomeStep) (opened : Bool) → deed.Serves n h from k name s → s.opened ≡ opened → home_of n name ≡ Some h → KindFits tables from i k → Passes from k n → Local i d n
+pub serves_home : (tables : Tables) (K : Name → ℕ → Type 0) (i : ℕ) (d : Name → List ℕ) (from : ℕ) (k : Kind) (n : Node) (name : Name) (h : Home) (s : HomeStep) (opened : Bool) → deed.Serves n h from k name s → s.opened ≡ opened → home_of n name ≡ Some h → FitsTables tables from i k → Passes from k n → Local i d n
     → (q : Name) → let o = serve_outcome opened name s n in Acts K q i (flying q (record { sender = from; addressee = i; kind = k })) None n o.node o.posts
 serves_home tables K i d from k n name h s opened (ask_comes f q0 write have idle) v e goes passes l q =
     let me : n.me ≡ name.home = eqb-true n.me name.home (home_is n name h e) in
@@ -162,7 +162,7 @@ acts_called tables K i d from n name mail step r goes l stays size happens e =
     (λ g rest at_g sized took. side_event name.home i r step g rest g.array at_g (happens g rest (from_home tables name i from mail g.flight rest goes took))))
     (λ q other. moved_there K name q i n _ (step r).posts (cond-false (name_eq name q) _ _ other) refl refl other)
 
-pub called_side : (tables : Tables) (K : Name → ℕ → Type 0) (i : ℕ) (d : Name → List ℕ) (from : ℕ) (k : Kind) (n : Node) (name : Name) (r : Remote) (s : RemoteStep) → CallsBack r k name s → n.remotes name ≡ Some r → KindFits tables from i k → Local i d n
+pub called_side : (tables : Tables) (K : Name → ℕ → Type 0) (i : ℕ) (d : Name → List ℕ) (from : ℕ) (k : Kind) (n : Node) (name : Name) (r : Remote) (s : RemoteStep) → CallsBack r k name s → n.remotes name ≡ Some r → FitsTables tables from i k → Local i d n
     → (q : Name) → Acts K q i (flying q (record { sender = from; addressee = i; kind = k })) None n (with_remote name (Some s.remote) n) (mail_messages n name s.posts)
 called_side tables K i d from k n name r s (wholly q0 version) e goes l q =
     acts_called tables K i d from n name (Recall version) (remote_takes_recall version) r goes l (recalled_same version r) (recalled_goes version r (remote_bytes i d n name r e l.fits)).size (λ g rest took. region.recall_comes i version rest (eqb-false i name.home goes.1) took) e q
@@ -217,7 +217,7 @@ not_both : {A : Type 0} (b : Bool) → b ≡ true → b ≡ false → A
 not_both true e f = cc
 not_both false e f = cc
 
-pub idle_message : (tables : Tables) (K : Name → ℕ → Type 0) (i : ℕ) (d : Name → List ℕ) (from : ℕ) (k : Kind) (n : Node) → Idles (Hears from k) n → KindFits tables from i k → Passes from k n → Local i d n
+pub idle_message : (tables : Tables) (K : Name → ℕ → Type 0) (i : ℕ) (d : Name → List ℕ) (from : ℕ) (k : Kind) (n : Node) → Idles (Hears from k) n → FitsTables tables from i k → Passes from k n → Local i d n
     → (q : Name) → Acts K q i (flying q (record { sender = from; addressee = i; kind = k })) None n n []
 unfolding remote_takes_recall remote_takes_yield
 idle_message tables K i d from (kind.Ask name write have) n idle goes passes l q = no_table K i from n name (Ask write have) goes.0 (λ h e. not_both _ (idle h e) passes.0) q

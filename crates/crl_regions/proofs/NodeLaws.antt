@@ -29,7 +29,7 @@ use Rattle.crl_flight.specs.Flight.{Under, messages_of}
 use Rattle.crl_flight.specs.Coming.{PieceComes, plain, last, gathers, IsNext}
 use Rattle.crl_flight.proofs.Laws.{comes}
 use Rattle.crl_coherence.specs.Coherent.{section_at}
-use Rattle.crl_regions.specs.MailFits.{HasSize, KindFits, MailFits}
+use Rattle.crl_regions.specs.MailFits.{HasSize, FitsTables, MailFits}
 use Rattle.crl_regions.specs.Steps.{RegionsHold}
 use Rattle.crl_regions.specs.Tests.{MeetsTest, PieceFits}
 use Rattle.crl_regions.specs.View.{side, table_of, tables_of, table_or_blank, view}
@@ -126,7 +126,7 @@ meets w drafts arrays us m rest k took = go m.kind fits (passes w drafts arrays 
     fits : MailFits (tables_of w) m
     fits = (all_took (MailFits (tables_of w)) took k.mail).0
 
-    go : (x : Kind) → KindFits (tables_of w) m.sender m.addressee x → Passes m.sender x n → MeetsTest n m.sender x
+    go : (x : Kind) → FitsTables (tables_of w) m.sender m.addressee x → Passes m.sender x n → MeetsTest n m.sender x
     go (kind.Ask name write have) f p = ((f.2.0, subst (λ j. home_of (w.nodes j) name ≡ Some f.2.0) f.0 f.2.1), p.0)
     go (kind.Grant name version granted) f p = grant_there granted p.0 (n.remotes name) p.1
     go (kind.Return name version bytes) f p = let there = subst (λ j. home_of (w.nodes j) name ≡ Some f.2.0) f.0 f.2.1 in (f.2.0, there, (p f.2.0 there).0)

@@ -27,7 +27,7 @@ use Rattle.crl_protocol.specs.Verdict.{refuses_call}
 use Rattle.crl_model.specs.declared.entry.What.{What}
 use Rattle.crl_coherence.specs.Region.{Flying}
 use Rattle.crl_regions.specs.View.{flying, left_in}
-use Rattle.crl_regions.specs.MailFits.{Tables, HasSize, KindFits}
+use Rattle.crl_regions.specs.MailFits.{Tables, HasSize, FitsTables}
 use Rattle.crl_regions.proofs.Acts.{Acts, nothing, acts_sending}
 use Rattle.crl_regions.proofs.Sections.{Local, away, here_is, free_asks, start_home, start_side}
 use Rattle.crl_regions.proofs.Ends.{end_home, end_side, end_nowhere, flush_side, forgets_acts}
@@ -65,7 +65,7 @@ came_of q i (Hears from k) = flying q (record { sender = from; addressee = i; ki
 -- A call that comes and isn't refused, and a message that passes the tests.
 abbrev pub CauseFits : Tables → ℕ → Node → Cause → Type 0
 CauseFits tables i n (Calls c) = (verdict n c ≡ None) × (is_call n c None ≡ true) × (n.activity ≡ Free)
-CauseFits tables i n (Hears from k) = KindFits tables from i k × Passes from k n
+CauseFits tables i n (Hears from k) = FitsTables tables from i k × Passes from k n
 
 closed_is : (s : Section) → is_closed s ≡ true → s ≡ section.Closed
 closed_is section.Closed e = refl

@@ -25,7 +25,7 @@ use Rattle.crl_coherence.specs.Coherent.{IsCoherent}
 use Rattle.crl_coherence.proofs.Laws.{NoTwo, took_some, took_all, took_nothing}
 use Rattle.crl_regions.specs.View.{mail_in, other_end, flown, flying, side, sight}
 use Rattle.crl_regions.proofs.Acts.{about_here}
-use Rattle.crl_regions.specs.MailFits.{Tables, HasTable, KindFits, MailFits, AllMailFits}
+use Rattle.crl_regions.specs.MailFits.{Tables, HasTable, FitsTables, MailFits, AllMailFits}
 use Rattle.crl_regions.proofs.Messages.{Passes}
 
 -- What the mail of a message with bytes is.
@@ -86,7 +86,7 @@ facts_of tables m key k mail same e load sender other t =
       there = t;
     })
 
-pub key_facts : (tables : Tables) (m : Message) (key : Key) (x : Kind) → m.kind ≡ x → key_in m.sender x ≡ Some key → KindFits tables m.sender m.addressee x → KeyFacts tables m key
+pub key_facts : (tables : Tables) (m : Message) (key : Key) (x : Kind) → m.kind ≡ x → key_in m.sender x ≡ Some key → FitsTables tables m.sender m.addressee x → KeyFacts tables m key
 key_facts tables m key (kind.Grant name version (Shared bytes)) e k f =
     facts_of tables m key (record { sender = m.sender; name = name; load = OfGrant; version = version }) (Grant version (Shared bytes)) k e refl refl (from_home name m f.0 f.1) f.2
 key_facts tables m key (kind.Grant name version (Exclusive bytes)) e k f =
@@ -213,7 +213,7 @@ home_sized o g len e f = ap home_size e ∙ ap (λ x. Some x) (sym f)
 return_sized : (from version : ℕ) (bytes : List ℕ) (g : Home) → return_fits from version (Some bytes) g ≡ true → length bytes ≡ g.size
 return_sized from version bytes g e = eqb-true (length bytes) g.size (and_parts (is_listed version (at from g.listed)) (bytes_fit (Some bytes) (at from g.listed) g.size) e).1
 
-pub size_known : (i : ℕ) (tables : Tables) (n : Node) (from : ℕ) (key : Key) (x : Kind) → key_in from x ≡ Some key → KindFits tables from i x → Passes from x n
+pub size_known : (i : ℕ) (tables : Tables) (n : Node) (from : ℕ) (key : Key) (x : Kind) → key_in from x ≡ Some key → FitsTables tables from i x → Passes from x n
     → ((name : Name) (h : Home) → tables name ≡ Some h → name.home ≡ i → home_of n name ≡ Some h) → size_for key.load key.name n ≡ Some (length (load_of x))
 size_known i tables n from key (kind.Grant name version (Shared bytes)) k f p home =
     let same : record { sender = from; name = name; load = OfGrant; version = version } ≡ key = cc in

@@ -35,7 +35,7 @@ use Rattle.crl_regions.proofs.Acts.{expected, CountFits, Comes, Acts, nothing, h
 use Rattle.crl_regions.proofs.Sections.{away}
 use Rattle.crl_regions.proofs.MappedOrCached.{IsMappedOrCached}
 use Rattle.crl_regions.proofs.Addressed.{Addressed, NodesExistIf}
-use Rattle.crl_regions.specs.MailFits.{Tables, HasTable, HasSize, ToldFits, KindFits, MailFits, AllMailFits}
+use Rattle.crl_regions.specs.MailFits.{Tables, HasTable, HasSize, ToldFits, FitsTables, MailFits, AllMailFits}
 use Rattle.crl_deeds.proofs.Turning.{Frame}
 use Rattle.crl_regions.proofs.Asking.{WaitsAsking}
 use Rattle.crl_regions.proofs.Mails.{Sends}
@@ -55,7 +55,7 @@ told_grown told.Deleted q before after g s = tt
 table_grown : (q : Name) (before after : Tables) → Grows before after → HasTable (before q) → HasTable (after q)
 table_grown q before after g t = let k = g q t.0 t.1 in (k.0, k.1)
 
-pub fair_grown : (before after : Tables) (from to : ℕ) (k : Kind) → Grows before after → KindFits before from to k → KindFits after from to k
+pub fair_grown : (before after : Tables) (from to : ℕ) (k : Kind) → Grows before after → FitsTables before from to k → FitsTables after from to k
 fair_grown before after from to (kind.Ask name write have) g f = (f.0, f.1, table_grown name before after g f.2)
 fair_grown before after from to (kind.Grant name version granted) g f = (f.0, f.1, table_grown name before after g f.2)
 fair_grown before after from to (kind.Recall name version) g f = (f.0, f.1, table_grown name before after g f.2)
@@ -83,7 +83,7 @@ quiet_if tables name q mail none t = go (name_eq name q) refl
     go true e = absurd (let there : tables q ≡ Some t.0 = subst (λ x. tables x ≡ Some t.0) (same_name name q e) t.1 in cc)
     go false e = refl
 
-quiet_kind : (tables : Tables) (q : Name) (from to : ℕ) (k : Kind) → tables q ≡ None → KindFits tables from to k → mail_in q k ≡ None
+quiet_kind : (tables : Tables) (q : Name) (from to : ℕ) (k : Kind) → tables q ≡ None → FitsTables tables from to k → mail_in q k ≡ None
 quiet_kind tables q from to (kind.Ask name write have) none f = quiet_if tables name q _ none f.2
 quiet_kind tables q from to (kind.Grant name version granted) none f = quiet_if tables name q _ none f.2
 quiet_kind tables q from to (kind.Recall name version) none f = quiet_if tables name q _ none f.2

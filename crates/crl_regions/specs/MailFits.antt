@@ -33,18 +33,18 @@ IsToHome tables name from to = (name.home ≡ to) × ((from == name.home) ≡ fa
 abbrev pub IsFromHome : Tables → Name → ℕ → ℕ → Type 0
 IsFromHome tables name from to = (from ≡ name.home) × ((to == name.home) ≡ false) × HasTable (tables name)
 
-abbrev pub KindFits : Tables → ℕ → ℕ → Kind → Type 0
-KindFits tables from to (kind.Ask name write have) = IsToHome tables name from to
-KindFits tables from to (kind.Grant name version granted) = IsFromHome tables name from to
-KindFits tables from to (kind.Recall name version) = IsFromHome tables name from to
-KindFits tables from to (kind.Yield name version) = IsFromHome tables name from to
-KindFits tables from to (kind.Return name version bytes) = IsToHome tables name from to
-KindFits tables from to (kind.Release name version bytes) = IsToHome tables name from to
-KindFits tables from to (kind.InfoIs name t) = ToldFits t (tables name)
-KindFits tables from to _ = Unit {0}
+abbrev pub FitsTables : Tables → ℕ → ℕ → Kind → Type 0
+FitsTables tables from to (kind.Ask name write have) = IsToHome tables name from to
+FitsTables tables from to (kind.Grant name version granted) = IsFromHome tables name from to
+FitsTables tables from to (kind.Recall name version) = IsFromHome tables name from to
+FitsTables tables from to (kind.Yield name version) = IsFromHome tables name from to
+FitsTables tables from to (kind.Return name version bytes) = IsToHome tables name from to
+FitsTables tables from to (kind.Release name version bytes) = IsToHome tables name from to
+FitsTables tables from to (kind.InfoIs name t) = ToldFits t (tables name)
+FitsTables tables from to _ = Unit {0}
 
 abbrev pub MailFits : Tables → Message → Type 0
-MailFits tables m = KindFits tables m.sender m.addressee m.kind
+MailFits tables m = FitsTables tables m.sender m.addressee m.kind
 
 abbrev pub AllMailFits : Tables → List Message → Type 0
 AllMailFits tables messages = AllByRecursion (MailFits tables) messages
