@@ -10,11 +10,12 @@ use Rattle.crl_protocol.specs.World.{World, new_world, world_of, boxes_from, pie
 use Rattle.crl_deeds.proofs.Placing.{all_append}
 use Rattle.crl_deeds.proofs.Turning.{HeldIn, HeldOut, all_took}
 use Rattle.crl_protocol.specs.Places.{Took, here, there}
-use Rattle.crl_flight.specs.Flight.{Moves, still, moved, Under, left_of, lefts, IsUnder, messages_of}
+use Rattle.crl_flight.specs.Flight.{Moves, still, moved, Under, left_of, lefts, IsUnder, IsFlight, messages_of}
+use Rattle.crl_flight.proofs.Laws.{none_boxed}
 use Rattle.crl_regions.specs.Addresses.{GoesToOther}
-use Rattle.crl_regions.specs.View.{UnderWay}
+use Rattle.crl_regions.specs.Reached.{AfterRuns, PiecesGoToOthers, MessagesGoToOthers, EmptyBoxesAreQuiet}
 use Rattle.crl_regions.proofs.Addressed.{PlainSent, Addressed}
-use Rattle.crl_regions.proofs.Runs.{nodes_hold, count_in_run}
+use Rattle.crl_regions.proofs.Runs.{nodes_hold}
 
 abbrev ToOther : ℕ → Piece → Type 0
 ToOther count p = GoesToOther count p.message
@@ -60,10 +61,12 @@ under_all count [] h p = tt
 under_all count (u ∷ us) h p =
     let k = all_parts (ToOther count) (left_of u) (lefts us) p in (goes_as count u.message (length u.cells) 0 u.cells k.0 h.0.1, under_all count us h.1 k.1)
 
-pub pieces_to_others : (count capacity : ℕ) (run : List Event) → IsRunFrom (new_world count capacity) run → AllByRecursion (λ (p : Piece). GoesToOther count p.message) (pieces_in_boxes (world_of count capacity run))
-pieces_to_others count capacity run r =
-    let w = world_of count capacity run in
-    subst (λ c. AllByRecursion (ToOther c) (pieces_in_boxes w)) (count_in_run count capacity run r) (boxes_all w (nodes_hold count capacity run r).whole.addressed 0 w.count)
+pub pieces_to_others : AfterRuns PiecesGoToOthers
+pieces_to_others count capacity run r = let w = world_of count capacity run in boxes_all w (nodes_hold count capacity run r).whole.addressed 0 w.count
 
-pub messages_to_others : (count capacity : ℕ) (run : List Event) → IsRunFrom (new_world count capacity) run → (us : List Under) → UnderWay (world_of count capacity run) us → AllByRecursion (GoesToOther count) (messages_of us)
-messages_to_others count capacity run r us flies = under_all count us flies.each (all_moved (ToOther count) flies.boxed (pieces_to_others count capacity run r))
+pub messages_to_others : AfterRuns MessagesGoToOthers
+messages_to_others count capacity run r us flies =
+    let w = world_of count capacity run in under_all w.count us flies.each (all_moved (ToOther w.count) flies.boxed (pieces_to_others count capacity run r))
+
+pub quiet_boxes : AfterRuns EmptyBoxesAreQuiet
+quiet_boxes count capacity run r us flies none = none_boxed us (λ i. ((world_of count capacity run).nodes i).parcels) (subst (λ b. IsFlight us b (λ i. ((world_of count capacity run).nodes i).parcels)) none flies)

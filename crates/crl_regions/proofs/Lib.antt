@@ -8,6 +8,7 @@ mod Calls
 mod Carried
 mod Ends
 mod Events
+pub mod Laws
 mod Lift
 mod Mails
 mod MappedOrCached

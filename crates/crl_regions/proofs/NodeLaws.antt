@@ -31,6 +31,7 @@ use Rattle.crl_flight.proofs.Laws.{comes}
 use Rattle.crl_coherence.specs.Coherent.{section_at}
 use Rattle.crl_regions.specs.MailFits.{HasSize, FitsTables, MailFits}
 use Rattle.crl_regions.specs.Steps.{RegionsHold}
+use Rattle.crl_regions.specs.Reached.{AfterRuns, SectionsAreTheTables, SizesAreKnown, AskersWait, WaitersAsk, MessagesMeetTests, PiecesAreTakenIn}
 use Rattle.crl_regions.specs.Tests.{MeetsTest, PieceFits}
 use Rattle.crl_regions.specs.View.{side, table_of, tables_of, table_or_blank, view}
 use Rattle.crl_regions.proofs.Noted.{section_noted}
@@ -42,15 +43,14 @@ use Rattle.crl_regions.proofs.Events.{key_passes, box_took}
 use Rattle.crl_regions.proofs.Messages.{Passes, no_grant}
 use Rattle.crl_regions.proofs.Moves.{boxes, flight_took, took_left}
 use Rattle.crl_regions.proofs.Single.{took_message, alone_in, size_known}
-use Rattle.crl_regions.proofs.Runs.{NodesHold, nodes_hold, count_in_run, with_regions}
+use Rattle.crl_regions.proofs.Runs.{NodesHold, nodes_hold, with_regions}
 
 -- The sections that a node notes are those of the region.
-pub sections_are_tables : (count capacity : ℕ) (run : List Event) → IsRunFrom (new_world count capacity) run → (i : ℕ) (q : Name) (array : List ℕ) (messages : List Message)
-    → section_at q.home (view q array messages (world_of count capacity run)) i ≡ sections.section_at q ((world_of count capacity run).nodes i).sections
+pub sections_are_tables : AfterRuns SectionsAreTheTables
 sections_are_tables count capacity run r i q array messages = section_noted _ _ _ _ array messages i q (nodes_hold count capacity run r).whole
 
 -- A size that a node has is the region's.
-pub sizes_known : (count capacity : ℕ) (run : List Event) → IsRunFrom (new_world count capacity) run → (i : ℕ) (q : Name) (r : Remote) → ((world_of count capacity run).nodes i).remotes q ≡ Some r → HasSize r.size (table_of q (world_of count capacity run))
+pub sizes_known : AfterRuns SizesAreKnown
 sizes_known count capacity run r i q x e = (nodes_hold count capacity run r).whole.sizes i q x e
 
 -- A node that asks waits for that section.
@@ -68,13 +68,13 @@ queued_waits me None q a f e = cc
 queued_waits me (Some h) q a (one, inl none) e = absurd (let no = not_own me h.queue none in cc)
 queued_waits me (Some h) q a (one, inr waits) e = waits
 
-pub other_waits : (count capacity : ℕ) (run : List Event) → IsRunFrom (new_world count capacity) run → (i : ℕ) (q : Name) (array : List ℕ) (messages : List Message) → ((view q array messages (world_of count capacity run)).remotes i).asking ≢ None
+other_waits : (count capacity : ℕ) (run : List Event) → IsRunFrom (new_world count capacity) run → (i : ℕ) (q : Name) (array : List ℕ) (messages : List Message) → ((view q array messages (world_of count capacity run)).remotes i).asking ≢ None
     → ((world_of count capacity run).nodes i).activity ≡ Waiting (ForSection q)
 other_waits count capacity run r i q array messages asks =
     let w = world_of count capacity run in
     let k = (nodes_hold count capacity run r).whole in asks_waits (table_or_blank (table_of q w)).size ((w.nodes i).remotes q) q (w.nodes i).activity ((k.fits i).each q).asking asks
 
-pub home_waits : (count capacity : ℕ) (run : List Event) → IsRunFrom (new_world count capacity) run → (q : Name) (array : List ℕ) (messages : List Message) → is_queued q.home (view q array messages (world_of count capacity run)).home.queue ≡ true
+home_waits : (count capacity : ℕ) (run : List Event) → IsRunFrom (new_world count capacity) run → (q : Name) (array : List ℕ) (messages : List Message) → is_queued q.home (view q array messages (world_of count capacity run)).home.queue ≡ true
     → ((world_of count capacity run).nodes q.home).activity ≡ Waiting (ForSection q)
 home_waits count capacity run r q array messages queued =
     let w = world_of count capacity run in
@@ -91,7 +91,7 @@ asks_there me size None (Some r) e a = some_of r.asking a
 asks_there me size None None e a = absurd a
 asks_there me size (Some h) r e a = cc
 
-pub waits_elsewhere : (count capacity : ℕ) (run : List Event) → IsRunFrom (new_world count capacity) run → (i : ℕ) (q : Name) (array : List ℕ) (messages : List Message) → i ≢ q.home → ((world_of count capacity run).nodes i).activity ≡ Waiting (ForSection q)
+waits_elsewhere : (count capacity : ℕ) (run : List Event) → IsRunFrom (new_world count capacity) run → (i : ℕ) (q : Name) (array : List ℕ) (messages : List Message) → i ≢ q.home → ((world_of count capacity run).nodes i).activity ≡ Waiting (ForSection q)
     → (write : Bool) × (((view q array messages (world_of count capacity run)).remotes i).asking ≡ Some write)
 waits_elsewhere count capacity run r i q array messages other waits =
     let w = world_of count capacity run in
@@ -104,13 +104,19 @@ asks_own me (Some h) r f a = a
 asks_own me None None f a = absurd a
 asks_own me None (Some x) f a = absurd (let t = (f x refl).1 in cc)
 
-pub waits_at_home : (count capacity : ℕ) (run : List Event) → IsRunFrom (new_world count capacity) run → (q : Name) (array : List ℕ) (messages : List Message) → ((world_of count capacity run).nodes q.home).activity ≡ Waiting (ForSection q)
+waits_at_home : (count capacity : ℕ) (run : List Event) → IsRunFrom (new_world count capacity) run → (q : Name) (array : List ℕ) (messages : List Message) → ((world_of count capacity run).nodes q.home).activity ≡ Waiting (ForSection q)
     → is_queued q.home (view q array messages (world_of count capacity run)).home.queue ≡ true
 waits_at_home count capacity run r q array messages waits =
     let w = world_of count capacity run in
     let k = (nodes_hold count capacity run r).whole in
     subst (λ me. is_queued me (table_or_blank (table_of q w)).queue ≡ true) (k.fits q.home).me
     (asks_own (w.nodes q.home).me (table_of q w) ((w.nodes q.home).remotes q) (λ x f. let s = k.sizes q.home q x f in (s.0, s.1)) (asks_at (w.nodes q.home) (w.nodes q.home).activity q waits (k.asks q.home)))
+
+pub askers_wait : AfterRuns AskersWait
+askers_wait count capacity run r = record { other = other_waits count capacity run r; home = home_waits count capacity run r }
+
+pub waiters_ask : AfterRuns WaitersAsk
+waiters_ask count capacity run r = record { other = waits_elsewhere count capacity run r; home = waits_at_home count capacity run r }
 
 -- A message that is under way meets the test of its handler.
 grant_there : (granted : Granted) (size : ℕ) (o : Option Remote) → grant_fits granted (side size o) ≡ true → (r : Remote) × (o ≡ Some r) × (grant_fits granted r ≡ true)
@@ -142,8 +148,7 @@ meets w drafts arrays us m rest k took = go m.kind fits (passes w drafts arrays 
     go (kind.Come round part) f p = tt
     go (kind.Result round fold) f p = tt
 
-pub messages_meet : (count capacity : ℕ) (run : List Event) → IsRunFrom (new_world count capacity) run → (us : List Under) (arrays : Name → List ℕ) → RegionsHold (world_of count capacity run) us arrays
-    → (m : Message) (rest : List Message) → Took m (messages_of us) rest → MeetsTest ((world_of count capacity run).nodes m.addressee) m.sender m.kind
+pub messages_meet : AfterRuns MessagesMeetTests
 messages_meet count capacity run r us arrays h m rest took = meets _ _ arrays us m rest (with_regions _ us arrays _ (nodes_hold count capacity run r) h) took
 
 -- A piece that comes is taken in.
@@ -169,6 +174,5 @@ piece_in w drafts arrays us i p rest key k few took e =
     go (last l u others x full whole f) = next l u others x
     go (gathers l u others left x less same f) = next l u others x
 
-pub pieces_meet : (count capacity : ℕ) (run : List Event) → IsRunFrom (new_world count capacity) run → (i : ℕ) (p : Piece) (rest : List Piece) (key : Key) → i < count → Took p ((world_of count capacity run).nodes i).inbox rest → key_of p.message ≡ Some key
-    → PieceFits ((world_of count capacity run).nodes i) p key
-pieces_meet count capacity run r i p rest key few took e = piece_in _ _ _ _ i p rest key (nodes_hold count capacity run r).whole (subst (λ c. i < c) (sym (count_in_run count capacity run r)) few) took e
+pub pieces_meet : AfterRuns PiecesAreTakenIn
+pieces_meet count capacity run r i p rest key few took e = piece_in _ _ _ _ i p rest key (nodes_hold count capacity run r).whole few took e

@@ -25,6 +25,7 @@ use Rattle.crl_coherence.specs.Region.{Run}
 use Rattle.crl_coherence.specs.Coherent.{IsCoherent}
 use Rattle.crl_coherence.proofs.Laws.{runs_kept}
 use Rattle.crl_regions.specs.MailFits.{HasSize, AllMailFits}
+use Rattle.crl_regions.specs.Reached.{AfterRuns, EventsKeepRegions}
 use Rattle.crl_regions.specs.Steps.{RegionsHold, GoesOn, RegionsGoOn, RegionsStep}
 use Rattle.crl_regions.specs.View.{UnderWay, flying, sight, table_of, tables_of, table_or_blank, view, array_after, array_from, array_of}
 use Rattle.crl_deeds.proofs.Turning.{Held, HeldOut, all_took, turn_of, turn_count, held_turn}
@@ -218,9 +219,8 @@ with_regions w us arrays before k h = let x = k.whole in record {
 pub regions_start : (count capacity : ℕ) → RegionsHold (new_world count capacity) [] (λ q. [])
 regions_start count capacity = holds _ _ _ _ (whole_start count capacity) (λ i q r e. absurd (cc))
 
-pub regions_step : (count capacity : ℕ) (run : List Event) (e : Event) → IsRunFrom (new_world count capacity) run → is_enabled e (world_of count capacity run) ≡ true → (us : List Under) (arrays : Name → List ℕ)
-    → RegionsHold (world_of count capacity run) us arrays → RegionsStep (world_of count capacity run) (step e (world_of count capacity run)).world us arrays (λ q. array_after q e (world_of count capacity run) (arrays q))
-regions_step count capacity run e r may us arrays h =
+pub regions_step : AfterRuns EventsKeepRegions
+regions_step count capacity run r e may us arrays h =
     let w = world_of count capacity run in
     let k = nodes_hold count capacity run r in
     let a = with_regions w us arrays _ k h in
