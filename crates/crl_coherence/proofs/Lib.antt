@@ -24,4 +24,5 @@ mod RemoteYields
 mod Rounds
 mod Serve
 mod Stands
+mod Statements
 mod Waits
