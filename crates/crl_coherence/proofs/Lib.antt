@@ -26,3 +26,4 @@ mod Serve
 mod Stands
 mod Statements
 mod Waits
+mod WritersAlone

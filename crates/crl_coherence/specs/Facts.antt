@@ -142,3 +142,7 @@ KeepsTheArray me g h = (n : ℕ) → section_at me g n ≢ Closed → (h.array �
 -- while a section is open, what its node has of the region is the array's bytes
 abbrev pub HasTheArray : ℕ → Region → Type 0
 HasTheArray me g = (n : ℕ) → section_at me g n ≢ Closed → bytes_at_node me g n ≡ g.array
+
+-- while a node's section is open to write, no other node has one open
+abbrev pub WritersAreAlone : ℕ → Region → Type 0
+WritersAreAlone me g = (n m : ℕ) → n ≢ m → section_at me g n ≡ Writing → section_at me g m ≡ Closed

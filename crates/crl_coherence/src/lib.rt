@@ -7,7 +7,7 @@ pub mod directory;
 ghost use Rattle.std.specs.Prelude.{ℕ};
 ghost use Rattle.crl_coherence.specs.Region.{Region, Happens, Run};
 ghost use Rattle.crl_coherence.specs.Coherent.{IsCoherent, created};
-ghost use Rattle.crl_coherence.specs.Facts.{OpensRightly, ShowsTheArray, HasTheArray, KeepsTheArray, CopiesStandOnce, MessagesFit, WhoWaitsIsBlocked};
+ghost use Rattle.crl_coherence.specs.Facts.{OpensRightly, ShowsTheArray, WritersAreAlone, HasTheArray, KeepsTheArray, CopiesStandOnce, MessagesFit, WhoWaitsIsBlocked};
 
 /// A region is coherent when it is created, and stays so whatever happens to it.
 pub fn stays_coherent()
@@ -26,6 +26,11 @@ pub fn sections_open_rightly()
 /// The bytes with which a section opens are the array's.
 pub fn sections_show_the_array()
     ensures { (me : ℕ) (g : Region) → IsCoherent me g → ShowsTheArray me g }
+{}
+
+/// While a node's section is open to write, no other node has a section open.
+pub fn writers_are_alone()
+    ensures { (me : ℕ) (g : Region) → IsCoherent me g → WritersAreAlone me g }
 {}
 
 /// While a section is open, what its node has of the region is the array's bytes.

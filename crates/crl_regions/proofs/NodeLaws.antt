@@ -29,12 +29,13 @@ use Rattle.crl_flight.specs.Flight.{Under, messages_of}
 use Rattle.crl_flight.specs.Coming.{PieceComes, plain, last, gathers, IsNext}
 use Rattle.crl_flight.proofs.Laws.{comes}
 use Rattle.crl_coherence.specs.Coherent.{section_at}
+use Rattle.crl_coherence.proofs.Laws.{writer_alone}
 use Rattle.crl_regions.specs.MailFits.{HasSize, FitsTables, MailFits}
 use Rattle.crl_regions.specs.Steps.{RegionsHold}
-use Rattle.crl_regions.specs.Reached.{AfterRuns, SectionsAreTheTables, SizesAreKnown, AskersWait, WaitersAsk, MessagesMeetTests, PiecesAreTakenIn}
+use Rattle.crl_regions.specs.Reached.{AfterRuns, SectionsAreTheTables, WriteSectionsAreAlone, SizesAreKnown, AskersWait, WaitersAsk, MessagesMeetTests, PiecesAreTakenIn}
 use Rattle.crl_regions.specs.Tests.{MeetsTest, PieceFits}
-use Rattle.crl_regions.specs.View.{side, table_of, tables_of, table_or_blank, view}
-use Rattle.crl_regions.proofs.Noted.{section_noted}
+use Rattle.crl_regions.specs.View.{side, table_of, tables_of, table_or_blank, view, array_of}
+use Rattle.crl_regions.proofs.Noted.{section_noted, open_table}
 use Rattle.crl_regions.proofs.Addressed.{PlainSent}
 use Rattle.crl_regions.proofs.Asking.{AsksFor, asks_at}
 use Rattle.crl_regions.proofs.AllNodesHold.{AllNodesHold, table_at, passes}
@@ -43,11 +44,22 @@ use Rattle.crl_regions.proofs.Events.{key_passes, box_took}
 use Rattle.crl_regions.proofs.Messages.{Passes, no_grant}
 use Rattle.crl_regions.proofs.Moves.{boxes, flight_took, took_left}
 use Rattle.crl_regions.proofs.Single.{took_message, alone_in, size_known}
-use Rattle.crl_regions.proofs.Runs.{NodesHold, nodes_hold, with_regions}
+use Rattle.crl_regions.proofs.Runs.{NodesHold, nodes_hold, with_regions, regions_in_runs}
 
 -- The sections that a node notes are those of the region.
 pub sections_are_tables : AfterRuns SectionsAreTheTables
 sections_are_tables count capacity run r i q array messages = section_noted _ _ _ _ array messages i q (nodes_hold count capacity run r).whole
+
+-- A write section is alone.
+pub write_alone : AfterRuns WriteSectionsAreAlone
+write_alone count capacity run r q i j apart writes =
+    let w = world_of count capacity run in
+    let n = nodes_hold count capacity run r in
+    let array = array_of q count capacity run in
+    let t = open_table w n.drafts _ n.under i q n.whole (λ closed. let both = sym writes ∙ closed in cc) in
+    let h = (regions_in_runs count capacity run r) in
+    sym (section_noted w n.drafts _ n.under array (messages_of h.0) j q n.whole)
+    ∙ writer_alone q.home (view q array (messages_of h.0) w) i j (h.1.coherent q t.0 t.1) apart (section_noted w n.drafts _ n.under array (messages_of h.0) i q n.whole ∙ writes)
 
 -- A size that a node has is the region's.
 pub sizes_known : AfterRuns SizesAreKnown

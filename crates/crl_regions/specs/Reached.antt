@@ -4,6 +4,7 @@ use Rattle.std.specs.List.{AllByRecursion}
 use Rattle.std.specs.declared.option.Option.TheVariants.{None, Some}
 use Rattle.crl_model.specs.declared.name.Name.{Name}
 use Rattle.crl_model.specs.declared.event.Event.{Event}
+use Rattle.crl_model.specs.declared.directory.Section.TheVariants.{Closed, Writing}
 use Rattle.crl_model.specs.declared.message.Message.{Message}
 use Rattle.crl_protocol.specs.Places.{Took}
 use Rattle.crl_protocol.specs.Parcels.{Piece, Key, key_of}
@@ -43,6 +44,10 @@ EventsKeepRegions w = (e : Event) → is_enabled e w ≡ true → (us : List Und
 -- the sections that a node notes are those that the region's tables say are open there
 abbrev pub SectionsAreTheTables : World → Type 0
 SectionsAreTheTables w = (i : ℕ) (name : Name) (array : List ℕ) (messages : List Message) → region.section_at name.home (view name array messages w) i ≡ section_at name (w.nodes i).sections
+
+-- while a node's section of a region is open to write, no other node has a section of it open
+abbrev pub WriteSectionsAreAlone : World → Type 0
+WriteSectionsAreAlone w = (name : Name) (i j : ℕ) → i ≢ j → section_at name (w.nodes i).sections ≡ Writing → section_at name (w.nodes j).sections ≡ Closed
 
 -- a node with a record of a region that isn't its own knows the region's size
 abbrev pub SizesAreKnown : World → Type 0

@@ -8,7 +8,7 @@ ghost use Rattle.crl_model.specs.declared.event.Event.{Event};
 ghost use Rattle.crl_machine.specs.SingleMachine.{start, after_all};
 ghost use Rattle.crl_protocol.specs.World.{new_world, world_of, account, IsRunFrom};
 ghost use Rattle.crl_flight.specs.Flight.{Under};
-ghost use Rattle.crl_regions.specs.Reached.{AfterRuns, PiecesGoToOthers, MessagesGoToOthers, EmptyBoxesAreQuiet, EventsKeepRegions, SectionsAreTheTables, SizesAreKnown, AskersWait, WaitersAsk, MessagesMeetTests, PiecesAreTakenIn};
+ghost use Rattle.crl_regions.specs.Reached.{AfterRuns, PiecesGoToOthers, MessagesGoToOthers, EmptyBoxesAreQuiet, EventsKeepRegions, SectionsAreTheTables, WriteSectionsAreAlone, SizesAreKnown, AskersWait, WaitersAsk, MessagesMeetTests, PiecesAreTakenIn};
 ghost use Rattle.crl_regions.specs.Steps.{RegionsHold};
 ghost use Rattle.crl_regions.specs.View.{array_of};
 
@@ -41,6 +41,11 @@ pub fn array_is_the_accounts()
 /// The sections that a node notes are those that the region's tables say are open there.
 pub fn sections_are_the_tables()
     ensures { AfterRuns SectionsAreTheTables }
+{}
+
+/// While a node's section of a region is open to write, no other node has a section of it open.
+pub fn write_sections_are_alone()
+    ensures { AfterRuns WriteSectionsAreAlone }
 {}
 
 /// A node with a record of a region that isn't its own knows the region's size.
