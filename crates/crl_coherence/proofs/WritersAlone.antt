@@ -1,8 +1,7 @@
 -- While a section of the region is open to write, no other node has one open.
-use Rattle.std.proofs.Common.{◌≡◌, ◌≢◌, inl, inr, ℕ, ◌==◌, Bool, true, false, None, Some, if◌then◌else◌, refl, sym, ◌∙◌, subst}
+use Rattle.std.proofs.Common.{◌≡◌, ◌≢◌, ℕ, ◌==◌, Bool, true, false, if◌then◌else◌, refl, sym, ◌∙◌}
 use Rattle.std.proofs.lemmas.Bool.{eqb-true, eqb-false}
 use Rattle.crl_model.specs.declared.directory.Section.TheVariants.{Closed, Writing}
-use Rattle.crl_protocol.specs.Places.{at}
 use Rattle.crl_coherence.specs.Region.{Region}
 use Rattle.crl_coherence.specs.Coherent.{IsCoherent, section_at}
 use Rattle.crl_coherence.proofs.Facts.{section_closed}

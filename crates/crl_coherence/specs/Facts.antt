@@ -1,5 +1,5 @@
 -- What is known of a coherent region, in words of their own.
-use Rattle.std.specs.Prelude.{◌≡◌, ◌≢◌, ◌⊎◌, ℕ, ◌+◌, List, [], ◌∷◌, Bool, true, false, ◌≤◌, length}
+use Rattle.std.specs.Prelude.{◌≡◌, ◌≢◌, ◌⊎◌, ℕ, List, [], ◌∷◌, Bool, true, false, ◌≤◌, length}
 use Rattle.std.specs.declared.option.Option.{Option}
 use Rattle.std.specs.declared.option.Option.TheVariants.{None, Some}
 use Rattle.crl_model.specs.declared.directory.Asked.{Asked}
@@ -12,9 +12,9 @@ use Rattle.crl_protocol.specs.Home.{home_takes_ask, home_takes_return, home_take
 use Rattle.crl_protocol.specs.Remote.{Copy, remote_starts, remote_takes_grant, grant_fits}
 use Rattle.crl_protocol.specs.Sections.{is_writing}
 use Rattle.crl_protocol.specs.Handlers.{is_queued}
-use Rattle.crl_coherence.specs.Region.{Flying, Region, Happens, Run, flies, MayStart, IsIdle}
-use Rattle.crl_coherence.specs.Pairs.{pair_of, Places, Given, Back, Freed, Distinct, HasVersion, queued_of}
-use Rattle.crl_coherence.specs.Coherent.{IsCoherent, HeadWaits, created, section_at, bytes_at_node, MayOpen}
+use Rattle.crl_coherence.specs.Region.{Flying, Region, flies, MayStart, IsIdle}
+use Rattle.crl_coherence.specs.Pairs.{Places, Given, Back, Freed, Distinct, HasVersion, queued_of}
+use Rattle.crl_coherence.specs.Coherent.{HeadWaits, section_at, bytes_at_node, MayOpen}
 use Rattle.crl_model.specs.declared.directory.Mark.TheVariants.{Plain, Recalled, Yielding}
 use Rattle.crl_coherence.specs.Directory.{between, Among, AskStands, VersionStands, HasNothing, ReleasedStands, IsCalled, RecallStands, YieldStands, IsForHead, HaveStands, ComesBack, GrantShows}
 

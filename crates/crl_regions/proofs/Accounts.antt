@@ -1,5 +1,5 @@
 -- The array of a run is the single machine's after the run's account.
-use Rattle.std.proofs.Common.{◌≡◌, ℕ, ◌+◌, ◌-◌, ◌==◌, Bool, true, false, ◌&&◌, None, Some, Option, List, [], ◌∷◌, ◌++◌, if◌then◌else◌, replicate, refl, ap, sym, ◌∙◌, subst}
+use Rattle.std.proofs.Common.{◌≡◌, ℕ, ◌+◌, Bool, true, false, ◌&&◌, None, Some, Option, List, [], ◌∷◌, ◌++◌, if◌then◌else◌, replicate, refl, ap, sym, ◌∙◌, subst}
 use Rattle.std.proofs.lemmas.Bool.{cond_both}
 use Rattle.crl_model.specs.declared.name.Name.{Name}
 use Rattle.crl_model.specs.declared.collective.Fold.{Fold}
@@ -31,7 +31,7 @@ use Rattle.crl_deeds.proofs.Deeding.{call_deed}
 use Rattle.crl_deeds.proofs.Hearing.{message_deed}
 use Rattle.crl_deeds.specs.Deeds.{Cause, Calls, Hears, Idles, to_read, to_write, a_read, a_write, Copies, Lives, Rounds, Notes, Deed, copies, lives, rounds, notes, refuses, idles, home_opens, home_waits, side_opens, side_waits, home_ends, side_ends, side_flushes, home_serves, home_serves_own, grant_comes, side_called, made, used_up, comes_last, part_last, result_comes, ends_nowhere, flushes_own, flushes_nowhere}
 use Rattle.crl_machine.specs.SingleMachine.{State, start, change, after_all}
-use Rattle.crl_regions.specs.View.{left_if, left_in, left_by, array_after, array_from, array_of}
+use Rattle.crl_regions.specs.View.{left_if, left_in, array_after, array_from, array_of}
 use Rattle.crl_regions.proofs.Calls.{left_none}
 use Rattle.crl_regions.proofs.RegionDeeds.{left_of}
 

@@ -1,11 +1,10 @@
 -- Every message goes from a node of the world to another.
-use Rattle.std.proofs.Common.{◌≡◌, ◌≢◌, ℕ, zero, suc, ◌+◌, ◌-◌, ◌<◌, ◌≤◌, ◌==◌, Bool, true, false, None, Some, Option, List, [], ◌∷◌, map, if◌then◌else◌, refl, ap, sym, ◌∙◌, subst, arith}
+use Rattle.std.proofs.Common.{◌≡◌, ℕ, zero, suc, ◌+◌, ◌-◌, ◌<◌, ◌≤◌, ◌==◌, Bool, true, false, None, Some, Option, List, [], ◌∷◌, map, if◌then◌else◌, refl, ap, sym, ◌∙◌, subst, arith}
 use Rattle.std.specs.List.{AllByRecursion}
-use Rattle.std.proofs.lemmas.Bool.{cond_both, and_parts, eqb-true, eqb-false, ltb-true, eq-eqb, ne_eqb}
+use Rattle.std.proofs.lemmas.Bool.{cond_both, and_parts, eqb-true, eqb-false, ltb-true, ne_eqb}
 use Rattle.crl_model.specs.declared.name.Name.{Name}
 use Rattle.crl_model.specs.declared.collective.Fold.{Fold}
 use Rattle.crl_model.specs.declared.call.Call.{Call}
-use Rattle.crl_model.specs.declared.event.Event.{Event}
 use Rattle.crl_model.specs.declared.entry.What.{What}
 use Rattle.crl_model.specs.declared.message.Message.{Message}
 use Rattle.crl_model.specs.declared.message.Kind.{Kind}
@@ -15,19 +14,19 @@ use Rattle.crl_protocol.specs.Mail.{Mail, Ask, Grant, Recall, Yield, Return, Rel
 use Rattle.crl_protocol.specs.Home.{Home, HomeStep, new_home}
 use Rattle.crl_protocol.specs.Remote.{Remote, RemoteStep, remote_starts, remote_flushes}
 use Rattle.crl_protocol.specs.Lifetimes.{members_from}
-use Rattle.crl_protocol.specs.Node.{Node, ForMap, Activity, Waiting, Outcome, Answer, Ready, Recorded, Note, is_mine, home_of, lifetime_of, with_home, letter_messages, mail_messages, message_to, next_name}
+use Rattle.crl_protocol.specs.Node.{Node, ForMap, Activity, Waiting, Outcome, home_of, with_home, letter_messages, mail_messages, message_to, next_name}
 use Rattle.crl_protocol.specs.Calls.{creates, results_from}
 use Rattle.crl_protocol.specs.Handlers.{purges_waiting}
-use Rattle.crl_protocol.specs.Parcels.{Piece, PartsGathered, with_load}
-use Rattle.crl_protocol.specs.World.{World, new_world, step}
+use Rattle.crl_protocol.specs.Parcels.{with_load}
+use Rattle.crl_protocol.specs.World.{World, new_world}
 use Rattle.crl_deeds.proofs.Fitting.{by_name}
 use Rattle.crl_deeds.proofs.Tabling.{home_put, home_end, home_none}
 use Rattle.crl_deeds.proofs.Placing.{all_append}
-use Rattle.crl_deeds.specs.Deeds.{Cause, Calls, Hears, parting, EndsCall, a_read, a_write, Serves, ask_comes, copy_returns, copy_lowers, Copies, Lives, Rounds, Notes, Deed, copies, lives, rounds, notes, home_opens, home_waits, side_opens, side_waits, home_ends, side_ends, side_flushes, home_serves, home_serves_own, grant_comes, side_called, made, used_up, map_asks, map_told, map_refused, map_comes, map_denied, unmaps_doomed, unmaps_evicting, deletes_own, deletes_for, delete_asks, deletes_alone_for, delete_refused, delete_comes, dooms, drops, warns, ends_own, ends_for, comes_away, comes_home, comes_last, part_comes, part_last, part_last_idle, result_comes, flushes_own}
+use Rattle.crl_deeds.specs.Deeds.{Cause, Calls, Hears, parting, EndsCall, a_read, a_write, Serves, ask_comes, copy_returns, copy_lowers, Copies, Lives, Rounds, Notes, Deed, copies, lives, rounds, notes, home_opens, home_waits, side_opens, side_waits, home_ends, side_ends, side_flushes, home_serves, home_serves_own, grant_comes, side_called, made, used_up, map_asks, map_told, map_refused, map_comes, map_denied, unmaps_doomed, unmaps_evicting, deletes_own, deletes_for, delete_asks, deletes_alone_for, delete_refused, delete_comes, dooms, drops, warns, ends_own, ends_for, comes_away, comes_last, part_comes, part_last, part_last_idle, flushes_own}
 use Rattle.crl_deeds.proofs.Turning.{Came, Local, Held}
 use Rattle.crl_deeds.proofs.Counting.{Plain, Counted, GoingFew, counted_local, counted_start}
 use Rattle.crl_regions.specs.Addresses.{GoesToOther}
-use Rattle.crl_regions.proofs.NodesExist.{IsOther, ToOther, NodesExist, NodesExistAfter, near_asked, near_returned, near_released, near_starts, near_read, near_write, near_new}
+use Rattle.crl_regions.proofs.NodesExist.{ToOther, NodesExist, NodesExistAfter, near_asked, near_returned, near_released, near_starts, near_read, near_write, near_new}
 
 -- a part of a round goes to node 0
 abbrev ToRoot : ℕ → Kind → Type 0

@@ -1,12 +1,10 @@
 -- In every run each message under way, and each piece in a box, goes from a node of the world to another.
-use Rattle.std.proofs.Common.{◌≡◌, ◌≢◌, ℕ, zero, suc, ◌+◌, ◌<◌, Bool, true, false, List, [], ◌∷◌, ◌++◌, length, if◌then◌else◌, refl, sym, subst}
+use Rattle.std.proofs.Common.{◌≢◌, ℕ, zero, suc, ◌+◌, Bool, true, false, List, [], ◌∷◌, ◌++◌, length, if◌then◌else◌, refl, subst}
 use Rattle.std.specs.List.{AllByRecursion}
-use Rattle.crl_model.specs.declared.event.Event.{Event}
 use Rattle.crl_model.specs.declared.message.Message.{Message}
 use Rattle.crl_pieces.specs.Pieces.{Cell, left_from}
 use Rattle.crl_protocol.specs.Parcels.{Piece, piece_of}
-use Rattle.crl_protocol.specs.Node.{Node}
-use Rattle.crl_protocol.specs.World.{World, new_world, world_of, boxes_from, pieces_in_boxes, IsRunFrom}
+use Rattle.crl_protocol.specs.World.{World, world_of, boxes_from}
 use Rattle.crl_deeds.proofs.Placing.{all_append}
 use Rattle.crl_deeds.proofs.Turning.{HeldIn, HeldOut, all_took}
 use Rattle.crl_protocol.specs.Places.{Took, here, there}

@@ -1,6 +1,5 @@
 -- What holds of all nodes after each event of a run, and what it says of a message that comes.
-use Rattle.std.proofs.Common.{◌≡◌, ◌≢◌, ◌⊎◌, inl, inr, ℕ, suc, ◌+◌, ◌-◌, ◌<◌, ◌==◌, Bool, true, false, ◌||◌, None, Some, Option, List, [], ◌∷◌, ◌++◌, refl, ap, sym, ◌∙◌, subst, arith}
-use Rattle.std.specs.List.{AllByRecursion}
+use Rattle.std.proofs.Common.{◌≡◌, ◌≢◌, ◌⊎◌, inl, inr, ℕ, suc, ◌+◌, ◌-◌, ◌==◌, Bool, true, false, ◌||◌, None, Some, Option, List, [], ◌∷◌, ◌++◌, refl, ap, sym, ◌∙◌, subst, arith}
 use Rattle.std.proofs.lemmas.Bool.{cond-true, cond-false, eqb-true, eqb-false, eq-eqb, ne_eqb}
 use Rattle.crl_model.specs.declared.name.Name.{Name}
 use Rattle.crl_model.specs.declared.directory.Section.{Section}
@@ -16,10 +15,10 @@ use Rattle.crl_protocol.specs.Remote.{Copy, Remote, grant_fits}
 use Rattle.crl_protocol.specs.Sections.{section_at}
 use Rattle.crl_protocol.specs.Node.{Node, Activity, Waiting, ForSection, at_serial, home_of}
 use Rattle.crl_protocol.specs.Handlers.{is_queued, is_queued_in}
-use Rattle.crl_protocol.specs.World.{World, pieces_in_boxes}
+use Rattle.crl_protocol.specs.World.{World}
 use Rattle.crl_deeds.proofs.Fitting.{AskingFits, Fits}
 use Rattle.crl_protocol.specs.Parcels.{Piece, PartsGathered}
-use Rattle.crl_flight.specs.Flight.{Under, IsFlight, messages_of}
+use Rattle.crl_flight.specs.Flight.{Under, messages_of}
 use Rattle.crl_coherence.specs.Region.{Flying, Region, flies}
 use Rattle.crl_coherence.specs.Pairs.{Given, AskPlace, SectionFits, pair_of, of_node, asked_in}
 use Rattle.crl_coherence.specs.Coherent.{IsCoherent}

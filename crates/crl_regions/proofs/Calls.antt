@@ -1,36 +1,27 @@
 -- What a create and a refused call do to each region, and what is known of a name that is forgotten.
-use Rattle.std.proofs.Common.{◌≡◌, ℕ, zero, suc, ◌+◌, ◌-◌, ◌==◌, nat_lt, Bool, true, false, None, Some, Option, List, [], ◌∷◌, length, map, replicate, refl, ap, sym, ◌∙◌, subst}
-use Rattle.std.proofs.lemmas.Bool.{cond_both, cond-true, cond-false, eqb-true, eq-eqb}
+use Rattle.std.proofs.Common.{◌≡◌, ℕ, zero, suc, ◌+◌, ◌==◌, nat_lt, Bool, true, false, None, Some, Option, List, [], ◌∷◌, length, map, replicate, refl, ◌∙◌, subst}
+use Rattle.std.proofs.lemmas.Bool.{cond_both, cond-true, cond-false, eq-eqb}
 use Rattle.std.proofs.Math.Logic.{◌⊎◌, inl, inr}
 use Rattle.crl_model.specs.declared.name.Name.{Name}
 use Rattle.crl_model.specs.declared.call.Call.{Call}
 use Rattle.crl_model.specs.declared.call.Call.TheVariants as call
-use Rattle.crl_model.specs.declared.call.CallKind.{CallKind}
 use Rattle.crl_model.specs.declared.call.Refusal.{Refusal}
 use Rattle.crl_model.specs.declared.collective.Fold.{Fold}
-use Rattle.crl_model.specs.declared.collective.Part.{Part}
 use Rattle.crl_model.specs.declared.directory.Section.TheVariants as section
 use Rattle.crl_model.specs.declared.message.Kind.TheVariants as kind
-use Rattle.crl_model.specs.Calls.{kind_of}
 use Rattle.crl_model.specs.Names.{name_eq}
 use Rattle.crl_protocol.specs.Places.{find_all}
 use Rattle.crl_protocol.specs.Home.{new_home}
 use Rattle.crl_protocol.specs.Remote.{Remote}
-use Rattle.crl_protocol.specs.Lifetimes.{Mapping, Cached, CacheStep, cache_with, push_out, cached_size, Lifetime, lifetime_begins_delete, members}
-use Rattle.crl_protocol.specs.Gathering.{gathers}
-use Rattle.crl_protocol.specs.Node.{Node, Free, COUNT_LIMIT, serials_used, next_name, is_mine, home_of, lifetime_of, message_to}
+use Rattle.crl_protocol.specs.Lifetimes.{Cached, CacheStep, cache_with, push_out}
+use Rattle.crl_protocol.specs.Node.{Node, COUNT_LIMIT, serials_used, next_name, message_to}
 use Rattle.crl_protocol.specs.Sections.{OpenSection, section_of, section_at}
-use Rattle.crl_protocol.specs.Sectioning.{forgets_over, forgets}
-use Rattle.crl_protocol.specs.Verdict.{of_open, verdict, uses_serial, refuses_call}
-use Rattle.crl_protocol.specs.Calls.{creates, deletes_own, deletes, is_gone, maps_over, maps_cached, unmaps_over, forgets_evicted, results_from, after_own_part, comes, takes_call, call_or_refuse, node_calls}
-use Rattle.crl_protocol.specs.World.{is_call}
+use Rattle.crl_protocol.specs.Verdict.{uses_serial, refuses_call}
+use Rattle.crl_protocol.specs.Calls.{creates, results_from}
 use Rattle.crl_deeds.proofs.Fitting.{by_name, name_self, RecordFits, IsCached}
 use Rattle.crl_deeds.proofs.Tabling.{home_end, home_next, home_none}
-use Rattle.crl_deeds.proofs.Opening.{free}
-use Rattle.crl_deeds.proofs.Outcomes.{asking_of}
-use Rattle.crl_deeds.proofs.Calling.{none_of}
 use Rattle.crl_regions.specs.View.{flying, left_if, left_in}
-use Rattle.crl_regions.proofs.Acts.{Acts, nothing, made, acts_if}
+use Rattle.crl_regions.proofs.Acts.{Acts, nothing, made}
 use Rattle.crl_regions.proofs.Sections.{Local}
 
 -- A create.
@@ -110,4 +101,3 @@ left_none q n why (call.Put name offset len) = refl
 left_none q n why (call.Add name offset) = refl
 left_none q n why (call.Flush name) = refl
 left_none q n why (call.Come part) = refl
-

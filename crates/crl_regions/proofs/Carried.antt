@@ -1,12 +1,12 @@
 -- A message that is carried from box to box.
-use Rattle.std.proofs.Common.{◌≡◌, ℕ, ◌<◌, ◌==◌, nat_lt, Bool, true, false, Some, List, ◌∷◌, ◌++◌, refl, ap, sym, subst, arith}
-use Rattle.std.proofs.lemmas.Bool.{cond_both, cond-true, cond-false, eqb-true, eq-eqb, ne_eqb, ltb-true, ltb-false}
+use Rattle.std.proofs.Common.{◌≡◌, ℕ, ◌<◌, ◌==◌, Some, List, refl, ap, sym, subst}
+use Rattle.std.proofs.lemmas.Bool.{cond_both, cond-true, cond-false, eqb-true, eq-eqb, ne_eqb}
 use Rattle.crl_model.specs.declared.name.Name.{Name}
 use Rattle.crl_model.specs.declared.event.Event.{Event}
 use Rattle.crl_model.specs.declared.message.Message.{Message}
 use Rattle.crl_protocol.specs.Parcels.{Piece}
 use Rattle.crl_model.specs.Names.{at_node}
-use Rattle.crl_protocol.specs.Places.{Took, here, Taken, take_out}
+use Rattle.crl_protocol.specs.Places.{Took, Taken, take_out}
 use Rattle.crl_protocol.specs.Home.{Home}
 use Rattle.crl_protocol.specs.Node.{Node, home_of}
 use Rattle.crl_protocol.specs.World.{World, pieces_in_boxes, boxes_from, note, put_in}
@@ -14,7 +14,7 @@ use Rattle.crl_coherence.specs.Region.{elsewhere}
 use Rattle.crl_regions.specs.View.{side, sight}
 use Rattle.crl_regions.specs.Steps.{GoesOn}
 use Rattle.crl_flight.specs.Flight.{Moves, still, moved}
-use Rattle.crl_regions.proofs.Moves.{boxes, flight_took, flight_same, took_out, took_left, took_right, took_put}
+use Rattle.crl_regions.proofs.Moves.{boxes, flight_took, took_out, took_left, took_right, took_put}
 use Rattle.crl_regions.proofs.Lift.{finish}
 
 -- what holds of each node where one of them has another value

@@ -9,12 +9,11 @@ use Rattle.crl_model.specs.declared.directory.Section.TheVariants as section
 use Rattle.crl_model.specs.Names.{name_eq, at_node}
 use Rattle.crl_protocol.specs.Home.{Home, HomeStep, one_section_less, home_ends_read, home_ends_write, bytes_after}
 use Rattle.crl_protocol.specs.Remote.{Remote, RemoteStep, is_closed, new_remote, remote_ends_read, remote_ends_write, remote_flushes}
-use Rattle.crl_protocol.specs.Node.{Node, Free, is_mine, home_of, with_home, with_remote, letter_messages, mail_messages}
+use Rattle.crl_protocol.specs.Node.{Node, Free, home_of, with_home, with_remote, letter_messages, mail_messages}
 use Rattle.crl_protocol.specs.Sectioning.{closes}
 use Rattle.crl_protocol.specs.World.{is_call}
 use Rattle.crl_protocol.specs.Sections.{Sections, section_at, section_ends, bytes_at, is_writing}
 use Rattle.crl_protocol.specs.Lifetimes.{Mapping}
-use Rattle.crl_protocol.specs.Verdict.{of_end, of_open}
 use Rattle.crl_deeds.proofs.Fitting.{by_name, name_self, NoOwn, Fits}
 use Rattle.crl_deeds.specs.Deeds.{EndsCall, a_read, a_write}
 use Rattle.crl_deeds.proofs.Outcomes.{home_bytes, remote_bytes, queue_of, asking_of, mapped_home, mapped_remote}
@@ -24,8 +23,8 @@ use Rattle.crl_coherence.specs.Region as region
 use Rattle.crl_coherence.specs.Region.{Flying, Region, Happens, at_home, at_remote, IsIdle}
 use Rattle.crl_regions.specs.View.{left_if, left_in}
 use Rattle.crl_regions.proofs.Opened.{ended, read_ended, write_ended, read_left, write_left, flushes_same, noted_ended, ended_other}
-use Rattle.crl_regions.proofs.Acts.{expected, CountFits, Comes, Acts, nothing, acts_if, home_is, home_here, home_there, moved_here, moved_there, forgotten_here}
-use Rattle.crl_regions.proofs.Sections.{Local, idle_of, free_idle, free_asks, away, mine_is, here_is, home_event, side_event, reading_of, writing_of, closed_of}
+use Rattle.crl_regions.proofs.Acts.{expected, CountFits, Comes, Acts, home_is, home_here, home_there, moved_here, moved_there, forgotten_here}
+use Rattle.crl_regions.proofs.Sections.{Local, idle_of, free_idle, free_asks, away, mine_is, here_is, home_event, side_event, reading_of, writing_of}
 
 -- what the end of a section is at the home, and at another node
 abbrev HomeEnds : Name → Home → HomeStep → Option (List ℕ) → Type 0
@@ -109,7 +108,7 @@ end_side K i d n c name w ends lowers r (a_write q0 after v) may e l =
     let here : r.here ≡ section.Writing = here_is i d n name r e l ∙ writing in
     let long = eqb-true _ _ may ∙ size.2 ∙ mapped_remote i d n name r size.0 e size.1 l.fits in
     side_moves K i n (section_ends name n.sections) name r (remote_ends_write after r) (λ b. left_if b None after) refl e l.fits.me other_home (write_left after r ∙ sym (ap ended writing) ∙ sym (noted_ended name n.sections))
-    (subst (λ x. CountFits x) (sym (noted_ended name n.sections) ) (subst (λ x. CountFits (ended x)) (sym writing) tt)) (λ q other. ended_other name q n.sections other) (write_ends after r long).size
+    (subst (λ x. CountFits x) (sym (noted_ended name n.sections)) (subst (λ x. CountFits (ended x)) (sym writing) tt)) (λ q other. ended_other name q n.sections other) (write_ends after r long).size
     (λ g rest at_g sized comes. side_event name.home i r (λ x. remote_ends_write after x) g rest after at_g
     (subst (λ x. Happens name.home g (record (at_remote i (remote_ends_write after (g.remotes i)) x g) { array = after })) (sym comes)
     (region.end_write i after (eqb-false i name.home other_home) (ap (λ (x : Remote). x.here) at_g ∙ here) (long ∙ sized))))

@@ -1,19 +1,14 @@
 -- Each event of a run keeps what holds of all nodes, and is a run of each region's events.
-use Rattle.std.proofs.Common.{◌≡◌, ℕ, ◌<◌, ◌==◌, Bool, true, false, None, Some, Option, List, [], ◌++◌, ◌&&◌, map, length, if◌then◌else◌, refl, ap, sym, ◌∙◌, subst}
+use Rattle.std.proofs.Common.{◌≡◌, ℕ, ◌<◌, true, false, None, Some, Option, List, ◌++◌, ◌&&◌, map, length, if◌then◌else◌, refl, ap, sym, ◌∙◌, subst}
 use Rattle.std.specs.List.{AllByRecursion}
 use Rattle.std.proofs.lemmas.Bool.{cond-true, cond-false, eq-eqb, ne_eqb, and_from}
 use Rattle.crl_model.specs.declared.name.Name.{Name}
 use Rattle.crl_model.specs.declared.call.Call.{Call}
 use Rattle.crl_model.specs.declared.event.Event.{Event}
 use Rattle.crl_model.specs.declared.event.Event.TheVariants as event
-use Rattle.crl_model.specs.declared.message.Told.{Told}
-use Rattle.crl_model.specs.declared.message.Told.TheVariants as told
 use Rattle.crl_model.specs.declared.message.Message.{Message}
-use Rattle.crl_model.specs.declared.message.Kind.{Kind}
-use Rattle.crl_model.specs.declared.message.Kind.TheVariants as kind
-use Rattle.crl_model.specs.Names.{name_eq, at_node}
+use Rattle.crl_model.specs.Names.{at_node}
 use Rattle.crl_protocol.specs.Places.{find_all, Took, here, there, Taken, take_out}
-use Rattle.crl_protocol.specs.Mail.{Mail}
 use Rattle.crl_protocol.specs.Home.{Home, bytes_after}
 use Rattle.crl_protocol.specs.Node.{Node, Outcome, only, Done, is_mine, home_of, Activity, Free, Waiting, Ready}
 use Rattle.crl_protocol.specs.Verdict.{verdict}
@@ -23,7 +18,7 @@ use Rattle.crl_protocol.specs.World.{World, boxes_from, pieces_in_boxes, collect
 use Rattle.crl_deeds.proofs.Fitting as fitting
 use Rattle.crl_deeds.proofs.Fitting.{same_name, seen, OwnFits, Fits}
 use Rattle.crl_pieces.specs.Pieces.{is_missing, is_complete, joined}
-use Rattle.crl_protocol.specs.Parcels.{Piece, PartsGathered, Key, key_eq, key_in, key_of, load_of, with_load, slots_or, at_key, fits_size}
+use Rattle.crl_protocol.specs.Parcels.{Piece, PartsGathered, Key, key_eq, key_of, load_of, with_load, slots_or, at_key, fits_size}
 use Rattle.crl_protocol.specs.Receiving.{size_for, slots_with, gathers_piece, receives_part, receives_as, receives}
 use Rattle.crl_flight.specs.Flight.{Under, posted, IsFlight, messages_of}
 use Rattle.crl_flight.proofs.Laws.{flight_as}

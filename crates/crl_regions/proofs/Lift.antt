@@ -1,5 +1,5 @@
 -- What an outcome of one node does to a region is a run of the region's events.
-use Rattle.std.proofs.Common.{◌≡◌, inl, inr, ℕ, ◌<◌, ◌==◌, None, Some, Option, List, ◌++◌, refl, ap, sym, ◌∙◌, subst}
+use Rattle.std.proofs.Common.{◌≡◌, inl, inr, ℕ, ◌==◌, None, Some, Option, List, ◌++◌, refl, ap, sym, ◌∙◌, subst}
 use Rattle.std.proofs.lemmas.Bool.{cond-true, cond-false, eqb-true, eq-eqb, ne_eqb}
 use Rattle.crl_model.specs.declared.name.Name.{Name}
 use Rattle.crl_model.specs.declared.message.Message.{Message}
@@ -13,7 +13,7 @@ use Rattle.crl_deeds.proofs.Growing.{append_nil}
 use Rattle.crl_coherence.specs.Region.{Flying, Region, Happens, elsewhere, Run, next}
 use Rattle.crl_coherence.proofs.Laws.{same_or}
 use Rattle.crl_regions.specs.View.{flying, side, sight}
-use Rattle.crl_regions.specs.Steps.{IsCarried, GoesOn}
+use Rattle.crl_regions.specs.Steps.{GoesOn}
 use Rattle.crl_flight.specs.Flight.{Moves}
 use Rattle.crl_regions.proofs.Moves.{run_moves}
 use Rattle.crl_regions.proofs.Acts.{Comes, Acts, nothing, home_acts, side_acts, absent, made, home_is}

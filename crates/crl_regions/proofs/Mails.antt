@@ -7,32 +7,20 @@ use Rattle.crl_model.specs.declared.name.Name.{Name}
 use Rattle.crl_model.specs.declared.stage.Stage.{Stage}
 use Rattle.crl_model.specs.declared.stage.Stage.TheVariants as stage
 use Rattle.crl_model.specs.declared.call.Call.{Call}
-use Rattle.crl_model.specs.declared.call.Call.TheVariants as call
-use Rattle.crl_model.specs.declared.call.CallKind.{CallKind}
 use Rattle.crl_model.specs.declared.call.Refusal.{Refusal}
 use Rattle.crl_model.specs.declared.collective.Fold.{Fold}
 use Rattle.crl_model.specs.declared.directory.Section.{Section}
 use Rattle.crl_model.specs.declared.directory.Section.TheVariants as section
 use Rattle.crl_model.specs.declared.message.Told.{Told}
-use Rattle.crl_model.specs.declared.message.Told.TheVariants as told
 use Rattle.crl_model.specs.declared.message.DeleteTold.{DeleteTold}
-use Rattle.crl_model.specs.declared.message.Granted.{Granted}
-use Rattle.crl_model.specs.declared.message.Message.{Message}
 use Rattle.crl_model.specs.declared.message.Kind.{Kind}
 use Rattle.crl_model.specs.declared.message.Kind.TheVariants as kind
-use Rattle.crl_model.specs.Calls.{kind_of}
-use Rattle.crl_model.specs.Names.{name_eq}
 use Rattle.crl_protocol.specs.Mail.{Mail, Ask, Grant, Recall, Yield, Return, Release, Letter, kind_about}
-use Rattle.crl_protocol.specs.Home.{Home, HomeStep, home_starts, home_ends_read, home_ends_write, return_fits, release_fits, one_section_less}
-use Rattle.crl_protocol.specs.Remote.{Copy, Remote, RemoteStep, starts_over, remote_starts, overtakes, recall_in, recall_over, remote_takes_recall, yield_in, yield_over, remote_takes_yield, leaves_over, lowers_over, is_closed, remote_ends_read, remote_ends_write, flushes_over, remote_flushes, grant_fits}
-use Rattle.crl_protocol.specs.Lifetimes.{Mapping, Lifetime, cache_with, cached_size, lifetime_begins_delete, lifetime_takes_purged, members}
-use Rattle.crl_protocol.specs.Gathering.{gathers, awaits}
-use Rattle.crl_protocol.specs.Node.{Node, Outcome, ForSection, ForMap, ForDelete, ForRound, Activity, Free, Waiting, Ready, is_mine, home_of, lifetime_of, message_to, letter_messages, mail_messages, section_opens}
-use Rattle.crl_protocol.specs.Sectioning.{starts_over_remote, starts_over_home, after_serve, after_remote, after_home_end, closes, ends_over_remote, ends_over_home, flushes_remote, forgets_over, forgets}
-use Rattle.crl_protocol.specs.Verdict.{verdict, refuses_call}
-use Rattle.crl_protocol.specs.Calls.{size_of, is_gone, maps_over, maps_cached, unmaps_over, forgets_evicted, after_own_part, results_from, takes_call, call_or_refuse, node_calls}
-use Rattle.crl_protocol.specs.Handlers.{told_by_stage, takes_info, is_queued_in, takes_ask, takes_return, takes_release, takes_grant, takes_call_back, takes_delete_ask, takes_delete_told, purge_over_cache, purge_over, ends_delete_by, after_part_of, takes_result, node_handles}
-use Rattle.crl_protocol.specs.World.{collects}
+use Rattle.crl_protocol.specs.Home.{Home, HomeStep, one_section_less}
+use Rattle.crl_protocol.specs.Remote.{Copy, Remote, RemoteStep, starts_over, remote_starts, overtakes, recall_in, recall_over, remote_takes_recall, yield_in, yield_over, remote_takes_yield, leaves_over, lowers_over, is_closed, remote_ends_read, remote_ends_write, flushes_over, remote_flushes}
+use Rattle.crl_protocol.specs.Node.{Node, Outcome, home_of, lifetime_of, message_to, letter_messages, mail_messages}
+use Rattle.crl_protocol.specs.Calls.{size_of, results_from}
+use Rattle.crl_protocol.specs.Handlers.{told_by_stage, takes_grant}
 use Rattle.crl_deeds.proofs.Fitting.{LiveFits}
 use Rattle.crl_deeds.proofs.Placing.{all_append}
 use Rattle.crl_regions.proofs.NodesExist.{OfHome, ToOther, NodesExist, NodesExistAfter, near_asked, near_returned, near_released, near_starts, near_read, near_write}

@@ -1,36 +1,29 @@
 -- What a message that comes does to each region.
-use Rattle.std.proofs.Common.{◌≡◌, ℕ, ◌-◌, ◌^◌, ◌<◌, ◌==◌, Bool, true, false, None, Some, Option, List, [], ◌∷◌, ◌++◌, if◌then◌else◌, refl, ap, sym, ◌∙◌, subst, arith}
-use Rattle.std.proofs.lemmas.Bool.{cond_both, cond-true, cond-false, eqb-true, eqb-false, eq-eqb, and_parts, ne_eqb}
+use Rattle.std.proofs.Common.{◌≡◌, ℕ, ◌^◌, ◌<◌, ◌==◌, Bool, true, false, None, Some, Option, List, [], ◌∷◌, ◌++◌, if◌then◌else◌, refl, ap, sym, ◌∙◌, subst, arith}
+use Rattle.std.proofs.lemmas.Bool.{cond-true, cond-false, eqb-true, eqb-false, eq-eqb, and_parts, ne_eqb}
 use Rattle.std.proofs.Math.Logic.{◌⊎◌, inl, inr}
 use Rattle.crl_model.specs.declared.name.Name.{Name}
-use Rattle.crl_model.specs.declared.stage.Stage.{Stage}
-use Rattle.crl_model.specs.declared.stage.Stage.TheVariants as stage
-use Rattle.crl_model.specs.declared.collective.Fold.{Fold}
-use Rattle.crl_model.specs.declared.collective.Part.{Part}
 use Rattle.crl_model.specs.declared.directory.Asked.{Asked}
 use Rattle.crl_model.specs.declared.directory.Section.{Section}
 use Rattle.crl_model.specs.declared.directory.Section.TheVariants as section
-use Rattle.crl_model.specs.declared.message.Told.{Told}
-use Rattle.crl_model.specs.declared.message.Told.TheVariants as told
-use Rattle.crl_model.specs.declared.message.DeleteTold.{DeleteTold}
 use Rattle.crl_model.specs.declared.message.Granted.{Granted}
 use Rattle.crl_model.specs.declared.message.Granted.TheVariants.{Shared, Exclusive, Upgrade}
 use Rattle.crl_model.specs.declared.message.Kind.{Kind}
 use Rattle.crl_model.specs.declared.message.Kind.TheVariants as kind
 use Rattle.crl_model.specs.Names.{name_eq, at_node}
-use Rattle.crl_protocol.specs.Places.{find_all, Took}
+use Rattle.crl_protocol.specs.Places.{Took}
 use Rattle.crl_protocol.specs.Mail.{Mail, Ask, Grant, Recall, Yield, Return, Release}
 use Rattle.crl_protocol.specs.Home.{Home, HomeStep, home_takes_ask, home_takes_return, home_takes_release, return_fits, release_fits}
 use Rattle.crl_protocol.specs.Remote.{Remote, RemoteStep, new_remote, remote_takes_grant, remote_takes_recall, remote_takes_yield, grant_fits, asks_to_write, asks_to_read, section_asked}
-use Rattle.crl_protocol.specs.Node.{Node, Outcome, Mapped, Done, ForSection, ForMap, Free, Waiting, Ready, is_mine, home_of, with_home, with_remote, with_mapping, letter_messages, mail_messages}
+use Rattle.crl_protocol.specs.Node.{Node, Outcome, Mapped, Done, ForSection, Waiting, is_mine, home_of, with_home, with_remote, with_mapping, letter_messages, mail_messages}
 use Rattle.crl_protocol.specs.Sections.{section_at, section_begins, is_writing}
 use Rattle.crl_protocol.specs.Sectioning.{copy_bytes}
 use Rattle.crl_protocol.specs.Handlers.{becomes_ready, is_queued_in}
 use Rattle.crl_protocol.specs.Lifetimes.{new_mapping}
-use Rattle.crl_regions.specs.MailFits.{Tables, IsToHome, IsFromHome, FitsTables}
+use Rattle.crl_regions.specs.MailFits.{Tables, IsFromHome, FitsTables}
 use Rattle.crl_deeds.specs.Deeds as deed
 use Rattle.crl_deeds.specs.Deeds.{Hears, opened_at, ask_comes, copy_returns, copy_lowers, CallsBack, wholly, to_share, Idles}
-use Rattle.crl_deeds.proofs.Fitting.{by_name, name_self, same_name, AskingFits, IsMapped, FreshFits, WaitFits, IsCached, CopyFits}
+use Rattle.crl_deeds.proofs.Fitting.{by_name, name_self, AskingFits, IsMapped, WaitFits}
 use Rattle.crl_deeds.proofs.Growing.{append_nil}
 use Rattle.crl_deeds.proofs.Outcomes.{asking_of, home_bytes, remote_bytes}
 use Rattle.crl_deeds.proofs.Serving.{asked_goes, returned_goes, released_goes, recalled_goes, yields_goes}
@@ -38,7 +31,7 @@ use Rattle.crl_coherence.specs.Region as region
 use Rattle.crl_coherence.specs.Region.{Flying, Region, Happens, at_home, at_remote}
 use Rattle.crl_regions.specs.View.{if_about, flown, flying, side}
 use Rattle.crl_regions.proofs.Opened.{begun, Serves, asked_serves, returned_serves, released_serves, recalled_same, yields_same, noted_begun, noted_other}
-use Rattle.crl_regions.proofs.Acts.{expected, CountFits, Comes, Acts, nothing, side_acts, absent, acts_if, acts_sending, home_is, away_none, home_here, home_there, moved_here, moved_there}
+use Rattle.crl_regions.proofs.Acts.{expected, CountFits, Comes, Acts, nothing, side_acts, absent, acts_if, home_is, away_none, home_here, home_there, moved_here, moved_there}
 use Rattle.crl_regions.proofs.Sections.{Local, away, mine_is, here_is, home_event, side_event}
 use Rattle.crl_regions.proofs.Calls.{IsLeft, unmapped_closed}
 

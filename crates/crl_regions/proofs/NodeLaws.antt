@@ -1,50 +1,40 @@
 -- What is known of the nodes of a run and of what comes to them.
-use Rattle.std.proofs.Common.{◌≡◌, ◌≢◌, inl, inr, ℕ, ◌<◌, ◌==◌, Bool, true, false, ◌||◌, None, Some, Option, List, [], ◌∷◌, length, if◌then◌else◌, refl, ap, sym, ◌∙◌, subst}
-use Rattle.std.specs.List.{AllByRecursion}
-use Rattle.std.proofs.lemmas.Bool.{cond-true, cond-false, eqb-true, eqb-false, eq-eqb, ne_eqb}
+use Rattle.std.proofs.Common.{◌≡◌, ◌≢◌, inl, inr, ℕ, ◌<◌, Bool, true, false, ◌||◌, None, Some, Option, List, [], ◌∷◌, length, refl, ap, sym, ◌∙◌, subst}
+use Rattle.std.proofs.lemmas.Bool.{cond-false, ne_eqb}
 use Rattle.crl_model.specs.declared.name.Name.{Name}
 use Rattle.crl_model.specs.declared.event.Event.{Event}
 use Rattle.crl_model.specs.declared.directory.Asked.{Asked}
-use Rattle.crl_model.specs.declared.directory.Section.{Section}
-use Rattle.crl_model.specs.declared.directory.Section.TheVariants as section
 use Rattle.crl_model.specs.declared.message.Granted.{Granted}
-use Rattle.crl_model.specs.declared.message.Granted.TheVariants.{Shared, Exclusive, Upgrade}
 use Rattle.crl_model.specs.declared.message.Message.{Message}
 use Rattle.crl_model.specs.Names.{at_node}
 use Rattle.crl_model.specs.declared.message.Kind.{Kind}
 use Rattle.crl_model.specs.declared.message.Kind.TheVariants as kind
 use Rattle.crl_pieces.specs.Pieces.{is_missing}
 use Rattle.crl_protocol.specs.Places.{Took}
-use Rattle.crl_protocol.specs.Home.{Home, new_home}
-use Rattle.crl_protocol.specs.Remote.{Remote, new_remote, grant_fits}
-use Rattle.crl_protocol.specs.Sections as sections
+use Rattle.crl_protocol.specs.Home.{Home}
+use Rattle.crl_protocol.specs.Remote.{Remote, grant_fits}
 use Rattle.crl_protocol.specs.Node.{Node, Activity, Waiting, ForSection, is_mine, home_of}
 use Rattle.crl_protocol.specs.Handlers.{is_queued}
-use Rattle.crl_protocol.specs.Parcels.{Piece, Key, key_in, key_of, load_of, slots_or}
+use Rattle.crl_protocol.specs.Parcels.{Piece, Key, key_of, load_of, slots_or}
 use Rattle.crl_protocol.specs.World.{World, boxes_from, pieces_in_boxes, new_world, world_of, IsRunFrom}
 use Rattle.crl_deeds.proofs.Fitting.{NoOwn, QueueFits, AskingFits}
 use Rattle.crl_deeds.proofs.Turning.{HeldIn, all_took}
-use Rattle.crl_deeds.proofs.Outcomes.{queue_of, asking_of}
 use Rattle.crl_flight.specs.Flight.{Under, messages_of}
 use Rattle.crl_flight.specs.Coming.{PieceComes, plain, last, gathers, IsNext}
 use Rattle.crl_flight.proofs.Laws.{comes}
-use Rattle.crl_coherence.specs.Coherent.{section_at}
 use Rattle.crl_coherence.proofs.Laws.{writer_alone}
-use Rattle.crl_regions.specs.MailFits.{HasSize, FitsTables, MailFits}
-use Rattle.crl_regions.specs.Steps.{RegionsHold}
+use Rattle.crl_regions.specs.MailFits.{FitsTables, MailFits}
 use Rattle.crl_regions.specs.Reached.{AfterRuns, SectionsAreTheTables, WriteSectionsAreAlone, SizesAreKnown, AskersWait, WaitersAsk, MessagesMeetTests, PiecesAreTakenIn}
 use Rattle.crl_regions.specs.Tests.{MeetsTest, PieceFits}
 use Rattle.crl_regions.specs.View.{side, table_of, tables_of, table_or_blank, view, array_of}
 use Rattle.crl_regions.proofs.Noted.{section_noted, open_table}
 use Rattle.crl_regions.proofs.Addressed.{PlainSent}
 use Rattle.crl_regions.proofs.Asking.{AsksFor, asks_at}
-use Rattle.crl_regions.proofs.AllNodesHold.{AllNodesHold, table_at, passes}
-use Rattle.crl_regions.proofs.Carried.{of_node, node_here}
+use Rattle.crl_regions.proofs.AllNodesHold.{AllNodesHold, passes}
 use Rattle.crl_regions.proofs.Events.{key_passes, box_took}
 use Rattle.crl_regions.proofs.Messages.{Passes, no_grant}
-use Rattle.crl_regions.proofs.Moves.{boxes, flight_took, took_left}
-use Rattle.crl_regions.proofs.Single.{took_message, alone_in, size_known}
-use Rattle.crl_regions.proofs.Runs.{NodesHold, nodes_hold, with_regions, regions_in_runs}
+use Rattle.crl_regions.proofs.Single.{alone_in}
+use Rattle.crl_regions.proofs.Runs.{nodes_hold, with_regions, regions_in_runs}
 
 -- The sections that a node notes are those of the region.
 pub sections_are_tables : AfterRuns SectionsAreTheTables

@@ -1,12 +1,11 @@
 -- What a node notes of a region's section is what the region's tables say, and the bytes there are those of the region.
 use Rattle.std.proofs.Common.{◌≡◌, ◌≢◌, ℕ, ◌==◌, Bool, true, false, None, Some, Option, List, [], if◌then◌else◌, refl, ap, sym, ◌∙◌, subst}
-use Rattle.std.proofs.lemmas.Bool.{cond-true, cond-false, eqb-true, eqb-false, ne_eqb}
+use Rattle.std.proofs.lemmas.Bool.{cond-false, eqb-true, eqb-false, ne_eqb}
 use Rattle.crl_model.specs.declared.name.Name.{Name}
-use Rattle.crl_model.specs.declared.directory.Section.{Section}
 use Rattle.crl_model.specs.declared.directory.Section.TheVariants as section
 use Rattle.crl_model.specs.declared.message.Message.{Message}
-use Rattle.crl_protocol.specs.Home.{Home, new_home}
-use Rattle.crl_protocol.specs.Remote.{Remote, new_remote}
+use Rattle.crl_protocol.specs.Home.{Home}
+use Rattle.crl_protocol.specs.Remote.{Remote}
 use Rattle.crl_protocol.specs.Sections as sections
 use Rattle.crl_protocol.specs.Sectioning.{copy_bytes}
 use Rattle.crl_protocol.specs.Node.{Node, is_mine, home_of}

@@ -1,20 +1,18 @@
 -- The bytes of each open section that a node notes are the region's in the array.
-use Rattle.std.proofs.Common.{◌≡◌, ◌≢◌, ◌⊎◌, inl, inr, ℕ, ◌-◌, ◌<◌, ◌==◌, Bool, true, false, None, Some, Option, List, [], ◌∷◌, ◌++◌, if◌then◌else◌, refl, ap, sym, ◌∙◌, subst}
-use Rattle.std.proofs.lemmas.Bool.{cond_both, cond-true, cond-false, eqb-true, eqb-false, ne_eqb, eq-eqb}
+use Rattle.std.proofs.Common.{◌≡◌, ◌≢◌, ◌⊎◌, inl, inr, ℕ, ◌==◌, Bool, true, false, None, Some, Option, List, if◌then◌else◌, refl, ap, sym, ◌∙◌, subst}
+use Rattle.std.proofs.lemmas.Bool.{cond-true, cond-false}
 use Rattle.crl_model.specs.declared.name.Name.{Name}
 use Rattle.crl_model.specs.declared.call.Call.{Call}
 use Rattle.crl_model.specs.declared.entry.What.{What}
-use Rattle.crl_model.specs.declared.directory.Listing.{Listing}
 use Rattle.crl_model.specs.declared.directory.Section.{Section}
 use Rattle.crl_model.specs.declared.directory.Section.TheVariants as section
-use Rattle.crl_model.specs.Names.{name_eq, at_name, at_node}
-use Rattle.crl_protocol.specs.Places.{at, find_all}
-use Rattle.crl_protocol.specs.Home.{Home, HomeStep, one_section_less}
-use Rattle.crl_protocol.specs.Remote.{Copy, Remote, RemoteStep, is_closed}
+use Rattle.crl_model.specs.Names.{name_eq, at_name}
+use Rattle.crl_protocol.specs.Home.{Home, one_section_less}
+use Rattle.crl_protocol.specs.Remote.{Remote, is_closed}
 use Rattle.crl_protocol.specs.Sections.{OpenSection, Sections, section_of, section_at, section_begins, begins_to_read, ends_over, section_ends}
 use Rattle.crl_protocol.specs.Sectioning.{copy_bytes}
 use Rattle.crl_protocol.specs.Lifetimes.{Mapping}
-use Rattle.crl_protocol.specs.Node.{Node, Outcome, is_mine, home_of, with_home}
+use Rattle.crl_protocol.specs.Node.{Node, Outcome, home_of, with_home}
 use Rattle.crl_protocol.specs.World.{World, WorldStep}
 use Rattle.crl_deeds.proofs.Fitting.{by_name, name_self, RecordFits}
 use Rattle.crl_deeds.proofs.Tabling.{home_put}

@@ -1,6 +1,5 @@
 -- What holds of all nodes holds at the start of a run and after each of its events.
-use Rattle.std.proofs.Common.{◌≡◌, ℕ, zero, suc, ◌+◌, ◌-◌, ◌<◌, ◌==◌, Bool, true, false, None, Some, Option, List, [], ◌∷◌, ◌++◌, if◌then◌else◌, refl, ap, sym, ◌∙◌, subst}
-use Rattle.std.specs.List.{AllByRecursion}
+use Rattle.std.proofs.Common.{◌≡◌, ℕ, zero, suc, ◌+◌, ◌-◌, ◌<◌, ◌==◌, Bool, true, false, None, Some, Option, List, [], ◌∷◌, if◌then◌else◌, refl, ap, sym, ◌∙◌, subst}
 use Rattle.std.proofs.lemmas.Bool.{and_parts, ltb-true}
 use Rattle.std.proofs.lemmas.List.Elements.{All-from_recursion}
 use Rattle.crl_model.specs.declared.name.Name.{Name}
@@ -8,29 +7,26 @@ use Rattle.crl_model.specs.declared.event.Event.{Event}
 use Rattle.crl_model.specs.declared.event.Event.TheVariants as event
 use Rattle.crl_model.specs.declared.message.Message.{Message}
 use Rattle.crl_protocol.specs.Parcels.{Piece}
-use Rattle.crl_flight.specs.Flight.{Moves, still, Under, IsFlight, messages_of}
+use Rattle.crl_flight.specs.Flight.{Moves, still, Under, messages_of}
 use Rattle.crl_flight.proofs.Laws.{flight_as, carried_fly}
-use Rattle.crl_protocol.specs.Places.{at, find_all, Taken, take_out}
+use Rattle.crl_protocol.specs.Places.{at, Taken, take_out}
 use Rattle.crl_protocol.specs.Home.{Home}
 use Rattle.crl_protocol.specs.Remote.{Remote}
 use Rattle.crl_protocol.specs.Sections.{section_at}
 use Rattle.crl_protocol.specs.Node.{new_node, home_of}
 use Rattle.crl_protocol.specs.Chosen.{Running, goes_on as runs_on}
 use Rattle.crl_deeds.specs.Laws.{AreStatements, node_of}
-use Rattle.crl_protocol.specs.World.{World, new_world, world_of, pieces_in_boxes, boxes_from, handles_at, carries, step, is_enabled, IsRunFrom, world_after}
-use Rattle.crl_deeds.proofs.Fitting.{Fits}
-use Rattle.crl_deeds.proofs.Placing.{all_append}
+use Rattle.crl_protocol.specs.World.{World, new_world, world_of, boxes_from, handles_at, carries, step, is_enabled, IsRunFrom, world_after}
 use Rattle.crl_deeds.proofs.Sound.{Sound, sound_start, sound_event}
-use Rattle.crl_coherence.specs.Region.{Run}
 use Rattle.crl_coherence.specs.Coherent.{IsCoherent}
 use Rattle.crl_coherence.proofs.Laws.{runs_kept}
-use Rattle.crl_regions.specs.MailFits.{HasSize, AllMailFits}
+use Rattle.crl_regions.specs.MailFits.{HasSize}
 use Rattle.crl_regions.specs.Reached.{AfterRuns, EventsKeepRegions}
-use Rattle.crl_regions.specs.Steps.{RegionsHold, GoesOn, RegionsGoOn, RegionsStep}
-use Rattle.crl_regions.specs.View.{UnderWay, flying, sight, table_of, tables_of, table_or_blank, view, array_after, array_from, array_of}
+use Rattle.crl_regions.specs.Steps.{RegionsHold, GoesOn, RegionsGoOn}
+use Rattle.crl_regions.specs.View.{sight, table_of, tables_of, table_or_blank, view, array_after, array_from, array_of}
 use Rattle.crl_deeds.proofs.Turning.{Held, HeldOut, all_took, turn_of, turn_count, held_turn}
 use Rattle.crl_regions.proofs.Acts.{expected, CountFits}
-use Rattle.crl_regions.proofs.Addressed.{AddressesAt, PlainSent, Addressed, addressed_local, addressed_start}
+use Rattle.crl_regions.proofs.Addressed.{AddressesAt, PlainSent, addressed_local, addressed_start}
 use Rattle.crl_regions.proofs.Asking.{WaitsAsking}
 use Rattle.crl_regions.proofs.MappedOrCached.{IsMappedOrCached}
 use Rattle.crl_regions.proofs.Moves.{took_out}
@@ -102,9 +98,10 @@ carried_on w drafts later arrays us i place e (Some t) few out k keeps = (later,
 -- what the event leaves of each node
 keeps_after : (w : World) (drafts : ℕ → Name → List ℕ) (arrays : Name → List ℕ) (us : List Under) (e : Event) → is_enabled e w ≡ true → AllNodesHold w drafts arrays us → StepKeeps w (drafts_after w drafts e) (step e w).world
 keeps_after w drafts arrays us e h k =
-    let turn = turn_of w e h in
-    ((sound_event (running_at w drafts) e h (sound_at w drafts arrays us k)).fits,
-    subst (λ c. Held (AddressesAt c) (PlainSent c) (step e w).world) (sym (turn_count w _ turn)) (held_turn (AddressesAt w.count) (PlainSent w.count) w _ turn (addressed_local w.count) k.addressed))
+    let turn = turn_of w e h in (
+      (sound_event (running_at w drafts) e h (sound_at w drafts arrays us k)).fits,
+      subst (λ c. Held (AddressesAt c) (PlainSent c) (step e w).world) (sym (turn_count w _ turn)) (held_turn (AddressesAt w.count) (PlainSent w.count) w _ turn (addressed_local w.count) k.addressed),
+    )
 
 pub event_on : (w : World) (drafts : ℕ → Name → List ℕ) (arrays : Name → List ℕ) (us : List Under) (e : Event) → is_enabled e w ≡ true → AllNodesHold w drafts arrays us → Later w us e arrays
 unfolding step is_enabled

@@ -1,5 +1,5 @@
 -- What a call about sections does to each region.
-use Rattle.std.proofs.Common.{◌≡◌, ℕ, zero, suc, ◌+◌, ◌^◌, ◌<◌, ◌==◌, Bool, true, false, None, Some, Option, List, [], ◌∷◌, if◌then◌else◌, refl, ap, sym, ◌∙◌, subst, arith}
+use Rattle.std.proofs.Common.{◌≡◌, ℕ, zero, suc, ◌+◌, ◌^◌, ◌<◌, ◌==◌, Bool, true, false, None, Some, List, [], ◌∷◌, if◌then◌else◌, refl, ap, sym, ◌∙◌, subst, arith}
 use Rattle.std.proofs.lemmas.Bool.{cond-true, cond-false, eqb-true, eqb-false, ne_eqb}
 use Rattle.std.proofs.Math.Logic.{inl, inr}
 use Rattle.crl_model.specs.declared.name.Name.{Name}
@@ -22,7 +22,7 @@ use Rattle.crl_deeds.proofs.Serving.{HomeGoes, read_goes, write_goes, HomeStarts
 use Rattle.crl_coherence.specs.Region as region
 use Rattle.crl_coherence.specs.Region.{Flying, Region, Happens, at_home, at_remote, IsIdle, MayStart}
 use Rattle.crl_regions.proofs.Opened.{begun, home_begun, side_begun, noted_begun, noted_other}
-use Rattle.crl_regions.proofs.Acts.{expected, CountFits, Comes, Acts, nothing, acts_if, home_is, home_here, home_there, moved_here, moved_there}
+use Rattle.crl_regions.proofs.Acts.{expected, CountFits, Comes, Acts, acts_if, home_is, home_here, home_there, moved_here, moved_there}
 
 -- What holds of node i: besides sizes and asks, the sections that it notes are those of its tables, and what it
 -- has of regions that aren't mapped is cached.

@@ -1,6 +1,5 @@
 -- What holds of all nodes holds after the outcome of one node.
 use Rattle.std.proofs.Common.{◌≡◌, ◌≢◌, ◌⊎◌, inl, inr, ℕ, ◌<◌, ◌==◌, Bool, true, false, None, Some, Option, List, [], ◌∷◌, ◌++◌, map, replicate, refl, ap, sym, ◌∙◌, subst, append_assoc}
-use Rattle.std.specs.List.{AllByRecursion}
 use Rattle.std.proofs.lemmas.Bool.{eqb-true}
 use Rattle.crl_model.specs.declared.name.Name.{Name}
 use Rattle.crl_model.specs.declared.event.Event.{Event}
@@ -22,20 +21,19 @@ use Rattle.crl_deeds.proofs.Growing.{append_nil}
 use Rattle.crl_deeds.proofs.Placing.{all_append}
 use Rattle.crl_protocol.specs.Parcels.{Piece, Key, PartsGathered, pieces_in}
 use Rattle.crl_flight.specs.Flight.{Under, posted, IsFlight, messages_of}
-use Rattle.crl_flight.proofs.Laws.{moves_then, moves_before}
 use Rattle.crl_flight.proofs.Laws.{posts_fly, messages_posted, flight_as}
 use Rattle.crl_coherence.specs.Region.{Flying}
 use Rattle.crl_coherence.specs.Coherent.{IsCoherent, created}
 use Rattle.crl_coherence.proofs.Laws.{picks-append, same_or, took_nothing, picked_none}
 use Rattle.crl_coherence.proofs.Laws.{runs_kept, created_kept}
-use Rattle.crl_regions.specs.View.{UnderWay, if_about, mail_in, other_end, flown, flying, side, sight, table_of, tables_of}
+use Rattle.crl_regions.specs.View.{if_about, mail_in, other_end, flown, flying, side, sight, table_of, tables_of}
 use Rattle.crl_flight.specs.Flight.{Moves, still, moved}
-use Rattle.crl_regions.proofs.Moves.{moves_past, boxes, flight_more}
+use Rattle.crl_regions.proofs.Moves.{boxes, flight_more}
 use Rattle.crl_regions.proofs.Acts.{expected, CountFits, Comes, Acts, nothing, home_acts, side_acts, absent, made}
 use Rattle.crl_regions.proofs.Sections.{away}
 use Rattle.crl_regions.proofs.MappedOrCached.{IsMappedOrCached}
 use Rattle.crl_regions.proofs.Addressed.{Addressed, NodesExistIf}
-use Rattle.crl_regions.specs.MailFits.{Tables, HasTable, HasSize, ToldFits, FitsTables, MailFits, AllMailFits}
+use Rattle.crl_regions.specs.MailFits.{Tables, HasTable, ToldFits, FitsTables, MailFits, AllMailFits}
 use Rattle.crl_deeds.proofs.Turning.{Frame}
 use Rattle.crl_regions.proofs.Asking.{WaitsAsking}
 use Rattle.crl_regions.proofs.Mails.{Sends}
