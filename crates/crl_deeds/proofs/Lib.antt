@@ -1,32 +1,7 @@
-pub mod Allowing
-pub mod Answering
-pub mod Bounding
-pub mod Calling
-pub mod Counting
-pub mod Deeding
-pub mod Deciding
-pub mod Enabling
-pub mod Entering
-pub mod Entried
-pub mod Erasing
-pub mod Fitting
-pub mod Following
-pub mod Growing
-pub mod Handling
-pub mod Hearing
-pub mod Informing
-pub mod Keeping
-pub mod Knowing
-pub mod Mapping
-pub mod Obeying
-pub mod Opening
-pub mod Outcomes
-pub mod Placing
-pub mod Serving
-pub mod Sound
-pub mod Spans
-pub mod Tabling
-pub mod Totals
-pub mod Touching
-pub mod Turning
-pub mod Wording
+pub mod Laws
+mod Cases
+mod Chosen
+mod Counts
+mod Fits
+mod Runs
+mod Tokens

@@ -4,22 +4,16 @@ use Rattle.std.specs.Prelude.{◌≡◌, ℕ, ◌<◌, ◌==◌, Bool, true, fal
 use Rattle.std.specs.List.{All}
 use Rattle.std.specs.declared.option.Option.{Option}
 use Rattle.std.specs.declared.option.Option.TheVariants.{None, Some}
-use Rattle.crl_model.specs.declared.name.Name.{Name}
 use Rattle.crl_model.specs.declared.call.Call.{Call}
 use Rattle.crl_model.specs.declared.call.Call.TheVariants as call
-use Rattle.crl_model.specs.declared.entry.Entry.{Entry}
-use Rattle.crl_model.specs.declared.entry.What.{What}
-use Rattle.crl_model.specs.declared.entry.What.TheVariants as what
 use Rattle.crl_model.specs.declared.event.Event.{Event}
 use Rattle.crl_model.specs.declared.event.Event.TheVariants as event
-use Rattle.crl_model.specs.declared.message.Kind.{Kind}
-use Rattle.crl_model.specs.declared.message.Kind.TheVariants as kind
 use Rattle.crl_model.specs.declared.statement.Statement.{Statement}
 use Rattle.crl_model.specs.declared.statement.Statement.TheVariants as statement
 use Rattle.crl_protocol.specs.Parcels.{Piece}
 use Rattle.crl_protocol.specs.Places.{Taken, take_out}
 use Rattle.crl_protocol.specs.Node.{Free}
-use Rattle.crl_protocol.specs.Verdict.{verdict, word_of}
+use Rattle.crl_protocol.specs.Verdict.{verdict}
 use Rattle.crl_protocol.specs.World.{World, is_enabled}
 use Rattle.crl_protocol.specs.Chosen.{Running, goes_on, with_actor, after_change, is_change, is_allowed, call_of}
 
@@ -33,59 +27,6 @@ touches (event.Call i c) w m = i == m
 touches (event.Collect i) w m = i == m
 touches (event.Handle i place) w m = i == m
 touches (event.Carry i place) w m = (i == m) || goes_to m (take_out place (w.nodes i).outbox)
-
--- The entries that are decided where a node makes a call: those of this call.
-abbrev pub IsOfCall : Call → What → Type 0
-IsOfCall (call.Create size) (what.Create name n) = n ≡ size
-IsOfCall (call.Delete q) (what.Deleting name) = name ≡ q
-IsOfCall (call.Delete q) (what.Deleted name) = name ≡ q
-IsOfCall (call.Map q) (what.Map name size) = name ≡ q
-IsOfCall (call.Unmap q) (what.Unmap name) = name ≡ q
-IsOfCall (call.StartRead q) (what.StartRead name) = name ≡ q
-IsOfCall (call.EndRead q) (what.Read name seen) = name ≡ q
-IsOfCall (call.StartWrite q) (what.StartWrite name) = name ≡ q
-IsOfCall (call.EndWrite q bytes) (what.Write name before after) = (name ≡ q) × (after ≡ bytes)
-IsOfCall (call.Flush q) (what.Flush name) = name ≡ q
-IsOfCall (call.Come p) (what.Come part) = part ≡ p
-IsOfCall (call.Come p) (what.Came round fold) = Unit {0}
-IsOfCall c (what.Refused kind place why) = kind ≡ word_of c
-IsOfCall _ _ = ⊥
-
--- a section of the region that opens, and the result of a round
-abbrev pub IsStart : Name → What → Type 0
-IsStart q (what.StartRead name) = name ≡ q
-IsStart q (what.StartWrite name) = name ≡ q
-IsStart q _ = ⊥
-
-abbrev pub IsResult : What → Type 0
-IsResult (what.Came round fold) = Unit {0}
-IsResult (what.Refused kind place why) = Unit {0}
-IsResult _ = ⊥
-
--- The entries that are decided where a node handles a message: a map and a delete at the home, for the node
--- that asked; a section where its copy comes, or at the home with the message that let it open; the end of a
--- delete with the last answer; the result of a round where the node learns it.
-abbrev pub IsOfMessage : ℕ → ℕ → Kind → Entry → Type 0
-IsOfMessage me from (kind.InfoAsk q) e = (e.node ≡ from) × IsOfCall (call.Map q) e.what
-IsOfMessage me from (kind.Ask q write have) e = (e.node ≡ me) × IsStart q e.what
-IsOfMessage me from (kind.Grant q version granted) e = (e.node ≡ me) × IsStart q e.what
-IsOfMessage me from (kind.Return q version bytes) e = (e.node ≡ me) × IsStart q e.what
-IsOfMessage me from (kind.Release q version bytes) e = (e.node ≡ me) × IsStart q e.what
-IsOfMessage me from (kind.DeleteAsk q) e = (e.node ≡ from) × IsOfCall (call.Delete q) e.what
-IsOfMessage me from (kind.Purged q) e = e.what ≡ what.Deleted q
-IsOfMessage me from (kind.Come round part) e = (e.node ≡ me) × IsResult e.what
-IsOfMessage me from (kind.Result round fold) e = (e.node ≡ me) × IsResult e.what
-IsOfMessage me from _ e = ⊥
-
-abbrev pub IsOfTaken : ℕ → Option (Taken Piece) → Entry → Type 0
-IsOfTaken me None e = ⊥
-IsOfTaken me (Some t) e = IsOfMessage me t.taken.message.sender t.taken.message.kind e
-
-abbrev pub IsDecided : Event → World → Entry → Type 0
-IsDecided (event.Call i c) w e = (e.node ≡ (w.nodes i).me) × IsOfCall c e.what
-IsDecided (event.Collect i) w e = ⊥
-IsDecided (event.Handle i place) w e = IsOfTaken (w.nodes i).me (take_out place (w.nodes i).inbox) e
-IsDecided (event.Carry i place) w e = ⊥
 
 -- A run follows a script: each node's calls are its statements in order, the changes inside write sections
 -- left out, and the answers and messages come in any order in which they may.

@@ -2,4 +2,6 @@
 //! from it for every run. There is no code here but empty functions, whose contracts are the laws.
 #![tactic(auto)]
 
+pub mod deeds;
+pub mod facts;
 pub mod theorems;

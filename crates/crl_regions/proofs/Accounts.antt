@@ -27,13 +27,12 @@ use Rattle.crl_protocol.specs.Verdict.{verdict, refuses_call}
 use Rattle.crl_protocol.specs.Calls.{result_of, call_or_refuse, node_calls}
 use Rattle.crl_protocol.specs.Handlers.{node_handles}
 use Rattle.crl_protocol.specs.World.{World, new_world, collects, handles_at, carries, step, account_from, account}
-use Rattle.crl_deeds.proofs.Deeding.{call_deed}
-use Rattle.crl_deeds.proofs.Hearing.{message_deed}
 use Rattle.crl_deeds.specs.Deeds.{Cause, Calls, Hears, Idles, to_read, to_write, a_read, a_write, Copies, Lives, Rounds, Notes, Deed, copies, lives, rounds, notes, refuses, idles, home_opens, home_waits, side_opens, side_waits, home_ends, side_ends, side_flushes, home_serves, home_serves_own, grant_comes, side_called, made, used_up, comes_last, part_last, result_comes, ends_nowhere, flushes_own, flushes_nowhere}
 use Rattle.crl_machine.specs.SingleMachine.{State, start, change, after_all}
 use Rattle.crl_regions.specs.View.{left_if, left_in, array_after, array_from, array_of}
 use Rattle.crl_regions.proofs.Calls.{left_none}
 use Rattle.crl_regions.proofs.RegionDeeds.{left_of}
+use Rattle.crl_deeds.proofs.Laws.{call_deed, message_deed}
 
 -- what these entries leave of each region's bytes is what the step says
 abbrev Leaves : Node → Cause → List Entry → Type 0

@@ -19,14 +19,12 @@ use Rattle.crl_protocol.specs.Calls.{creates, results_from}
 use Rattle.crl_protocol.specs.Handlers.{purges_waiting}
 use Rattle.crl_protocol.specs.Parcels.{with_load}
 use Rattle.crl_protocol.specs.World.{World, new_world}
-use Rattle.crl_deeds.proofs.Fitting.{by_name}
-use Rattle.crl_deeds.proofs.Tabling.{home_put, home_end, home_none}
-use Rattle.crl_deeds.proofs.Placing.{all_append}
 use Rattle.crl_deeds.specs.Deeds.{Cause, Calls, Hears, parting, EndsCall, a_read, a_write, Serves, ask_comes, copy_returns, copy_lowers, Copies, Lives, Rounds, Notes, Deed, copies, lives, rounds, notes, home_opens, home_waits, side_opens, side_waits, home_ends, side_ends, side_flushes, home_serves, home_serves_own, grant_comes, side_called, made, used_up, map_asks, map_told, map_refused, map_comes, map_denied, unmaps_doomed, unmaps_evicting, deletes_own, deletes_for, delete_asks, deletes_alone_for, delete_refused, delete_comes, dooms, drops, warns, ends_own, ends_for, comes_away, comes_last, part_comes, part_last, part_last_idle, flushes_own}
-use Rattle.crl_deeds.proofs.Turning.{Came, Local, Held}
-use Rattle.crl_deeds.proofs.Counting.{Plain, Counted, GoingFew, counted_local, counted_start}
 use Rattle.crl_regions.specs.Addresses.{GoesToOther}
 use Rattle.crl_regions.proofs.NodesExist.{ToOther, NodesExist, NodesExistAfter, near_asked, near_returned, near_released, near_starts, near_read, near_write, near_new}
+use Rattle.crl_deeds.proofs.Laws.{by_name, home_put, home_end, home_none, all_append, counted_local, counted_start}
+use Rattle.crl_deeds.specs.Turns.{Came, Local, Held}
+use Rattle.crl_deeds.specs.Counts.{Plain, Counted, GoingFew}
 
 -- a part of a round goes to node 0
 abbrev ToRoot : ℕ → Kind → Type 0

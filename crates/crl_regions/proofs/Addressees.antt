@@ -5,8 +5,6 @@ use Rattle.crl_model.specs.declared.message.Message.{Message}
 use Rattle.crl_pieces.specs.Pieces.{Cell, left_from}
 use Rattle.crl_protocol.specs.Parcels.{Piece, piece_of}
 use Rattle.crl_protocol.specs.World.{World, world_of, boxes_from}
-use Rattle.crl_deeds.proofs.Placing.{all_append}
-use Rattle.crl_deeds.proofs.Turning.{HeldIn, HeldOut, all_took}
 use Rattle.crl_protocol.specs.Places.{Took, here, there}
 use Rattle.crl_flight.specs.Flight.{Moves, still, moved, Under, left_of, lefts, IsUnder, IsFlight, messages_of}
 use Rattle.crl_flight.proofs.Laws.{none_boxed}
@@ -14,6 +12,8 @@ use Rattle.crl_regions.specs.Addresses.{GoesToOther}
 use Rattle.crl_regions.specs.Reached.{AfterRuns, PiecesGoToOthers, MessagesGoToOthers, EmptyBoxesAreQuiet}
 use Rattle.crl_regions.proofs.Addressed.{PlainSent, Addressed}
 use Rattle.crl_regions.proofs.Runs.{nodes_hold}
+use Rattle.crl_deeds.proofs.Laws.{all_append, all_took}
+use Rattle.crl_deeds.specs.Turns.{HeldIn, HeldOut}
 
 abbrev ToOther : ℕ → Piece → Type 0
 ToOther count p = GoesToOther count p.message

@@ -15,10 +15,10 @@ use Rattle.crl_protocol.specs.Home.{Home, HomeStep, is_servable, open_own, grant
 use Rattle.crl_protocol.specs.Remote.{Copy, Remote, RemoteStep, starts_over, remote_starts, is_newer, notes_due, overtakes, recall_in, recall_over, remote_takes_recall, yield_in, yield_over, remote_takes_yield}
 use Rattle.crl_protocol.specs.Node.{Node, Outcome, ForSection, ForMap, ForDelete, ForRound, Activity, Free, Waiting, Ready, is_mine, home_of, with_home}
 use Rattle.crl_protocol.specs.Handlers.{is_queued, purges_waiting}
-use Rattle.crl_deeds.proofs.Fitting.{by_name, name_self, IsMapped, WaitFits}
-use Rattle.crl_deeds.proofs.Tabling.{home_put}
 use Rattle.crl_deeds.specs.Deeds.{FreeIf, Cause, Serves, ask_comes, copy_returns, copy_lowers, CallsBack, wholly, to_share, Copies, Lives, Rounds, Notes, Deed, copies, lives, rounds, notes, home_opens, home_waits, side_opens, side_waits, home_ends, side_ends, side_flushes, home_serves, home_serves_own, grant_comes, side_called, made, used_up, map_asks, map_comes, map_denied, unmaps_doomed, unmaps_evicting, deletes_own, delete_asks, delete_comes, drops, warns, ends_own, comes_last, part_comes, part_last_idle, flushes_own}
 use Rattle.crl_regions.proofs.Sections.{Local}
+use Rattle.crl_deeds.proofs.Laws.{by_name, name_self, home_put}
+use Rattle.crl_deeds.specs.NodeFacts.{IsMapped, WaitFits}
 
 abbrev pub AsksFor : ℕ → Option Home → Option Remote → Type 0
 AsksFor me (Some h) r = is_queued me h.queue ≡ true
@@ -165,22 +165,22 @@ asks_copies n cause o (home_serves_own from k name h s is e x) free a = tt
 asks_copies n cause o (grant_comes from name version g r e t) free a = tt
 asks_copies n cause o (side_called from k name r s is e) free a = asks_if n o.node n.activity a (λ q waits asks. side_changed n name r s.remote e (back_ask r k name s is) q asks)
 
-asks_lives : (i : ℕ) (d : Name → List ℕ) (n : Node) (cause : Cause) (o : Outcome) → Lives n cause o → FreeIf cause n → Local i d n → WaitsAsking n → WaitsAsking o.node
-asks_lives i d n cause o (made size e) free l a = asks_free o.node n.activity free
-asks_lives i d n cause o (used_up size why e x) free l a = asks_free o.node n.activity free
-asks_lives i d n cause o (map_asks name e other c real) free l a = tt
-asks_lives i d n cause o (map_comes from name purged size e) free l a = tt
-asks_lives i d n cause o (map_denied from name purged s why t dt u e) free l a = tt
-asks_lives i d n cause o (unmaps_doomed name m e one other doomed closed) free l a = asks_free o.node n.activity free
-asks_lives i d n cause o (unmaps_evicting name m old e one other sound closed kept) free l a = asks_free o.node n.activity free
-asks_lives i d n cause o (deletes_own name m ms mine live e) free l a = tt
-asks_lives i d n cause o (delete_asks name other real) free l a = tt
-asks_lives i d n cause o (delete_comes from name dt e) free l a = tt
-asks_lives i d n cause o (drops from name size e c) free l a =
+asks_lives : (i : ℕ) (n : Node) (cause : Cause) (o : Outcome) → Lives n cause o → FreeIf cause n → Local i n → WaitsAsking n → WaitsAsking o.node
+asks_lives i n cause o (made size e) free l a = asks_free o.node n.activity free
+asks_lives i n cause o (used_up size why e x) free l a = asks_free o.node n.activity free
+asks_lives i n cause o (map_asks name e other c real) free l a = tt
+asks_lives i n cause o (map_comes from name purged size e) free l a = tt
+asks_lives i n cause o (map_denied from name purged s why t dt u e) free l a = tt
+asks_lives i n cause o (unmaps_doomed name m e one other doomed closed) free l a = asks_free o.node n.activity free
+asks_lives i n cause o (unmaps_evicting name m old e one other sound closed kept) free l a = asks_free o.node n.activity free
+asks_lives i n cause o (deletes_own name m ms mine live e) free l a = tt
+asks_lives i n cause o (delete_asks name other real) free l a = tt
+asks_lives i n cause o (delete_comes from name dt e) free l a = tt
+asks_lives i n cause o (drops from name size e c) free l a =
     asks_if n o.node n.activity a
     (λ q waits. by_name name (λ b p. (p ≡ q) → AsksAt n p → AsksFor n.me (home_of n p) (if b then None else n.remotes p))
     (λ same asks. absurd (subst (λ m. IsMapped m) e (subst (λ x. WaitFits name x (is_mine n name) (n.maps name)) waits (l.fits.each name).waiting (sym same)))) (λ p other same asks. asks) q refl)
-asks_lives i d n cause o (warns from name e c) free l a = warned n.activity a
+asks_lives i n cause o (warns from name e c) free l a = warned n.activity a
   where
     warned : (x : Activity) → AsksIf n x → AsksIf o.node (purges_waiting name x)
     warned (Waiting (ForSection q)) h = h
@@ -189,8 +189,8 @@ asks_lives i d n cause o (warns from name e c) free l a = warned n.activity a
     warned (Waiting (ForRound round k)) h = tt
     warned Free h = tt
     warned (Ready answer) h = tt
-asks_lives i d n cause o (ends_own from name mine e missing last) free l a = tt
-asks_lives i d n cause o _ free l a = a
+asks_lives i n cause o (ends_own from name mine e missing last) free l a = tt
+asks_lives i n cause o _ free l a = a
 
 asks_rounds : (n : Node) (cause : Cause) (o : Outcome) → Rounds n cause o → WaitsAsking n → WaitsAsking o.node
 asks_rounds n cause o (comes_last part parts first fits all) a = a
@@ -202,9 +202,9 @@ asks_notes : (n : Node) (c : Call) (w : What) (m : Node) → Notes n c w m → W
 asks_notes n c w m (flushes_own name mine closed) a = a
 asks_notes n c w m _ a = a
 
-pub asks_deed : (i : ℕ) (d : Name → List ℕ) (n : Node) (cause : Cause) (o : Outcome) → Deed n cause o → FreeIf cause n → Local i d n → WaitsAsking n → WaitsAsking o.node
-asks_deed i d n cause o (copies c) free l a = asks_copies n cause o c free a
-asks_deed i d n cause o (lives c) free l a = asks_lives i d n cause o c free l a
-asks_deed i d n cause o (rounds c) free l a = asks_rounds n cause o c a
-asks_deed i d n cause o (notes c) free l a = asks_notes n _ _ _ c a
-asks_deed i d n cause o _ free l a = a
+pub asks_deed : (i : ℕ) (n : Node) (cause : Cause) (o : Outcome) → Deed n cause o → FreeIf cause n → Local i n → WaitsAsking n → WaitsAsking o.node
+asks_deed i n cause o (copies c) free l a = asks_copies n cause o c free a
+asks_deed i n cause o (lives c) free l a = asks_lives i n cause o c free l a
+asks_deed i n cause o (rounds c) free l a = asks_rounds n cause o c a
+asks_deed i n cause o (notes c) free l a = asks_notes n _ _ _ c a
+asks_deed i n cause o _ free l a = a

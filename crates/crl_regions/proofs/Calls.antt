@@ -18,11 +18,11 @@ use Rattle.crl_protocol.specs.Node.{Node, COUNT_LIMIT, serials_used, next_name, 
 use Rattle.crl_protocol.specs.Sections.{OpenSection, section_of, section_at}
 use Rattle.crl_protocol.specs.Verdict.{uses_serial, refuses_call}
 use Rattle.crl_protocol.specs.Calls.{creates, results_from}
-use Rattle.crl_deeds.proofs.Fitting.{by_name, name_self, RecordFits, IsCached}
-use Rattle.crl_deeds.proofs.Tabling.{home_end, home_next, home_none}
 use Rattle.crl_regions.specs.View.{flying, left_if, left_in}
 use Rattle.crl_regions.proofs.Acts.{Acts, nothing, made}
 use Rattle.crl_regions.proofs.Sections.{Local}
+use Rattle.crl_deeds.proofs.Laws.{by_name, name_self, home_end, home_next, home_none}
+use Rattle.crl_deeds.specs.NodeFacts.{RecordFits, IsCached}
 
 -- A create.
 pub acts_create : (K : Name → ℕ → Type 0) (i size : ℕ) (n : Node) → n.me ≡ i → (q : Name) → let o = creates size n in Acts K q i None (left_if (name_eq (next_name n) q) None (replicate size 0)) n o.node o.posts
@@ -48,8 +48,8 @@ no_record : (o : Option OpenSection) → RecordFits o None → section_of o ≡ 
 no_record None f = refl
 no_record (Some r) f = absurd f
 
-pub unmapped_closed : (i : ℕ) (d : Name → List ℕ) (n : Node) (name : Name) → n.maps name ≡ None → Local i d n → section_at name n.sections ≡ section.Closed
-unmapped_closed i d n name e l = no_record (n.sections.records name) (subst (λ m. RecordFits (n.sections.records name) m) e (l.fits.each name).sections)
+pub unmapped_closed : (i : ℕ) (n : Node) (name : Name) → n.maps name ≡ None → Local i n → section_at name n.sections ≡ section.Closed
+unmapped_closed i n name e l = no_record (n.sections.records name) (subst (λ m. RecordFits (n.sections.records name) m) e (l.fits.each name).sections)
 
 -- what the cache gives up is what is put in, or was there
 abbrev pub FromCache : Cached → List Cached → CacheStep → Type 0

@@ -15,8 +15,6 @@ use Rattle.crl_protocol.specs.Verdict.{verdict}
 use Rattle.crl_protocol.specs.Calls.{node_calls}
 use Rattle.crl_protocol.specs.Handlers.{node_handles}
 use Rattle.crl_protocol.specs.World.{World, boxes_from, pieces_in_boxes, collects, steps_node, is_free, is_call}
-use Rattle.crl_deeds.proofs.Fitting as fitting
-use Rattle.crl_deeds.proofs.Fitting.{same_name, seen, OwnFits, Fits}
 use Rattle.crl_pieces.specs.Pieces.{is_missing, is_complete, joined}
 use Rattle.crl_protocol.specs.Parcels.{Piece, PartsGathered, Key, key_eq, key_of, load_of, with_load, slots_or, at_key, fits_size}
 use Rattle.crl_protocol.specs.Receiving.{size_for, slots_with, gathers_piece, receives_part, receives_as, receives}
@@ -30,9 +28,6 @@ use Rattle.crl_coherence.specs.Region.{Flying, elsewhere}
 use Rattle.crl_coherence.specs.Coherent.{created}
 use Rattle.crl_coherence.proofs.Laws.{took_some, took_none}
 use Rattle.crl_deeds.specs.Deeds.{Calls, Hears, Deed}
-use Rattle.crl_deeds.proofs.Deeding.{call_deed}
-use Rattle.crl_deeds.proofs.Hearing.{message_deed}
-use Rattle.crl_deeds.proofs.Turning.{Frame, deed_frame, HeldIn}
 use Rattle.crl_regions.specs.View.{UnderWay, flying, sight, table_of, tables_of, left_by, array_after}
 use Rattle.crl_regions.specs.MailFits.{Tables, FitsTables, MailFits, AllMailFits}
 use Rattle.crl_regions.specs.Steps.{GoesOn}
@@ -48,30 +43,33 @@ use Rattle.crl_regions.proofs.Addressed.{PlainSent, Addressed}
 use Rattle.crl_regions.proofs.Carried.{of_node, node_here, node_there}
 use Rattle.crl_regions.proofs.AllNodesHold.{AllNodesHold, local, passes}
 use Rattle.crl_regions.proofs.Steps.{StepFits, whole_stepped}
+use Rattle.crl_deeds.proofs.Laws.{call_deed, message_deed, deed_frame}
+use Rattle.crl_deeds.specs.NodeFacts.{seen, OwnFits, Fits, ComesIn}
+use Rattle.crl_deeds.specs.Turns.{Frame, HeldIn}
 
 -- what is known of all nodes after an event, and what the event was of a region that was there, and of one that wasn't
-pub record GoneOn (w v : World) (us : List Under) (later : ℕ → Name → List ℕ) (arrays left : Name → List ℕ) : Type 0 where
+pub record GoneOn (w v : World) (us : List Under) (arrays left : Name → List ℕ) : Type 0 where
   pub under : List Under
-  pub whole : AllNodesHold v later left under
+  pub whole : AllNodesHold v left under
   pub went : (q : Name) (h : Home) → table_of q w ≡ Some h → (k : Home) × (table_of q v ≡ Some k) × (k.size ≡ h.size) × GoesOn q.home (sight q h w.nodes (messages_of us) (arrays q)) (sight q k v.nodes (messages_of under) (left q))
   pub made : (q : Name) (h : Home) → table_of q w ≡ None → table_of q v ≡ Some h → (size : ℕ) × (created w.count size (λ j. size) ≡ sight q h v.nodes (messages_of under) (left q))
 
-of_outcome : (w : World) (drafts later : ℕ → Name → List ℕ) (arrays : Name → List ℕ) (i : ℕ) (e : Event) (inbox : List Piece) (parcels : PartsGathered) (us left : List Under) (o : Outcome) (came : Name → Option Flying) (written : Name → Option (List ℕ))
-    → AllNodesHold w drafts arrays us → StepFits w later i e inbox parcels us left o came written → GoneOn w (steps_node i e o w).world us later arrays (λ q. bytes_after (written q) (arrays q))
-of_outcome w drafts later arrays i e inbox parcels us left o came written k x =
-    let both = whole_stepped w drafts later arrays i e inbox parcels us left o came written k x in
+of_outcome : (w : World) (arrays : Name → List ℕ) (i : ℕ) (e : Event) (inbox : List Piece) (parcels : PartsGathered) (us left : List Under) (o : Outcome) (came : Name → Option Flying) (written : Name → Option (List ℕ))
+    → AllNodesHold w arrays us → StepFits w i e inbox parcels us left o came written → GoneOn w (steps_node i e o w).world us arrays (λ q. bytes_after (written q) (arrays q))
+of_outcome w arrays i e inbox parcels us left o came written k x =
+    let both = whole_stepped w arrays i e inbox parcels us left o came written k x in
     record { under = left ++ map posted o.posts; whole = both.0; went = λ q h there. let l = both.1 q h there in (l.home, l.there, l.size, l.goes_on); made = both.2 }
 
-pub nothing_on : (w : World) (drafts : ℕ → Name → List ℕ) (arrays : Name → List ℕ) (us : List Under) → AllNodesHold w drafts arrays us → GoneOn w w us drafts arrays arrays
-nothing_on w drafts arrays us k = record { under = us; whole = k; went = λ q h there. (h, there, refl, finish q.home _ _ _ elsewhere refl (λ j. refl) refl still); made = λ q h none there. absurd (cc) }
+pub nothing_on : (w : World) (arrays : Name → List ℕ) (us : List Under) → AllNodesHold w arrays us → GoneOn w w us arrays arrays
+nothing_on w arrays us k = record { under = us; whole = k; went = λ q h there. (h, there, refl, finish q.home _ _ _ elsewhere refl (λ j. refl) refl still); made = λ q h none there. absurd (cc) }
 
 pub is_freed : (a : Activity) → is_free a ≡ true → a ≡ Free
 is_freed Free e = refl
 is_freed (Waiting awaited) e = cc
 is_freed (Ready answer) e = cc
 
-own_nothing : (i : ℕ) (d : Name → List ℕ) (n : Node) → Fits i n d → (name : Name) → is_mine n name ≡ true → n.remotes name ≡ None
-own_nothing i d n f name mine = let own = subst (λ b. OwnFits b (seen n d name)) mine (f.each name).own in own.nothing
+own_nothing : (i : ℕ) (n : Node) → Fits i n → (name : Name) → is_mine n name ≡ true → n.remotes name ≡ None
+own_nothing i n f name mine = let own = subst (λ b. OwnFits b (seen n name)) mine (f.each name).own in own.nothing
 
 -- the boxes where no message is taken out
 stays_flying : (w : World) (i : ℕ) (us : List Under) → UnderWay w us → IsFlight us (boxes_from 0 w.count (at_node w.nodes i (w.nodes i))) (λ j. (at_node w.nodes i (w.nodes i) j).parcels)
@@ -81,21 +79,21 @@ stays_flying w i us f =
     (subst (λ b. IsFlight us b (λ j. (w.nodes j).parcels)) (flight_same w.count w.nodes (at_node w.nodes i (w.nodes i)) (λ l few. sym (of_node w.nodes i (w.nodes i) (λ j n. boxes n ≡ boxes (w.nodes j)) refl (λ j other. refl) l))) f)
 
 -- Node i takes a step from n on: what holds of each node by itself.
-abbrev pub StepKeeps : World → (ℕ → Name → List ℕ) → World → Type 0
-StepKeeps w later v = ((j : ℕ) → Fits j (v.nodes j) (later j)) × Addressed v
+abbrev pub StepKeeps : World → Type 0
+StepKeeps v = ((j : ℕ) → Fits j (v.nodes j)) × Addressed v
 
-pub call_on : (w : World) (drafts later : ℕ → Name → List ℕ) (arrays : Name → List ℕ) (us : List Under) (i : ℕ) (e : Event) (c : Call) → i < w.count → (w.nodes i).activity ≡ Free → is_call (w.nodes i) c (verdict (w.nodes i) c) ≡ true → AllNodesHold w drafts arrays us
-    → StepKeeps w later (steps_node i e (node_calls c (w.nodes i)) w).world → GoneOn w (steps_node i e (node_calls c (w.nodes i)) w).world us later arrays (λ q. array_after q (event.Call i c) w (arrays q))
-call_on w drafts later arrays us i e c few free may k keeps =
+pub call_on : (w : World) (arrays : Name → List ℕ) (us : List Under) (i : ℕ) (e : Event) (c : Call) → i < w.count → (w.nodes i).activity ≡ Free → is_call (w.nodes i) c (verdict (w.nodes i) c) ≡ true → AllNodesHold w arrays us
+    → StepKeeps (steps_node i e (node_calls c (w.nodes i)) w).world → GoneOn w (steps_node i e (node_calls c (w.nodes i)) w).world us arrays (λ q. array_after q (event.Call i c) w (arrays q))
+call_on w arrays us i e c few free may k keeps =
     let d = call_deed (w.nodes i) c in
-    of_outcome w drafts later arrays i e (w.nodes i).inbox (w.nodes i).parcels us us (node_calls c (w.nodes i)) (λ q. None) (λ q. left_by q (event.Call i c) w) k (record {
+    of_outcome w arrays i e (w.nodes i).inbox (w.nodes i).parcels us us (node_calls c (w.nodes i)) (λ q. None) (λ q. left_by q (event.Call i c) w) k (record {
       few = few;
       fits = keeps.0;
       addressed = keeps.1;
-      asks = asks_deed i (drafts i) (w.nodes i) (Calls c) _ d free (local w drafts arrays us i k) (k.asks i);
-      acts = λ q. acts_call (tables_of w) i (drafts i) (w.nodes i) c free may (local w drafts arrays us i k) q;
+      asks = asks_deed i (w.nodes i) (Calls c) _ d free (local w arrays us i k) (k.asks i);
+      acts = λ q. acts_call (tables_of w) i (w.nodes i) c free may (local w arrays us i k) q;
       frame = deed_frame (w.nodes i) (Calls c) _ d;
-      cached = mapped_or_cached_deed (w.nodes i) (Calls c) _ d (own_nothing i (drafts i) (w.nodes i) (k.fits i)) (k.fits i).fresh (k.cached i);
+      cached = mapped_or_cached_deed (w.nodes i) (Calls c) _ d (own_nothing i (w.nodes i) (k.fits i)) (k.fits i).fresh (k.cached i);
       left_mail = k.mail;
       flies = stays_flying w i us k.flies;
       comes = λ q. refl;
@@ -127,10 +125,10 @@ mail_collected tables n Free = tt
 mail_collected tables n (Waiting awaited) = tt
 mail_collected tables n (Ready answer) = tt
 
-pub collect_on : (w : World) (drafts later : ℕ → Name → List ℕ) (arrays : Name → List ℕ) (us : List Under) (i : ℕ) (e : Event) → i < w.count → AllNodesHold w drafts arrays us
-    → StepKeeps w later (steps_node i e (collects (w.nodes i).activity (w.nodes i)) w).world → GoneOn w (steps_node i e (collects (w.nodes i).activity (w.nodes i)) w).world us later arrays arrays
-collect_on w drafts later arrays us i e few k keeps =
-    of_outcome w drafts later arrays i e (w.nodes i).inbox (w.nodes i).parcels us us (collects (w.nodes i).activity (w.nodes i)) (λ q. None) (λ q. None) k (record {
+pub collect_on : (w : World) (arrays : Name → List ℕ) (us : List Under) (i : ℕ) (e : Event) → i < w.count → AllNodesHold w arrays us
+    → StepKeeps (steps_node i e (collects (w.nodes i).activity (w.nodes i)) w).world → GoneOn w (steps_node i e (collects (w.nodes i).activity (w.nodes i)) w).world us arrays arrays
+collect_on w arrays us i e few k keeps =
+    of_outcome w arrays i e (w.nodes i).inbox (w.nodes i).parcels us us (collects (w.nodes i).activity (w.nodes i)) (λ q. None) (λ q. None) k (record {
       few = few;
       fits = keeps.0;
       addressed = keeps.1;
@@ -150,20 +148,20 @@ all_took P here h = h
 all_took P (there t) h = let u = all_took P t h.1 in (u.0, (h.0, u.1))
 
 -- A message that is under way is handled at its addressee, whose gathering and inbox are these now.
-message_on : (w : World) (drafts later : ℕ → Name → List ℕ) (arrays : Name → List ℕ) (us left : List Under) (i : ℕ) (e : Event) (m : Message) (inbox : List Piece) (parcels : PartsGathered) → i < w.count → AllNodesHold w drafts arrays us
-    → m.addressee ≡ i → m.sender < w.count → AllByRecursion (fitting.ComesIn (w.nodes i).me) inbox → Took m (messages_of us) (messages_of left)
+message_on : (w : World) (arrays : Name → List ℕ) (us left : List Under) (i : ℕ) (e : Event) (m : Message) (inbox : List Piece) (parcels : PartsGathered) → i < w.count → AllNodesHold w arrays us
+    → m.addressee ≡ i → m.sender < w.count → AllByRecursion (ComesIn (w.nodes i).me) inbox → Took m (messages_of us) (messages_of left)
     → let n = record (w.nodes i) { inbox = inbox; parcels = parcels } in IsFlight left (boxes_from 0 w.count (at_node w.nodes i n)) (λ j. (at_node w.nodes i n j).parcels)
-    → let o = node_handles m.sender m.kind n in StepKeeps w later (steps_node i e o w).world → GoneOn w (steps_node i e o w).world us later arrays arrays
-message_on w drafts later arrays us left i e m inbox parcels few k to from_few fitted took flies keeps =
-    of_outcome w drafts later arrays i e inbox parcels us left (node_handles m.sender m.kind n) (λ q. flying q m) (λ q. None) k (record {
+    → let o = node_handles m.sender m.kind n in StepKeeps (steps_node i e o w).world → GoneOn w (steps_node i e o w).world us arrays arrays
+message_on w arrays us left i e m inbox parcels few k to from_few fitted took flies keeps =
+    of_outcome w arrays i e inbox parcels us left (node_handles m.sender m.kind n) (λ q. flying q m) (λ q. None) k (record {
       few = few;
       fits = keeps.0;
       addressed = keeps.1;
-      asks = asks_deed i (drafts i) n (Hears m.sender m.kind) _ d tt local_n (k.asks i);
+      asks = asks_deed i n (Hears m.sender m.kind) _ d tt local_n (k.asks i);
       acts = λ q. subst (λ a. Acts (Known tables) q i (flying q (record { sender = m.sender; addressee = a; kind = m.kind })) None n (node_handles m.sender m.kind n).node (node_handles m.sender m.kind n).posts) (sym to)
-          (acts_deed tables i (drafts i) n (Hears m.sender m.kind) _ d (mail_i, passes w drafts arrays us i m inbox parcels _ k to parts.0 took) local_n q);
+          (acts_deed tables i n (Hears m.sender m.kind) _ d (mail_i, passes w arrays us i m inbox parcels _ k to parts.0 took) local_n q);
       frame = deed_frame n (Hears m.sender m.kind) _ d;
-      cached = mapped_or_cached_deed n (Hears m.sender m.kind) _ d (own_nothing i (drafts i) (w.nodes i) (k.fits i)) (k.fits i).fresh (k.cached i);
+      cached = mapped_or_cached_deed n (Hears m.sender m.kind) _ d (own_nothing i (w.nodes i) (k.fits i)) (k.fits i).fresh (k.cached i);
       left_mail = parts.1;
       flies = flies;
       comes = λ q. comes_of q (flying q m) refl;
@@ -189,8 +187,8 @@ message_on w drafts later arrays us left i e m inbox parcels few k to from_few f
     comes_of q None x = subst (λ c. Comes c (find_all (flying q) (messages_of us)) (find_all (flying q) (messages_of left))) (sym x) (sym (took_none (flying q) took x))
     comes_of q (Some f) x = subst (λ c. Comes c (find_all (flying q) (messages_of us)) (find_all (flying q) (messages_of left))) (sym x) (took_some (flying q) took f x)
 
-    local_n : Local i (drafts i) n
-    local_n = let l = local w drafts arrays us i k in record {
+    local_n : Local i n
+    local_n = let l = local w arrays us i k in record {
       fits = record { me = l.fits.me; each = l.fits.each; cache = l.fits.cache; fresh = l.fits.fresh; inbox = fitted; outbox = l.fits.outbox };
       agrees = l.agrees;
       counts = l.counts;
@@ -199,12 +197,12 @@ message_on w drafts later arrays us left i e m inbox parcels few k to from_few f
     }
 
 -- A piece is gathered, and nothing else happens.
-gathered_on : (w : World) (drafts later : ℕ → Name → List ℕ) (arrays : Name → List ℕ) (us left : List Under) (i : ℕ) (e : Event) (inbox : List Piece) (parcels : PartsGathered) → i < w.count → AllNodesHold w drafts arrays us
+gathered_on : (w : World) (arrays : Name → List ℕ) (us left : List Under) (i : ℕ) (e : Event) (inbox : List Piece) (parcels : PartsGathered) → i < w.count → AllNodesHold w arrays us
     → messages_of left ≡ messages_of us
     → let n = record (w.nodes i) { inbox = inbox; parcels = parcels } in IsFlight left (boxes_from 0 w.count (at_node w.nodes i n)) (λ j. (at_node w.nodes i n j).parcels)
-    → StepKeeps w later (steps_node i e (only n Done) w).world → GoneOn w (steps_node i e (only n Done) w).world us later arrays arrays
-gathered_on w drafts later arrays us left i e inbox parcels few k same flies keeps =
-    of_outcome w drafts later arrays i e inbox parcels us left (only (record (w.nodes i) { inbox = inbox; parcels = parcels }) Done) (λ q. None) (λ q. None) k (record {
+    → StepKeeps (steps_node i e (only n Done) w).world → GoneOn w (steps_node i e (only n Done) w).world us arrays arrays
+gathered_on w arrays us left i e inbox parcels few k same flies keeps =
+    of_outcome w arrays i e inbox parcels us left (only (record (w.nodes i) { inbox = inbox; parcels = parcels }) Done) (λ q. None) (λ q. None) k (record {
       few = few;
       fits = keeps.0;
       addressed = keeps.1;
@@ -241,16 +239,16 @@ box_took w i p rest few took =
     flight_took p w.count i w.nodes (at_node w.nodes i n) few (subst (λ (x : Node). Took p (boxes (w.nodes i)) (boxes x)) (sym (node_here w.nodes i n)) (took_left (w.nodes i).outbox took)) (λ l other. ap boxes (sym (node_there w.nodes i n l other)))
 
 -- the size of a message with bytes is known where it comes
-pub key_passes : (w : World) (drafts : ℕ → Name → List ℕ) (arrays : Name → List ℕ) (us : List Under) (i : ℕ) (u : Under) (others : List Under) (key : Key) (inbox : List Piece) (parcels : PartsGathered) → AllNodesHold w drafts arrays us → u.message.addressee ≡ i → Took u us others
+pub key_passes : (w : World) (arrays : Name → List ℕ) (us : List Under) (i : ℕ) (u : Under) (others : List Under) (key : Key) (inbox : List Piece) (parcels : PartsGathered) → AllNodesHold w arrays us → u.message.addressee ≡ i → Took u us others
     → key_of u.message ≡ Some key → size_for key.load key.name (record (w.nodes i) { inbox = inbox; parcels = parcels }) ≡ Some (length (load_of u.message.kind))
-key_passes w drafts arrays us i u others key inbox parcels k to took of_u =
+key_passes w arrays us i u others key inbox parcels k to took of_u =
     let fits = (all_took (MailFits (tables_of w)) (took_message took) k.mail).0 in
     size_known i (tables_of w) (record (w.nodes i) { inbox = inbox; parcels = parcels }) u.message.sender key u.message.kind of_u (subst (λ a. FitsTables (tables_of w) u.message.sender a u.message.kind) to fits)
-    (passes w drafts arrays us i u.message inbox parcels _ k to fits (took_message took)) (λ name h there at_i. subst (λ j. home_of (w.nodes j) name ≡ Some h) at_i there)
+    (passes w arrays us i u.message inbox parcels _ k to fits (took_message took)) (λ name h there at_i. subst (λ j. home_of (w.nodes j) name ≡ Some h) at_i there)
 
-pub handle_on : (w : World) (drafts later : ℕ → Name → List ℕ) (arrays : Name → List ℕ) (us : List Under) (i place : ℕ) (e : Event) (t : Taken Piece) → i < w.count → take_out place (w.nodes i).inbox ≡ Some t → AllNodesHold w drafts arrays us
-    → let o = receives t.taken (record (w.nodes i) { inbox = t.rest }) in StepKeeps w later (steps_node i e o w).world → GoneOn w (steps_node i e o w).world us later arrays arrays
-handle_on w drafts later arrays us i place e t few out k fits = go (comes us (pieces_in_boxes w) after (λ j. (w.nodes j).parcels) t.taken k.flies (alone_in w.nodes tables arrays us k.mail k.coherent) under_way) fits
+pub handle_on : (w : World) (arrays : Name → List ℕ) (us : List Under) (i place : ℕ) (e : Event) (t : Taken Piece) → i < w.count → take_out place (w.nodes i).inbox ≡ Some t → AllNodesHold w arrays us
+    → let o = receives t.taken (record (w.nodes i) { inbox = t.rest }) in StepKeeps (steps_node i e o w).world → GoneOn w (steps_node i e o w).world us arrays arrays
+handle_on w arrays us i place e t few out k fits = go (comes us (pieces_in_boxes w) after (λ j. (w.nodes j).parcels) t.taken k.flies (alone_in w.nodes tables arrays us k.mail k.coherent) under_way) fits
   where
     n : Node
     n = record (w.nodes i) { inbox = t.rest }
@@ -273,8 +271,8 @@ handle_on w drafts later arrays us i place e t few out k fits = go (comes us (pi
     from_few : t.taken.message.sender < w.count
     from_few = came.0.1.0.sender
 
-    fitted : AllByRecursion (fitting.ComesIn (w.nodes i).me) t.rest
-    fitted = (all_took (fitting.ComesIn (w.nodes i).me) took (k.fits i).inbox).1
+    fitted : AllByRecursion (ComesIn (w.nodes i).me) t.rest
+    fitted = (all_took (ComesIn (w.nodes i).me) took (k.fits i).inbox).1
 
     under_way : Took t.taken (pieces_in_boxes w) after
     under_way = box_took w i t.taken t.rest few took
@@ -294,18 +292,18 @@ handle_on w drafts later arrays us i place e t few out k fits = go (comes us (pi
         (subst (λ b. IsFlight left (b) (put_at (λ j. (w.nodes j).parcels) t.taken.message.addressee key v)) (boxes_with (at_key n.parcels key v)) f)
 
     Ends : Outcome → Type 0
-    Ends o = StepKeeps w later (steps_node i e o w).world → GoneOn w (steps_node i e o w).world us later arrays arrays
+    Ends o = StepKeeps (steps_node i e o w).world → GoneOn w (steps_node i e o w).world us arrays arrays
 
     -- the piece is taken in
     taken_in : (key : Key) (u : Under) (others : List Under) → IsNext us (λ j. (w.nodes j).parcels) t.taken key u others → receives t.taken n ≡ gathers_piece key t.taken (slots_with t.taken (n.parcels key)) n
     taken_in key u others x =
-        received_key t.taken n key (length (load_of u.message.kind)) x.of_key (key_passes w drafts arrays us i u others key t.rest (w.nodes i).parcels k (sym x.addressee ∙ to) x.took x.of_message) x.fits
+        received_key t.taken n key (length (load_of u.message.kind)) x.of_key (key_passes w arrays us i u others key t.rest (w.nodes i).parcels k (sym x.addressee ∙ to) x.took x.of_message) x.fits
         (subst (λ a. is_missing t.taken.index (slots_or t.taken.pieces ((w.nodes a).parcels key)) ≡ true) to x.missing)
 
     go : PieceComes us after (λ j. (w.nodes j).parcels) t.taken → Ends (receives t.taken n)
     go (plain u others x none same f) =
         subst Ends (sym (received_plain t.taken n none))
-        (message_on w drafts later arrays us others i e t.taken.message t.rest (w.nodes i).parcels few k to from_few fitted
+        (message_on w arrays us others i e t.taken.message t.rest (w.nodes i).parcels few k to from_few fitted
         (subst (λ m. Took m (messages_of us) (messages_of others)) (sym same) (took_message x)) (flight_as others _ _ _ same_parcels f))
     go (last key u others x full whole f) =
         let at_i : is_complete (slots_with t.taken (n.parcels key)) ≡ true = subst (λ a. is_complete (slots_with t.taken ((w.nodes a).parcels key)) ≡ true) to full in
@@ -313,11 +311,11 @@ handle_on w drafts later arrays us i place e t few out k fits = go (comes us (pi
         let m : Node = record n { parcels = at_key n.parcels key None } in
         let same : node_handles u.message.sender u.message.kind m ≡ receives t.taken n =
         sym (taken_in key u others x ∙ cond-true (is_complete (slots_with t.taken (n.parcels key))) _ _ at_i ∙ ap (λ s. node_handles s (with_load (joined (slots_with t.taken (n.parcels key))) t.taken.message.kind) m) x.sender ∙ ap (λ y. node_handles u.message.sender y m) kind_i) in
-        subst Ends same (message_on w drafts later arrays us others i e u.message t.rest (at_key (w.nodes i).parcels key None) few k (sym x.addressee ∙ to) (subst (λ s. s < w.count) x.sender from_few) fitted (took_message x.took) (with_key key None others f))
+        subst Ends same (message_on w arrays us others i e u.message t.rest (at_key (w.nodes i).parcels key None) few k (sym x.addressee ∙ to) (subst (λ s. s < w.count) x.sender from_few) fitted (took_message x.took) (with_key key None others f))
     go (gathers key u others left x less same f) =
         let slots = slots_with t.taken (n.parcels key) in
         let at_i : is_complete slots ≡ false = subst (λ a. is_complete (slots_with t.taken ((w.nodes a).parcels key)) ≡ false) to less in
         let f_i = subst (λ a. IsFlight left after (put_at (λ j. (w.nodes j).parcels) t.taken.message.addressee key (Some (slots_with t.taken ((w.nodes a).parcels key))))) to f in
         let m : Node = record n { parcels = at_key n.parcels key (Some slots) } in
         let eq : only m Done ≡ receives t.taken n = sym (taken_in key u others x ∙ cond-false (is_complete slots) _ _ at_i) in
-        subst Ends eq (gathered_on w drafts later arrays us left i e t.rest (at_key (w.nodes i).parcels key (Some slots)) few k same (with_key key (Some slots) left f_i))
+        subst Ends eq (gathered_on w arrays us left i e t.rest (at_key (w.nodes i).parcels key (Some slots)) few k same (with_key key (Some slots) left f_i))

@@ -8,8 +8,6 @@ use Rattle.crl_protocol.specs.Places.{find_all}
 use Rattle.crl_protocol.specs.Home.{Home, bytes_after}
 use Rattle.crl_protocol.specs.Remote.{Remote}
 use Rattle.crl_protocol.specs.Node.{Node, home_of}
-use Rattle.crl_deeds.proofs.Fitting.{SizeIs}
-use Rattle.crl_deeds.proofs.Growing.{append_nil}
 use Rattle.crl_coherence.specs.Region.{Flying, Region, Happens, elsewhere, Run, next}
 use Rattle.crl_coherence.proofs.Laws.{same_or}
 use Rattle.crl_regions.specs.View.{flying, side, sight}
@@ -17,6 +15,8 @@ use Rattle.crl_regions.specs.Steps.{GoesOn}
 use Rattle.crl_flight.specs.Flight.{Moves}
 use Rattle.crl_regions.proofs.Moves.{run_moves}
 use Rattle.crl_regions.proofs.Acts.{Comes, Acts, nothing, home_acts, side_acts, absent, made, home_is}
+use Rattle.crl_deeds.specs.NodeFacts.{SizeIs}
+use Rattle.crl_deeds.proofs.Laws.{append_nil}
 
 -- An event, after which messages may stand at other places, is a run.
 pub run_of : (me : ℕ) (g k : Region) → GoesOn me g k → Run me g k

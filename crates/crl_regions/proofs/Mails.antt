@@ -21,13 +21,13 @@ use Rattle.crl_protocol.specs.Remote.{Copy, Remote, RemoteStep, starts_over, rem
 use Rattle.crl_protocol.specs.Node.{Node, Outcome, home_of, lifetime_of, message_to, letter_messages, mail_messages}
 use Rattle.crl_protocol.specs.Calls.{size_of, results_from}
 use Rattle.crl_protocol.specs.Handlers.{told_by_stage, takes_grant}
-use Rattle.crl_deeds.proofs.Fitting.{LiveFits}
-use Rattle.crl_deeds.proofs.Placing.{all_append}
 use Rattle.crl_regions.proofs.NodesExist.{OfHome, ToOther, NodesExist, NodesExistAfter, near_asked, near_returned, near_released, near_starts, near_read, near_write}
 use Rattle.crl_regions.proofs.Acts.{home_is}
 use Rattle.crl_model.specs.declared.entry.What.{What}
 use Rattle.crl_deeds.specs.Deeds.{Cause, Calls, Hears, parting, EndsCall, a_read, a_write, Serves, ask_comes, copy_returns, copy_lowers, CallsBack, wholly, to_share, Copies, Lives, Rounds, Deed, copies, lives, rounds, Unfit, never, home_opens, home_waits, side_opens, side_waits, home_ends, side_ends, side_flushes, home_serves, home_serves_own, grant_comes, side_called, map_asks, map_told, map_refused, unmaps_doomed, unmaps_evicting, deletes_own, delete_asks, deletes_alone_for, deletes_for, delete_refused, dooms, drops, warns, ends_for, comes_away, comes_last, part_last, part_last_idle}
 use Rattle.crl_regions.specs.MailFits.{Tables, HasTable, ToldFits, FitsTables, MailFits, AllMailFits}
+use Rattle.crl_deeds.specs.NodeFacts.{LiveFits}
+use Rattle.crl_deeds.proofs.Laws.{all_append}
 
 -- the node that sends, where the tables are those after its step
 pub record Sends (i count : ℕ) (n : Node) (tables : Tables) : Type 0 where

@@ -5,12 +5,12 @@ use Rattle.crl_model.specs.declared.name.Name.{Name}
 use Rattle.crl_model.specs.Names.{name_eq, at_name}
 use Rattle.crl_protocol.specs.Remote.{Remote}
 use Rattle.crl_protocol.specs.Lifetimes.{Mapping, Cached, CacheStep, push_out, cache_with, cache_without}
-use Rattle.crl_deeds.proofs.Fitting.{by_name, same_name, name_self, other_name, IsCached, FreshFits}
-use Rattle.crl_deeds.proofs.Outcomes.{kept_dropped, kept_more}
 use Rattle.crl_model.specs.declared.call.Call.{Call}
 use Rattle.crl_model.specs.declared.entry.What.{What}
 use Rattle.crl_protocol.specs.Node.{Node, Outcome, is_mine}
 use Rattle.crl_deeds.specs.Deeds.{Cause, Copies, Lives, Rounds, Notes, Deed, copies, lives, rounds, notes, side_opens, side_waits, side_ends, side_flushes, grant_comes, side_called, maps_more, maps_own, maps_cached, map_comes, unmaps_one, unmaps_own, unmaps_doomed, unmaps_keeping, unmaps_evicting, dooms, drops, comes_away, flushes_own}
+use Rattle.crl_deeds.proofs.Laws.{by_name, same_name, name_self, other_name, kept_dropped, kept_more}
+use Rattle.crl_deeds.specs.NodeFacts.{IsCached, FreshFits}
 
 -- no name stands in the cache twice
 abbrev pub Once : List Cached → Type 0

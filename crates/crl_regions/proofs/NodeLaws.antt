@@ -17,8 +17,6 @@ use Rattle.crl_protocol.specs.Node.{Node, Activity, Waiting, ForSection, is_mine
 use Rattle.crl_protocol.specs.Handlers.{is_queued}
 use Rattle.crl_protocol.specs.Parcels.{Piece, Key, key_of, load_of, slots_or}
 use Rattle.crl_protocol.specs.World.{World, boxes_from, pieces_in_boxes, new_world, world_of, IsRunFrom}
-use Rattle.crl_deeds.proofs.Fitting.{NoOwn, QueueFits, AskingFits}
-use Rattle.crl_deeds.proofs.Turning.{HeldIn, all_took}
 use Rattle.crl_flight.specs.Flight.{Under, messages_of}
 use Rattle.crl_flight.specs.Coming.{PieceComes, plain, last, gathers, IsNext}
 use Rattle.crl_flight.proofs.Laws.{comes}
@@ -35,10 +33,13 @@ use Rattle.crl_regions.proofs.Events.{key_passes, box_took}
 use Rattle.crl_regions.proofs.Messages.{Passes, no_grant}
 use Rattle.crl_regions.proofs.Single.{alone_in}
 use Rattle.crl_regions.proofs.Runs.{nodes_hold, with_regions, regions_in_runs}
+use Rattle.crl_deeds.specs.NodeFacts.{NoOwn, QueueFits, AskingFits}
+use Rattle.crl_deeds.specs.Turns.{HeldIn}
+use Rattle.crl_deeds.proofs.Laws.{all_took}
 
 -- The sections that a node notes are those of the region.
 pub sections_are_tables : AfterRuns SectionsAreTheTables
-sections_are_tables count capacity run r i q array messages = section_noted _ _ _ _ array messages i q (nodes_hold count capacity run r).whole
+sections_are_tables count capacity run r i q array messages = section_noted _ _ _ array messages i q (nodes_hold count capacity run r).whole
 
 -- A write section is alone.
 pub write_alone : AfterRuns WriteSectionsAreAlone
@@ -46,10 +47,10 @@ write_alone count capacity run r q i j apart writes =
     let w = world_of count capacity run in
     let n = nodes_hold count capacity run r in
     let array = array_of q count capacity run in
-    let t = open_table w n.drafts _ n.under i q n.whole (λ closed. let both = sym writes ∙ closed in cc) in
+    let t = open_table w _ n.under i q n.whole (λ closed. let both = sym writes ∙ closed in cc) in
     let h = (regions_in_runs count capacity run r) in
-    sym (section_noted w n.drafts _ n.under array (messages_of h.0) j q n.whole)
-    ∙ writer_alone q.home (view q array (messages_of h.0) w) i j (h.1.coherent q t.0 t.1) apart (section_noted w n.drafts _ n.under array (messages_of h.0) i q n.whole ∙ writes)
+    sym (section_noted w _ n.under array (messages_of h.0) j q n.whole)
+    ∙ writer_alone q.home (view q array (messages_of h.0) w) i j (h.1.coherent q t.0 t.1) apart (section_noted w _ n.under array (messages_of h.0) i q n.whole ∙ writes)
 
 -- A size that a node has is the region's.
 pub sizes_known : AfterRuns SizesAreKnown
@@ -125,8 +126,8 @@ grant_there : (granted : Granted) (size : ℕ) (o : Option Remote) → grant_fit
 grant_there granted size None e = absurd (no_grant granted size e)
 grant_there granted size (Some r) e = (r, refl, e)
 
-meets : (w : World) (drafts : ℕ → Name → List ℕ) (arrays : Name → List ℕ) (us : List Under) (m : Message) (rest : List Message) → AllNodesHold w drafts arrays us → Took m (messages_of us) rest → MeetsTest (w.nodes m.addressee) m.sender m.kind
-meets w drafts arrays us m rest k took = go m.kind fits (passes w drafts arrays us m.addressee m (w.nodes m.addressee).inbox (w.nodes m.addressee).parcels rest k refl fits took)
+meets : (w : World) (arrays : Name → List ℕ) (us : List Under) (m : Message) (rest : List Message) → AllNodesHold w arrays us → Took m (messages_of us) rest → MeetsTest (w.nodes m.addressee) m.sender m.kind
+meets w arrays us m rest k took = go m.kind fits (passes w arrays us m.addressee m (w.nodes m.addressee).inbox (w.nodes m.addressee).parcels rest k refl fits took)
   where
     n : Node
     n = w.nodes m.addressee
@@ -151,11 +152,11 @@ meets w drafts arrays us m rest k took = go m.kind fits (passes w drafts arrays 
     go (kind.Result round fold) f p = tt
 
 pub messages_meet : AfterRuns MessagesMeetTests
-messages_meet count capacity run r us arrays h m rest took = meets _ _ arrays us m rest (with_regions _ us arrays _ (nodes_hold count capacity run r) h) took
+messages_meet count capacity run r us arrays h m rest took = meets _ arrays us m rest (with_regions _ us arrays _ (nodes_hold count capacity run r) h) took
 
 -- A piece that comes is taken in.
-piece_in : (w : World) (drafts : ℕ → Name → List ℕ) (arrays : Name → List ℕ) (us : List Under) (i : ℕ) (p : Piece) (rest : List Piece) (key : Key) → AllNodesHold w drafts arrays us → i < w.count → Took p (w.nodes i).inbox rest → key_of p.message ≡ Some key → PieceFits (w.nodes i) p key
-piece_in w drafts arrays us i p rest key k few took e =
+piece_in : (w : World) (arrays : Name → List ℕ) (us : List Under) (i : ℕ) (p : Piece) (rest : List Piece) (key : Key) → AllNodesHold w arrays us → i < w.count → Took p (w.nodes i).inbox rest → key_of p.message ≡ Some key → PieceFits (w.nodes i) p key
+piece_in w arrays us i p rest key k few took e =
     go (comes us (pieces_in_boxes w) _ (λ j. (w.nodes j).parcels) p k.flies (alone_in w.nodes (tables_of w) arrays us k.mail k.coherent) (box_took w i p rest few took))
   where
     to : p.message.addressee ≡ i
@@ -166,7 +167,7 @@ piece_in w drafts arrays us i p rest key k few took e =
         let same : l ≡ key = (let both : Some l ≡ Some key = sym x.of_key ∙ e in cc) in
         subst (λ y. PieceFits (w.nodes i) p y) same (record {
           size = length (load_of u.message.kind);
-          known = key_passes w drafts arrays us i u others l (w.nodes i).inbox (w.nodes i).parcels k (sym x.addressee ∙ to) x.took x.of_message;
+          known = key_passes w arrays us i u others l (w.nodes i).inbox (w.nodes i).parcels k (sym x.addressee ∙ to) x.took x.of_message;
           fits = x.fits;
           missing = subst (λ a. is_missing p.index (slots_or p.pieces ((w.nodes a).parcels l)) ≡ true) to x.missing;
         })
@@ -177,4 +178,4 @@ piece_in w drafts arrays us i p rest key k few took e =
     go (gathers l u others left x less same f) = next l u others x
 
 pub pieces_meet : AfterRuns PiecesAreTakenIn
-pieces_meet count capacity run r i p rest key few took e = piece_in _ _ _ _ i p rest key (nodes_hold count capacity run r).whole few took e
+pieces_meet count capacity run r i p rest key few took e = piece_in _ _ _ i p rest key (nodes_hold count capacity run r).whole few took e

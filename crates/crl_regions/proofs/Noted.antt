@@ -35,9 +35,9 @@ side_section : (size : ℕ) (r : Option Remote) → expected None r ≡ (side si
 side_section size None = refl
 side_section size (Some r) = refl
 
-pub section_noted : (w : World) (drafts : ℕ → Name → List ℕ) (arrays : Name → List ℕ) (us : List Under) (array : List ℕ) (messages : List Message) (i : ℕ) (q : Name) → AllNodesHold w drafts arrays us
+pub section_noted : (w : World) (arrays : Name → List ℕ) (us : List Under) (array : List ℕ) (messages : List Message) (i : ℕ) (q : Name) → AllNodesHold w arrays us
     → section_at q.home (view q array messages w) i ≡ sections.section_at q (w.nodes i).sections
-section_noted w drafts arrays us array messages i q k = go (i == q.home) refl
+section_noted w arrays us array messages i q k = go (i == q.home) refl
   where
     g : Home
     g = table_or_blank (table_of q w)
@@ -61,9 +61,9 @@ side_bytes : (size : ℕ) (r : Option Remote) → bytes_in None r ≡ copy_bytes
 side_bytes size None = refl
 side_bytes size (Some r) = refl
 
-pub bytes_noted : (w : World) (drafts : ℕ → Name → List ℕ) (arrays : Name → List ℕ) (us : List Under) (array : List ℕ) (messages : List Message) (i : ℕ) (q : Name) → AllNodesHold w drafts arrays us
+pub bytes_noted : (w : World) (arrays : Name → List ℕ) (us : List Under) (array : List ℕ) (messages : List Message) (i : ℕ) (q : Name) → AllNodesHold w arrays us
     → bytes_here (w.nodes i) q ≡ bytes_at_node q.home (view q array messages w) i
-bytes_noted w drafts arrays us array messages i q k = go (i == q.home) refl
+bytes_noted w arrays us array messages i q k = go (i == q.home) refl
   where
     g : Home
     g = table_or_blank (table_of q w)
@@ -77,10 +77,10 @@ bytes_noted w drafts arrays us array messages i q k = go (i == q.home) refl
         ap (λ o. bytes_in o ((w.nodes i).remotes q)) none ∙ side_bytes g.size ((w.nodes i).remotes q)
 
 -- where a section is open, the region is there
-pub open_table : (w : World) (drafts : ℕ → Name → List ℕ) (arrays : Name → List ℕ) (us : List Under) (i : ℕ) (q : Name) → AllNodesHold w drafts arrays us → sections.section_at q (w.nodes i).sections ≢ section.Closed → HasTable (table_of q w)
-open_table w drafts arrays us i q k opened = go (home_of (w.nodes i) q) ((w.nodes i).remotes q) refl refl
+pub open_table : (w : World) (arrays : Name → List ℕ) (us : List Under) (i : ℕ) (q : Name) → AllNodesHold w arrays us → sections.section_at q (w.nodes i).sections ≢ section.Closed → HasTable (table_of q w)
+open_table w arrays us i q k opened = go (home_of (w.nodes i) q) ((w.nodes i).remotes q) refl refl
   where
     go : (o : Option Home) (r : Option Remote) → home_of (w.nodes i) q ≡ o → (w.nodes i).remotes q ≡ r → HasTable (table_of q w)
-    go (Some h) r e f = (h, (table_at w drafts arrays us i q h k e).1)
+    go (Some h) r e f = (h, (table_at w arrays us i q h k e).1)
     go None (Some x) e f = let s = k.sizes i q x f in (s.0, s.1)
     go None None e f = absurd (opened (sym (k.agrees i q) ∙ ap (λ o. expected o ((w.nodes i).remotes q)) e ∙ ap (λ o. expected None o) f))

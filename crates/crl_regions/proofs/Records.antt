@@ -14,9 +14,6 @@ use Rattle.crl_protocol.specs.Sectioning.{copy_bytes}
 use Rattle.crl_protocol.specs.Lifetimes.{Mapping}
 use Rattle.crl_protocol.specs.Node.{Node, Outcome, home_of, with_home}
 use Rattle.crl_protocol.specs.World.{World, WorldStep}
-use Rattle.crl_deeds.proofs.Fitting.{by_name, name_self, RecordFits}
-use Rattle.crl_deeds.proofs.Tabling.{home_put}
-use Rattle.crl_deeds.proofs.Turning.{Turn, calls, hears, gathers, answers, carriage, rests}
 use Rattle.crl_deeds.specs.Deeds.{Cause, Copies, Lives, Rounds, Notes, Deed, copies, lives, rounds, notes, home_opens, home_waits, side_opens, side_waits, home_ends, side_ends, side_flushes, home_serves, home_serves_own, grant_comes, side_called, made, ends_nowhere, flushes_own, flushes_nowhere, comes_away}
 use Rattle.crl_flight.specs.Flight.{Under, messages_of}
 use Rattle.crl_coherence.specs.Region.{Region}
@@ -28,6 +25,9 @@ use Rattle.crl_regions.specs.Steps.{IsCarried, GoesOn, RegionsGoOn}
 use Rattle.crl_regions.proofs.AllNodesHold.{AllNodesHold}
 use Rattle.crl_regions.proofs.Carried.{of_node, arrived_all}
 use Rattle.crl_regions.proofs.Noted.{bytes_in, bytes_here, section_noted, bytes_noted, open_table}
+use Rattle.crl_deeds.proofs.Laws.{by_name, name_self, home_put}
+use Rattle.crl_deeds.specs.NodeFacts.{RecordFits}
+use Rattle.crl_deeds.specs.Turns.{Turn, calls, hears, gathers, answers, carriage, rests}
 
 -- A record that is noted was there before with the same bytes, or has those of the table or the side.
 abbrev IsOld : Option OpenSection → OpenSection → Type 0
@@ -161,23 +161,23 @@ carried_section me c k n x = ap (λ (h : Home). if n == me then h.mine else (c.r
 abbrev pub Shows : World → (Name → List ℕ) → Type 0
 Shows w arrays = (i : ℕ) (name : Name) (r : OpenSection) → (w.nodes i).sections.records name ≡ Some r → r.bytes ≡ arrays name
 
-pub records_show : (w v : World) (drafts later : ℕ → Name → List ℕ) (arrays left : Name → List ℕ) (us vs : List Under) → AllNodesHold w drafts arrays us → AllNodesHold v later left vs
+pub records_show : (w v : World) (arrays left : Name → List ℕ) (us vs : List Under) → AllNodesHold w arrays us → AllNodesHold v left vs
     → ((q : Name) (h : Home) → table_of q w ≡ Some h → IsCoherent q.home (view q (arrays q) (messages_of us) w)) → ((q : Name) (h : Home) → table_of q v ≡ Some h → IsCoherent q.home (view q (left q) (messages_of vs) v))
     → RegionsGoOn w v us vs arrays left → ((j : ℕ) (q : Name) → RecordFrom (w.nodes j) (v.nodes j) q) → Shows w arrays → Shows v left
-records_show w v drafts later arrays left us vs k l coherent coherent_after go from shown j q r e = elim (from j q r e) [
+records_show w v arrays left us vs k l coherent coherent_after go from shown j q r e = elim (from j q r e) [
   | inl old ↦ (let was = is_open _ old.0 ((w.nodes j).maps q) old.1 ((k.fits j).each q).sections in
-      let t = open_table w drafts arrays us j q k was in
+      let t = open_table w arrays us j q k was in
       let x = go.goes_on q t.0 t.1 in
       sym old.2 ∙ shown j q old.0 old.1 ∙ stays_in x (coherent q t.0 t.1) was)
-  | inr new ↦ new ∙ bytes_noted v later left vs (left q) (messages_of vs) j q l ∙ (let t = open_table v later left vs j q l now in
-      open_bytes q.home (view q (left q) (messages_of vs) v) j (coherent_after q t.0 t.1) (λ closed. now (sym (section_noted v later left vs (left q) (messages_of vs) j q l) ∙ closed)))
+  | inr new ↦ new ∙ bytes_noted v left vs (left q) (messages_of vs) j q l ∙ (let t = open_table v left vs j q l now in
+      open_bytes q.home (view q (left q) (messages_of vs) v) j (coherent_after q t.0 t.1) (λ closed. now (sym (section_noted v left vs (left q) (messages_of vs) j q l) ∙ closed)))
 ]
   where
     now : section_at q (v.nodes j).sections ≢ section.Closed
     now = is_open _ r ((v.nodes j).maps q) e ((l.fits j).each q).sections
 
     stays_in : GoesOn q.home (view q (arrays q) (messages_of us) w) (view q (left q) (messages_of vs) v) → IsCoherent q.home (view q (arrays q) (messages_of us) w) → section_at q (w.nodes j).sections ≢ section.Closed → arrays q ≡ left q
-    stays_in x c was = elim (array_left q.home (view q (arrays q) (messages_of us) w) x.0 j c x.1 (λ closed. was (sym (section_noted w drafts arrays us (arrays q) (messages_of us) j q k) ∙ closed))) [
+    stays_in x c was = elim (array_left q.home (view q (arrays q) (messages_of us) w) x.0 j c x.1 (λ closed. was (sym (section_noted w arrays us (arrays q) (messages_of us) j q k) ∙ closed))) [
       | inl same ↦ sym same ∙ x.2.array
-      | inr ended ↦ absurd (now (sym (section_noted v later left vs (left q) (messages_of vs) j q l) ∙ sym (carried_section q.home x.0 (view q (left q) (messages_of vs) v) j x.2) ∙ ended.1))
+      | inr ended ↦ absurd (now (sym (section_noted v left vs (left q) (messages_of vs) j q l) ∙ sym (carried_section q.home x.0 (view q (left q) (messages_of vs) v) j x.2) ∙ ended.1))
     ]

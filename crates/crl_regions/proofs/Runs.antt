@@ -1,7 +1,6 @@
 -- What holds of all nodes holds at the start of a run and after each of its events.
 use Rattle.std.proofs.Common.{◌≡◌, ℕ, zero, suc, ◌+◌, ◌-◌, ◌<◌, ◌==◌, Bool, true, false, None, Some, Option, List, [], ◌∷◌, if◌then◌else◌, refl, ap, sym, ◌∙◌, subst}
 use Rattle.std.proofs.lemmas.Bool.{and_parts, ltb-true}
-use Rattle.std.proofs.lemmas.List.Elements.{All-from_recursion}
 use Rattle.crl_model.specs.declared.name.Name.{Name}
 use Rattle.crl_model.specs.declared.event.Event.{Event}
 use Rattle.crl_model.specs.declared.event.Event.TheVariants as event
@@ -14,17 +13,13 @@ use Rattle.crl_protocol.specs.Home.{Home}
 use Rattle.crl_protocol.specs.Remote.{Remote}
 use Rattle.crl_protocol.specs.Sections.{section_at}
 use Rattle.crl_protocol.specs.Node.{new_node, home_of}
-use Rattle.crl_protocol.specs.Chosen.{Running, goes_on as runs_on}
-use Rattle.crl_deeds.specs.Laws.{AreStatements, node_of}
 use Rattle.crl_protocol.specs.World.{World, new_world, world_of, boxes_from, handles_at, carries, step, is_enabled, IsRunFrom, world_after}
-use Rattle.crl_deeds.proofs.Sound.{Sound, sound_start, sound_event}
 use Rattle.crl_coherence.specs.Coherent.{IsCoherent}
 use Rattle.crl_coherence.proofs.Laws.{runs_kept}
 use Rattle.crl_regions.specs.MailFits.{HasSize}
 use Rattle.crl_regions.specs.Reached.{AfterRuns, EventsKeepRegions}
 use Rattle.crl_regions.specs.Steps.{RegionsHold, GoesOn, RegionsGoOn}
 use Rattle.crl_regions.specs.View.{sight, table_of, tables_of, table_or_blank, view, array_after, array_from, array_of}
-use Rattle.crl_deeds.proofs.Turning.{Held, HeldOut, all_took, turn_of, turn_count, held_turn}
 use Rattle.crl_regions.proofs.Acts.{expected, CountFits}
 use Rattle.crl_regions.proofs.Addressed.{AddressesAt, PlainSent, addressed_local, addressed_start}
 use Rattle.crl_regions.proofs.Asking.{WaitsAsking}
@@ -37,10 +32,12 @@ use Rattle.crl_regions.proofs.Steps.{all_grown}
 use Rattle.crl_regions.proofs.Records.{Shows, records_show, records_turn}
 use Rattle.crl_regions.proofs.Sections.{no_table as no_home}
 use Rattle.crl_regions.proofs.Events.{StepKeeps, GoneOn, nothing_on, is_freed, call_on, collect_on, handle_on}
+use Rattle.crl_deeds.proofs.Laws.{fits_start, fits_event, all_took, turn_of, turn_count, held_turn}
+use Rattle.crl_deeds.specs.Turns.{Held, HeldOut}
 
-carry_on : (w : World) (drafts later : ℕ → Name → List ℕ) (arrays : Name → List ℕ) (us : List Under) (i place : ℕ) (e : Event) (t : Taken Piece) → i < w.count → take_out place (w.nodes i).outbox ≡ Some t → AllNodesHold w drafts arrays us
-    → StepKeeps w later (carries i e (Some t) w).world → GoneOn w (carries i e (Some t) w).world us later arrays arrays
-carry_on w drafts later arrays us i place e t few out k keeps = record {
+carry_on : (w : World) (arrays : Name → List ℕ) (us : List Under) (i place : ℕ) (e : Event) (t : Taken Piece) → i < w.count → take_out place (w.nodes i).outbox ≡ Some t → AllNodesHold w arrays us
+    → StepKeeps (carries i e (Some t) w).world → GoneOn w (carries i e (Some t) w).world us arrays arrays
+carry_on w arrays us i place e t few out k keeps = record {
   under = us;
   whole = record {
     fits = keeps.0;
@@ -74,48 +71,34 @@ carry_on w drafts later arrays us i place e t few out k keeps = record {
 
 -- Any event that may come.
 abbrev pub Later : World → List Under → Event → (Name → List ℕ) → Type 0
-Later w us e arrays = (later : ℕ → Name → List ℕ) × GoneOn w (step e w).world us later arrays (λ q. array_after q e w (arrays q))
+Later w us e arrays = GoneOn w (step e w).world us arrays (λ q. array_after q e w (arrays q))
 
-abbrev running_at : World → (ℕ → Name → List ℕ) → Running
-running_at w drafts = record { world = w; actors = λ i. record { left = []; drafts = drafts i }; events = []; entries = [] }
+handled_on : (w : World) (arrays : Name → List ℕ) (us : List Under) (i place : ℕ) (e : Event) (o : Option (Taken Piece)) → i < w.count → take_out place (w.nodes i).inbox ≡ o → AllNodesHold w arrays us
+    → StepKeeps (handles_at i e o w).world → GoneOn w (handles_at i e o w).world us arrays arrays
+handled_on w arrays us i place e None few out k keeps = nothing_on w arrays us k
+handled_on w arrays us i place e (Some t) few out k keeps = handle_on w arrays us i place e t few out k keeps
 
-sound_at : (w : World) (drafts : ℕ → Name → List ℕ) (arrays : Name → List ℕ) (us : List Under) → AllNodesHold w drafts arrays us → Sound (running_at w drafts)
-sound_at w drafts arrays us k = record { fits = k.fits; left = λ i. tt }
-
-abbrev drafts_after : World → (ℕ → Name → List ℕ) → Event → ℕ → Name → List ℕ
-drafts_after w drafts e j = ((runs_on (node_of e) e (running_at w drafts)).actors j).drafts
-
-handled_on : (w : World) (drafts later : ℕ → Name → List ℕ) (arrays : Name → List ℕ) (us : List Under) (i place : ℕ) (e : Event) (o : Option (Taken Piece)) → i < w.count → take_out place (w.nodes i).inbox ≡ o → AllNodesHold w drafts arrays us
-    → StepKeeps w later (handles_at i e o w).world → (ds : ℕ → Name → List ℕ) × GoneOn w (handles_at i e o w).world us ds arrays arrays
-handled_on w drafts later arrays us i place e None few out k keeps = (drafts, nothing_on w drafts arrays us k)
-handled_on w drafts later arrays us i place e (Some t) few out k keeps = (later, handle_on w drafts later arrays us i place e t few out k keeps)
-
-carried_on : (w : World) (drafts later : ℕ → Name → List ℕ) (arrays : Name → List ℕ) (us : List Under) (i place : ℕ) (e : Event) (o : Option (Taken Piece)) → i < w.count → take_out place (w.nodes i).outbox ≡ o → AllNodesHold w drafts arrays us
-    → StepKeeps w later (carries i e o w).world → (ds : ℕ → Name → List ℕ) × GoneOn w (carries i e o w).world us ds arrays arrays
-carried_on w drafts later arrays us i place e None few out k keeps = (drafts, nothing_on w drafts arrays us k)
-carried_on w drafts later arrays us i place e (Some t) few out k keeps = (later, carry_on w drafts later arrays us i place e t few out k keeps)
+carried_on : (w : World) (arrays : Name → List ℕ) (us : List Under) (i place : ℕ) (e : Event) (o : Option (Taken Piece)) → i < w.count → take_out place (w.nodes i).outbox ≡ o → AllNodesHold w arrays us
+    → StepKeeps (carries i e o w).world → GoneOn w (carries i e o w).world us arrays arrays
+carried_on w arrays us i place e None few out k keeps = nothing_on w arrays us k
+carried_on w arrays us i place e (Some t) few out k keeps = carry_on w arrays us i place e t few out k keeps
 
 -- what the event leaves of each node
-keeps_after : (w : World) (drafts : ℕ → Name → List ℕ) (arrays : Name → List ℕ) (us : List Under) (e : Event) → is_enabled e w ≡ true → AllNodesHold w drafts arrays us → StepKeeps w (drafts_after w drafts e) (step e w).world
-keeps_after w drafts arrays us e h k =
-    let turn = turn_of w e h in (
-      (sound_event (running_at w drafts) e h (sound_at w drafts arrays us k)).fits,
-      subst (λ c. Held (AddressesAt c) (PlainSent c) (step e w).world) (sym (turn_count w _ turn)) (held_turn (AddressesAt w.count) (PlainSent w.count) w _ turn (addressed_local w.count) k.addressed),
-    )
+keeps_after : (w : World) (arrays : Name → List ℕ) (us : List Under) (e : Event) → is_enabled e w ≡ true → AllNodesHold w arrays us → StepKeeps (step e w).world
+keeps_after w arrays us e h k =
+    let turn = turn_of w e h in
+    (fits_event w e h k.fits, subst (λ c. Held (AddressesAt c) (PlainSent c) (step e w).world) (sym (turn_count w _ turn)) (held_turn (AddressesAt w.count) (PlainSent w.count) w _ turn (addressed_local w.count) k.addressed))
 
-pub event_on : (w : World) (drafts : ℕ → Name → List ℕ) (arrays : Name → List ℕ) (us : List Under) (e : Event) → is_enabled e w ≡ true → AllNodesHold w drafts arrays us → Later w us e arrays
+pub event_on : (w : World) (arrays : Name → List ℕ) (us : List Under) (e : Event) → is_enabled e w ≡ true → AllNodesHold w arrays us → Later w us e arrays
 unfolding step is_enabled
-event_on w drafts arrays us (event.Call i c) h k =
+event_on w arrays us (event.Call i c) h k =
     let parts = and_parts _ _ h in let more = and_parts _ _ parts.1 in
-    (drafts_after w drafts (event.Call i c), call_on w drafts _ arrays us i _ c (ltb-true i w.count parts.0) (is_freed (w.nodes i).activity more.0) more.1 k (keeps_after w drafts arrays us (event.Call i c) h k))
-event_on w drafts arrays us (event.Collect i) h k =
-    let parts = and_parts _ _ h in (drafts_after w drafts (event.Collect i), collect_on w drafts _ arrays us i _ (ltb-true i w.count parts.0) k (keeps_after w drafts arrays us (event.Collect i) h k))
-event_on w drafts arrays us (event.Handle i place) h k =
-    let parts = and_parts _ _ h in
-    handled_on w drafts (drafts_after w drafts (event.Handle i place)) arrays us i place (event.Handle i place) (take_out place (w.nodes i).inbox) (ltb-true i w.count parts.0) refl k (keeps_after w drafts arrays us (event.Handle i place) h k)
-event_on w drafts arrays us (event.Carry i place) h k =
-    let parts = and_parts _ _ h in
-    carried_on w drafts (drafts_after w drafts (event.Carry i place)) arrays us i place (event.Carry i place) (take_out place (w.nodes i).outbox) (ltb-true i w.count parts.0) refl k (keeps_after w drafts arrays us (event.Carry i place) h k)
+    call_on w arrays us i _ c (ltb-true i w.count parts.0) (is_freed (w.nodes i).activity more.0) more.1 k (keeps_after w arrays us (event.Call i c) h k)
+event_on w arrays us (event.Collect i) h k = let parts = and_parts _ _ h in collect_on w arrays us i _ (ltb-true i w.count parts.0) k (keeps_after w arrays us (event.Collect i) h k)
+event_on w arrays us (event.Handle i place) h k =
+    let parts = and_parts _ _ h in handled_on w arrays us i place (event.Handle i place) (take_out place (w.nodes i).inbox) (ltb-true i w.count parts.0) refl k (keeps_after w arrays us (event.Handle i place) h k)
+event_on w arrays us (event.Carry i place) h k =
+    let parts = and_parts _ _ h in carried_on w arrays us i place (event.Carry i place) (take_out place (w.nodes i).outbox) (ltb-true i w.count parts.0) refl k (keeps_after w arrays us (event.Carry i place) h k)
 
 -- The start.
 no_table : (b c : Bool) (s : ℕ) → (if b then (if c then None else at {A = Home} (s - 1) []) else None) ≡ None
@@ -126,16 +109,13 @@ no_table false c s = refl
 nothing_there : (count capacity i : ℕ) (q : Name) → home_of (new_node count capacity i) q ≡ None
 nothing_there count capacity i q = no_table (q.home == i) (q.serial == 0) q.serial
 
-no_statements : AreStatements []
-no_statements = All-from_recursion _ [] tt
-
 nothing_boxed : (i k count capacity : ℕ) → boxes_from i k (new_node count capacity) ≡ []
 nothing_boxed i zero count capacity = refl
 nothing_boxed i (suc k) count capacity = nothing_boxed (i + 1) k count capacity
 
-pub whole_start : (count capacity : ℕ) → AllNodesHold (new_world count capacity) (λ i q. []) (λ q. []) []
+pub whole_start : (count capacity : ℕ) → AllNodesHold (new_world count capacity) (λ q. []) []
 whole_start count capacity = record {
-  fits = (sound_start count capacity [] no_statements).fits;
+  fits = fits_start count capacity;
   agrees = λ i q. ap (λ o. expected o None) (nothing_there count capacity i q);
   counts = λ i q. tt;
   cached = λ i. record { cached = λ q size c. absurd c; held = λ q r e m. absurd (cc); others = λ q size c. absurd c; once = tt };
@@ -151,14 +131,14 @@ whole_start count capacity = record {
 as_view : (q : Name) (h : Home) (array : List ℕ) (messages : List Message) (w : World) → table_of q w ≡ Some h → sight q h w.nodes messages array ≡ view q array messages w
 as_view q h array messages w there = ap (λ o. sight q (table_or_blank o) w.nodes messages array) (sym there)
 
-in_views : (w : World) (drafts : ℕ → Name → List ℕ) (arrays : Name → List ℕ) (us : List Under) → AllNodesHold w drafts arrays us → (q : Name) (h : Home) → table_of q w ≡ Some h → IsCoherent q.home (view q (arrays q) (messages_of us) w)
-in_views w drafts arrays us k q h there = subst (λ g. IsCoherent q.home g) (as_view q h (arrays q) (messages_of us) w there) (k.coherent q h there)
+in_views : (w : World) (arrays : Name → List ℕ) (us : List Under) → AllNodesHold w arrays us → (q : Name) (h : Home) → table_of q w ≡ Some h → IsCoherent q.home (view q (arrays q) (messages_of us) w)
+in_views w arrays us k q h there = subst (λ g. IsCoherent q.home g) (as_view q h (arrays q) (messages_of us) w there) (k.coherent q h there)
 
-holds : (w : World) (drafts : ℕ → Name → List ℕ) (arrays : Name → List ℕ) (us : List Under) → AllNodesHold w drafts arrays us → Shows w arrays → RegionsHold w us arrays
-holds w drafts arrays us k shown = record { under_way = k.flies; mail = k.mail; coherent = in_views w drafts arrays us k; records = shown }
+holds : (w : World) (arrays : Name → List ℕ) (us : List Under) → AllNodesHold w arrays us → Shows w arrays → RegionsHold w us arrays
+holds w arrays us k shown = record { under_way = k.flies; mail = k.mail; coherent = in_views w arrays us k; records = shown }
 
-go_on : (w v : World) (us : List Under) (later : ℕ → Name → List ℕ) (arrays left : Name → List ℕ) (g : GoneOn w v us later arrays left) → RegionsGoOn w v us g.under arrays left
-go_on w v us later arrays left g = record {
+go_on : (w v : World) (us : List Under) (arrays left : Name → List ℕ) (g : GoneOn w v us arrays left) → RegionsGoOn w v us g.under arrays left
+go_on w v us arrays left g = record {
   there = λ q h there. let x = g.went q h there in (x.0, x.1, x.2);
   goes_on = λ q h there.
       let x = g.went q h there in
@@ -168,28 +148,28 @@ go_on w v us later arrays left g = record {
 }
 
 -- A step keeps what the records show.
-no_tables : (w : World) (drafts : ℕ → Name → List ℕ) (arrays : Name → List ℕ) (us : List Under) → AllNodesHold w drafts arrays us → (i : ℕ) (q : Name) (r : Remote) → (w.nodes i).remotes q ≡ Some r → home_of (w.nodes i) q ≡ None
-no_tables w drafts arrays us k i q r e = no_home i (drafts i) (w.nodes i) q r e (k.fits i)
+no_tables : (w : World) (arrays : Name → List ℕ) (us : List Under) → AllNodesHold w arrays us → (i : ℕ) (q : Name) (r : Remote) → (w.nodes i).remotes q ≡ Some r → home_of (w.nodes i) q ≡ None
+no_tables w arrays us k i q r e = no_home i (w.nodes i) q r e (k.fits i)
 
-shown_on : (w : World) (drafts later : ℕ → Name → List ℕ) (arrays left : Name → List ℕ) (us : List Under) (e : Event) → is_enabled e w ≡ true → AllNodesHold w drafts arrays us → (g : GoneOn w (step e w).world us later arrays left) → Shows w arrays → Shows (step e w).world left
-shown_on w drafts later arrays left us e may k g shown =
-    records_show w (step e w).world drafts later arrays left us g.under k g.whole (in_views w drafts arrays us k) (in_views (step e w).world later left g.under g.whole) (go_on w (step e w).world us later arrays left g)
-    (records_turn w (step e w) (turn_of w e may) (no_tables w drafts arrays us k)) shown
+shown_on : (w : World) (arrays left : Name → List ℕ) (us : List Under) (e : Event) → is_enabled e w ≡ true → AllNodesHold w arrays us → (g : GoneOn w (step e w).world us arrays left) → Shows w arrays → Shows (step e w).world left
+shown_on w arrays left us e may k g shown =
+    records_show w (step e w).world arrays left us g.under k g.whole (in_views w arrays us k) (in_views (step e w).world left g.under g.whole) (go_on w (step e w).world us arrays left g)
+    (records_turn w (step e w) (turn_of w e may) (no_tables w arrays us k)) shown
 
 -- A run, with what is under way in it.
 pub record NodesHold (w : World) (arrays : Name → List ℕ) : Type 0 where
-  pub drafts : ℕ → Name → List ℕ
   pub under : List Under
-  pub whole : AllNodesHold w drafts arrays under
+  pub whole : AllNodesHold w arrays under
   pub shown : Shows w arrays
 
 run_on : (w : World) (arrays : Name → List ℕ) (es : List Event) → IsRunFrom w es → NodesHold w arrays → NodesHold (world_after w es) (λ q. array_from q w es (arrays q))
 run_on w arrays [] h k = k
 run_on w arrays (e ∷ es) h k =
-    let g = event_on w k.drafts arrays k.under e h.0 k.whole in run_on (step e w).world (λ q. array_after q e w (arrays q)) es h.1 (record { drafts = g.0; under = g.1.under; whole = g.1.whole; shown = shown_on w k.drafts g.0 arrays _ k.under e h.0 k.whole g.1 k.shown })
+    let g = event_on w arrays k.under e h.0 k.whole in
+    run_on (step e w).world (λ q. array_after q e w (arrays q)) es h.1 (record { under = g.under; whole = g.whole; shown = shown_on w arrays _ k.under e h.0 k.whole g k.shown })
 
 pub nodes_hold : (count capacity : ℕ) (run : List Event) → IsRunFrom (new_world count capacity) run → NodesHold (world_of count capacity run) (λ q. array_of q count capacity run)
-nodes_hold count capacity run r = run_on (new_world count capacity) (λ q. []) run r (record { drafts = λ i q. []; under = []; whole = whole_start count capacity; shown = λ i q r e. absurd (cc) })
+nodes_hold count capacity run r = run_on (new_world count capacity) (λ q. []) run r (record { under = []; whole = whole_start count capacity; shown = λ i q r e. absurd (cc) })
 
 count_stays : (es : List Event) (w : World) → IsRunFrom w es → (world_after w es).count ≡ w.count
 count_stays [] w r = refl
@@ -199,7 +179,7 @@ pub count_in_run : (count capacity : ℕ) (run : List Event) → IsRunFrom (new_
 count_in_run count capacity run r = count_stays run (new_world count capacity) r
 
 -- whatever is under way and holds of all regions
-pub with_regions : (w : World) (us : List Under) (arrays before : Name → List ℕ) (k : NodesHold w before) → RegionsHold w us arrays → AllNodesHold w k.drafts arrays us
+pub with_regions : (w : World) (us : List Under) (arrays before : Name → List ℕ) (k : NodesHold w before) → RegionsHold w us arrays → AllNodesHold w arrays us
 with_regions w us arrays before k h = let x = k.whole in record {
   fits = x.fits;
   agrees = x.agrees;
@@ -214,14 +194,14 @@ with_regions w us arrays before k h = let x = k.whole in record {
 }
 
 pub regions_start : (count capacity : ℕ) → RegionsHold (new_world count capacity) [] (λ q. [])
-regions_start count capacity = holds _ _ _ _ (whole_start count capacity) (λ i q r e. absurd (cc))
+regions_start count capacity = holds _ _ _ (whole_start count capacity) (λ i q r e. absurd (cc))
 
 pub regions_step : AfterRuns EventsKeepRegions
 regions_step count capacity run r e may us arrays h =
     let w = world_of count capacity run in
     let k = nodes_hold count capacity run r in
     let a = with_regions w us arrays _ k h in
-    let g = (event_on w k.drafts arrays us e may a).1 in record { under = g.under; hold = holds _ _ _ _ g.whole (shown_on w k.drafts _ arrays _ us e may a g h.records); go_on = go_on w (step e w).world us _ arrays _ g }
+    let g = event_on w arrays us e may a in record { under = g.under; hold = holds _ _ _ g.whole (shown_on w arrays _ us e may a g h.records); go_on = go_on w (step e w).world us arrays _ g }
 
 pub regions_in_runs : (count capacity : ℕ) (run : List Event) → IsRunFrom (new_world count capacity) run → (us : List Under) × RegionsHold (world_of count capacity run) us (λ q. array_of q count capacity run)
-regions_in_runs count capacity run r = let k = nodes_hold count capacity run r in (k.under, holds _ _ _ _ k.whole k.shown)
+regions_in_runs count capacity run r = let k = nodes_hold count capacity run r in (k.under, holds _ _ _ k.whole k.shown)

@@ -14,20 +14,18 @@ use Rattle.crl_protocol.specs.Node.{Node, Outcome, ForSection, Activity, Free, C
 use Rattle.crl_protocol.specs.Sectioning.{copy_bytes, opens_now, waits}
 use Rattle.crl_protocol.specs.Sections.{section_at}
 use Rattle.crl_protocol.specs.Verdict.{of_start, of_end, of_open}
-use Rattle.crl_deeds.proofs.Fitting.{by_name, name_self, NoOwn, QueueFits, AskingFits, IsCached, Fits}
 use Rattle.crl_deeds.specs.Deeds.{opened_at}
-use Rattle.crl_deeds.proofs.Outcomes.{home_bytes, queue_of, asking_of, not_mine}
-use Rattle.crl_deeds.proofs.Serving as serving
-use Rattle.crl_deeds.proofs.Serving.{HomeGoes, read_goes, write_goes, HomeStarts, starts_fit}
 use Rattle.crl_coherence.specs.Region as region
 use Rattle.crl_coherence.specs.Region.{Flying, Region, Happens, at_home, at_remote, IsIdle, MayStart}
 use Rattle.crl_regions.proofs.Opened.{begun, home_begun, side_begun, noted_begun, noted_other}
 use Rattle.crl_regions.proofs.Acts.{expected, CountFits, Comes, Acts, acts_if, home_is, home_here, home_there, moved_here, moved_there}
+use Rattle.crl_deeds.proofs.Laws.{by_name, name_self, home_bytes, queue_of, asking_of, not_mine, starts_fit, remote_start}
+use Rattle.crl_deeds.specs.NodeFacts.{NoOwn, QueueFits, AskingFits, IsCached, Fits}
 
 -- What holds of node i: besides sizes and asks, the sections that it notes are those of its tables, and what it
 -- has of regions that aren't mapped is cached.
-pub record Local (i : ℕ) (d : Name → List ℕ) (n : Node) : Type 0 where
-  pub fits : Fits i n d
+pub record Local (i : ℕ) (n : Node) : Type 0 where
+  pub fits : Fits i n
   pub agrees : (q : Name) → expected (home_of n q) (n.remotes q) ≡ section_at q n.sections
   pub counts : (q : Name) → CountFits (section_at q n.sections)
   pub cached : (q : Name) (size : ℕ) → IsCached q size n.cache → n.maps q ≡ None
@@ -47,19 +45,19 @@ free_asks q r a free (inl none) = none
 free_asks q r a free (inr waits) = cc
 
 -- the home of a name of which there is a record elsewhere
-pub away : (i : ℕ) (d : Name → List ℕ) (n : Node) (name : Name) (r : Remote) → n.remotes name ≡ Some r → Fits i n d → (i == name.home) ≡ false
-away i d n name r e f =
-    let other = not_mine i d n name r e f in ne_eqb i name.home (λ w. eqb-false name.home n.me other (sym w ∙ sym f.me))
+pub away : (i : ℕ) (n : Node) (name : Name) (r : Remote) → n.remotes name ≡ Some r → Fits i n → (i == name.home) ≡ false
+away i n name r e f =
+    let other = not_mine i n name r e f in ne_eqb i name.home (λ w. eqb-false name.home n.me other (sym w ∙ sym f.me))
 
-pub no_table : (i : ℕ) (d : Name → List ℕ) (n : Node) (name : Name) (r : Remote) → n.remotes name ≡ Some r → Fits i n d → home_of n name ≡ None
-no_table i d n name r e f = cond-false (is_mine n name) _ _ (not_mine i d n name r e f)
+pub no_table : (i : ℕ) (n : Node) (name : Name) (r : Remote) → n.remotes name ≡ Some r → Fits i n → home_of n name ≡ None
+no_table i n name r e f = cond-false (is_mine n name) _ _ (not_mine i n name r e f)
 
 -- the table's own section
-pub mine_is : (i : ℕ) (d : Name → List ℕ) (n : Node) (name : Name) (h : Home) → home_of n name ≡ Some h → Local i d n → h.mine ≡ section_at name n.sections
-mine_is i d n name h e l = sym (ap (λ o. expected o (n.remotes name)) e) ∙ l.agrees name
+pub mine_is : (i : ℕ) (n : Node) (name : Name) (h : Home) → home_of n name ≡ Some h → Local i n → h.mine ≡ section_at name n.sections
+mine_is i n name h e l = sym (ap (λ o. expected o (n.remotes name)) e) ∙ l.agrees name
 
-pub here_is : (i : ℕ) (d : Name → List ℕ) (n : Node) (name : Name) (r : Remote) → n.remotes name ≡ Some r → Local i d n → r.here ≡ section_at name n.sections
-here_is i d n name r e l = sym (ap (λ o. expected o (n.remotes name)) (no_table i d n name r e l.fits) ∙ ap (λ o. expected None o) e) ∙ l.agrees name
+pub here_is : (i : ℕ) (n : Node) (name : Name) (r : Remote) → n.remotes name ≡ Some r → Local i n → r.here ≡ section_at name n.sections
+here_is i n name r e l = sym (ap (λ o. expected o (n.remotes name)) (no_table i n name r e l.fits) ∙ ap (λ o. expected None o) e) ∙ l.agrees name
 
 -- An event at the home, and at another node, over the region as it is.
 pub home_event : (me k : ℕ) (h : Home) (step : ℕ → Home → HomeStep) (g : Region) (rest : List Flying) (array : List ℕ) → me ≡ k → g.home ≡ h
@@ -112,16 +110,16 @@ abbrev home_start : Bool → Bool → Name → HomeStep → Node → Outcome
 home_start opened write name s n =
     if opened then opens_now (opened_at write name s.home.bytes (with_home name s.home n)) (letter_messages n name s.posts) else waits (with_home name s.home n) (ForSection name) (letter_messages n name s.posts)
 
-pub start_home : (K : Name → ℕ → Type 0) (i : ℕ) (d : Name → List ℕ) (n : Node) (write : Bool) (name : Name) (h : Home) (opened : Bool) → (home_starts n.me write h).opened ≡ opened → home_of n name ≡ Some h → of_start write (section_at name n.sections) ≡ None → n.activity ≡ Free → Local i d n
+pub start_home : (K : Name → ℕ → Type 0) (i : ℕ) (n : Node) (write : Bool) (name : Name) (h : Home) (opened : Bool) → (home_starts n.me write h).opened ≡ opened → home_of n name ≡ Some h → of_start write (section_at name n.sections) ≡ None → n.activity ≡ Free → Local i n
     → (q : Name) → let o = home_start opened write name (home_starts n.me write h) n in Acts K q i None None n o.node o.posts
-start_home K i d n write name h opened v e starts free l =
+start_home K i n write name h opened v e starts free l =
     let f = l.fits in
     let may = may_start write (section_at name n.sections) (l.counts name) starts in
-    let none = free_idle n.me name h n.activity free (queue_of i d n name h e f) in
+    let none = free_idle n.me name h n.activity free (queue_of i n name h e f) in
     let s = home_starts n.me write h in
-    let goes = starts_fit n.me write h (home_bytes i d n name h e f) none in
+    let goes = starts_fit n.me write h (home_bytes i n name h e f) none in
     let me : n.me ≡ name.home = eqb-true n.me name.home (home_is n name h e) in
-    let mine = mine_is i d n name h e l in
+    let mine = mine_is i n name h e l in
     let open_now = home_begun n.me write h none in
     let happens : (g : Region) (rest : List Flying) → g.home ≡ h → Comes None g.flight rest → Happens name.home g (record (at_home s rest g) { array = g.array }) =
     λ g rest at_h comes. home_event n.me name.home h (λ k x. home_starts k write x) g rest g.array me at_h
@@ -142,15 +140,15 @@ abbrev side_start : Bool → Bool → Name → RemoteStep → Node → Outcome
 side_start opened write name s n =
     if opened then opens_now (opened_at write name (copy_bytes s.remote.copy) (with_remote name (Some s.remote) n)) (mail_messages n name s.posts) else waits (with_remote name (Some s.remote) n) (ForSection name) (mail_messages n name s.posts)
 
-pub start_side : (K : Name → ℕ → Type 0) (i : ℕ) (d : Name → List ℕ) (n : Node) (write : Bool) (name : Name) (r : Remote) (opened : Bool) → (remote_starts write r).opened ≡ opened → n.remotes name ≡ Some r → of_start write (section_at name n.sections) ≡ None → n.activity ≡ Free → Local i d n
+pub start_side : (K : Name → ℕ → Type 0) (i : ℕ) (n : Node) (write : Bool) (name : Name) (r : Remote) (opened : Bool) → (remote_starts write r).opened ≡ opened → n.remotes name ≡ Some r → of_start write (section_at name n.sections) ≡ None → n.activity ≡ Free → Local i n
     → (q : Name) → let o = side_start opened write name (remote_starts write r) n in Acts K q i None None n o.node o.posts
-start_side K i d n write name r opened v e starts free l =
+start_side K i n write name r opened v e starts free l =
     let f = l.fits in
     let may = may_start write (section_at name n.sections) (l.counts name) starts in
-    let idle = free_asks name r n.activity free (asking_of i d n name r e f) in
+    let idle = free_asks name r n.activity free (asking_of i n name r e f) in
     let s = remote_starts write r in
-    let other_home = away i d n name r e f in
-    let here = here_is i d n name r e l in
+    let other_home = away i n name r e f in
+    let here = here_is i n name r e l in
     let open_now = side_begun write r in
     let put : (with_remote name (Some s.remote) n).remotes name ≡ Some s.remote = cond-true (name_eq name name) _ _ (name_self name) in
     let happens : (g : Region) (rest : List Flying) → g.remotes i ≡ r → r.size ≡ g.home.size → Comes None g.flight rest → Happens name.home g (record (at_remote i s rest g) { array = g.array }) =
@@ -158,7 +156,7 @@ start_side K i d n write name r opened v e starts free l =
     (subst (λ x. Happens name.home g (at_remote i (remote_starts write (g.remotes i)) x g)) (sym comes)
     (region.start i write (eqb-false i name.home other_home) (subst (λ (x : Remote). MayStart write x.here) (sym at_i) (subst (λ x. MayStart write x) (sym here) may))
     (ap (λ (x : Remote). x.asking) at_i ∙ idle) (ap (λ (x : Remote). x.size) at_i ∙ sized))) in
-    let size = (serving.remote_start write r).size in
+    let size = (remote_start write r).size in
     let noted = noted_begun write name (copy_bytes s.remote.copy) n.sections in
     by_name name (λ b q. let o = side_start opened write name s n in Acts K q i None None n o.node o.posts)
     (acts_if K name i None None n opened _ _

@@ -16,9 +16,6 @@ use Rattle.crl_protocol.specs.Remote.{Remote, new_remote}
 use Rattle.crl_protocol.specs.Sections.{section_at}
 use Rattle.crl_protocol.specs.Node.{Node, Outcome, is_mine, home_of}
 use Rattle.crl_protocol.specs.World.{World, boxes_from, pieces_in_boxes, commits, steps_node}
-use Rattle.crl_deeds.proofs.Fitting.{same_name, Seen, seen, LiveFits, OwnFits, SizeIs, Fits}
-use Rattle.crl_deeds.proofs.Growing.{append_nil}
-use Rattle.crl_deeds.proofs.Placing.{all_append}
 use Rattle.crl_protocol.specs.Parcels.{Piece, Key, PartsGathered, pieces_in}
 use Rattle.crl_flight.specs.Flight.{Under, posted, IsFlight, messages_of}
 use Rattle.crl_flight.proofs.Laws.{posts_fly, messages_posted, flight_as}
@@ -34,12 +31,14 @@ use Rattle.crl_regions.proofs.Sections.{away}
 use Rattle.crl_regions.proofs.MappedOrCached.{IsMappedOrCached}
 use Rattle.crl_regions.proofs.Addressed.{Addressed, NodesExistIf}
 use Rattle.crl_regions.specs.MailFits.{Tables, HasTable, ToldFits, FitsTables, MailFits, AllMailFits}
-use Rattle.crl_deeds.proofs.Turning.{Frame}
 use Rattle.crl_regions.proofs.Asking.{WaitsAsking}
 use Rattle.crl_regions.proofs.Mails.{Sends}
 use Rattle.crl_regions.proofs.Carried.{of_node, node_here, node_there}
 use Rattle.crl_regions.proofs.Lift.{Lifted, Outcomes, lift, run_of}
 use Rattle.crl_regions.proofs.AllNodesHold.{AllNodesHold, table_at}
+use Rattle.crl_deeds.proofs.Laws.{same_name, append_nil, all_append}
+use Rattle.crl_deeds.specs.NodeFacts.{Seen, seen, LiveFits, OwnFits, SizeIs, Fits}
+use Rattle.crl_deeds.specs.Turns.{Frame}
 
 -- Tables grow: one that is there stays there, with its size.
 abbrev pub Grows : (Name → Option Home) → (Name → Option Home) → Type 0
@@ -102,24 +101,24 @@ quiet_all tables q [] none f = refl
 quiet_all tables q (m ∷ ms) none f =
     picked_none (flying q m) (find_all (flying q) ms) (ap (λ o. flown (other_end q m) o) (quiet_kind tables q m.sender m.addressee m.kind none f.0)) ∙ quiet_all tables q ms none f.1
 
-pub nothing_flies : (w : World) (drafts : ℕ → Name → List ℕ) (arrays : Name → List ℕ) (us : List Under) (q : Name) → AllNodesHold w drafts arrays us → table_of q w ≡ None → find_all (flying q) (messages_of us) ≡ []
-nothing_flies w drafts arrays us q k none = quiet_all (λ p. table_of p w) q (messages_of us) none k.mail
+pub nothing_flies : (w : World) (arrays : Name → List ℕ) (us : List Under) (q : Name) → AllNodesHold w arrays us → table_of q w ≡ None → find_all (flying q) (messages_of us) ≡ []
+nothing_flies w arrays us q k none = quiet_all (λ p. table_of p w) q (messages_of us) none k.mail
 
 moves_nothing : {A : Type 0} {xs ys : List A} → Moves xs ys → xs ≡ [] → ys ≡ []
 moves_nothing still e = e
 moves_nothing (moved x rest a b m) e = absurd (took_nothing a e)
 
-no_side : (w : World) (drafts : ℕ → Name → List ℕ) (arrays : Name → List ℕ) (us : List Under) (q : Name) (j : ℕ) → AllNodesHold w drafts arrays us → table_of q w ≡ None → (w.nodes j).remotes q ≡ None
-no_side w drafts arrays us q j k none = go ((w.nodes j).remotes q) refl
+no_side : (w : World) (arrays : Name → List ℕ) (us : List Under) (q : Name) (j : ℕ) → AllNodesHold w arrays us → table_of q w ≡ None → (w.nodes j).remotes q ≡ None
+no_side w arrays us q j k none = go ((w.nodes j).remotes q) refl
   where
     go : (o : Option Remote) → (w.nodes j).remotes q ≡ o → (w.nodes j).remotes q ≡ None
     go None e = e
     go (Some r) e = absurd (let t = (k.sizes j q r e).1 in cc)
 
 -- The outcome o of node i, from n on, where the message that came is taken out of the inbox.
-pub record StepFits (w : World) (after : ℕ → Name → List ℕ) (i : ℕ) (e : Event) (inbox : List Piece) (parcels : PartsGathered) (us left : List Under) (o : Outcome) (came : Name → Option Flying) (written : Name → Option (List ℕ)) : Type 0 where
+pub record StepFits (w : World) (i : ℕ) (e : Event) (inbox : List Piece) (parcels : PartsGathered) (us left : List Under) (o : Outcome) (came : Name → Option Flying) (written : Name → Option (List ℕ)) : Type 0 where
   pub few : i < w.count
-  pub fits : (j : ℕ) → Fits j ((steps_node i e o w).world.nodes j) (after j)
+  pub fits : (j : ℕ) → Fits j ((steps_node i e o w).world.nodes j)
   pub acts : (q : Name) → Acts (λ p size. (h : Home) × (table_of p w ≡ Some h) × (h.size ≡ size)) q i (came q) (written q) (record (w.nodes i) { inbox = inbox; parcels = parcels }) o.node o.posts
   pub frame : Frame (record (w.nodes i) { inbox = inbox; parcels = parcels }) o.node
   pub cached : IsMappedOrCached o.node
@@ -134,12 +133,12 @@ own_live : (b : Bool) (v : Seen) → OwnFits b v → LiveFits v.stage v.home
 own_live true v own = own.live
 own_live false v own = subst (λ s. LiveFits s v.home) (sym own.unknown) tt
 
-pub whole_stepped : (w : World) (drafts later : ℕ → Name → List ℕ) (arrays : Name → List ℕ) (i : ℕ) (e : Event) (inbox : List Piece) (parcels : PartsGathered) (us left : List Under) (o : Outcome) (came : Name → Option Flying) (written : Name → Option (List ℕ))
-    → AllNodesHold w drafts arrays us → StepFits w later i e inbox parcels us left o came written
-    → AllNodesHold (steps_node i e o w).world later (λ q. bytes_after (written q) (arrays q)) (left ++ map posted o.posts)
+pub whole_stepped : (w : World) (arrays : Name → List ℕ) (i : ℕ) (e : Event) (inbox : List Piece) (parcels : PartsGathered) (us left : List Under) (o : Outcome) (came : Name → Option Flying) (written : Name → Option (List ℕ))
+    → AllNodesHold w arrays us → StepFits w i e inbox parcels us left o came written
+    → AllNodesHold (steps_node i e o w).world (λ q. bytes_after (written q) (arrays q)) (left ++ map posted o.posts)
     × ((q : Name) (h : Home) → table_of q w ≡ Some h → Lifted q i (came q) w.nodes (steps_node i e o w).world.nodes (messages_of us) (messages_of (left ++ map posted o.posts)) h (arrays q) (bytes_after (written q) (arrays q)))
     × ((q : Name) (h : Home) → table_of q w ≡ None → table_of q (steps_node i e o w).world ≡ Some h → (size : ℕ) × (created w.count size (λ j. size) ≡ sight q h (steps_node i e o w).world.nodes (messages_of (left ++ map posted o.posts)) (bytes_after (written q) (arrays q))))
-whole_stepped w drafts later arrays i e inbox parcels us left o came written k x = (
+whole_stepped w arrays i e inbox parcels us left o came written k x = (
   record {
     fits = x.fits;
     agrees = of_node w.nodes i m (λ j n. (q : Name) → expected (home_of n q) (n.remotes q) ≡ section_at q n.sections) (λ q. agrees_now q (x.acts q)) (λ j other. k.agrees j);
@@ -225,9 +224,9 @@ whole_stepped w drafts later arrays i e inbox parcels us left o came written k x
       me = (k.fits i).me;
       few = x.few;
       near = λ name h f. subst (NodesExistIf (w.nodes i).me w.count) f ((k.addressed i).node.1.homes name);
-      home_there = λ name h f. grows name h (table_at w drafts arrays us i name h k f).1;
-      side_there = λ name r f. let s = k.sizes i name r f in let g = grows name s.0 s.1 in ((g.0, g.1), away i (drafts i) (w.nodes i) name r f (k.fits i));
-      live = λ name. own_live (is_mine (w.nodes i) name) (seen (w.nodes i) (drafts i) name) ((k.fits i).each name).own;
+      home_there = λ name h f. grows name h (table_at w arrays us i name h k f).1;
+      side_there = λ name r f. let s = k.sizes i name r f in let g = grows name s.0 s.1 in ((g.0, g.1), away i (w.nodes i) name r f (k.fits i));
+      live = λ name. own_live (is_mine (w.nodes i) name) (seen (w.nodes i) name) ((k.fits i).each name).own;
     }
 
     at_home : (q : Name) → (q.home == i) ≡ true → home_of n q ≡ None → table_of q w ≡ None
@@ -239,7 +238,7 @@ whole_stepped w drafts later arrays i e inbox parcels us left o came written k x
     agrees_now q (side_acts next ms none f a p here count s happens) = ap (λ y. expected y (m.remotes q)) (f ∙ none) ∙ here
     agrees_now q (absent a b f g r p s) = ap (λ y. expected y (m.remotes q)) (g ∙ sym f) ∙ ap (λ y. expected (home_of n q) y) r ∙ k.agrees i q ∙ sym s
     agrees_now q (made size a b here f g r p s) =
-        ap (λ y. expected y (m.remotes q)) g ∙ sym (ap (λ y. expected y (n.remotes q)) f ∙ ap (λ y. expected None y) (no_side w drafts arrays us q i k (at_home q here f))) ∙ k.agrees i q ∙ sym s
+        ap (λ y. expected y (m.remotes q)) g ∙ sym (ap (λ y. expected y (n.remotes q)) f ∙ ap (λ y. expected None y) (no_side w arrays us q i k (at_home q here f))) ∙ k.agrees i q ∙ sym s
 
     counts_now : (q : Name) → Acts K q i (came q) (written q) n o.node o.posts → CountFits (section_at q m.sections)
     counts_now q (nothing a b f r p s) = subst (λ y. CountFits y) (sym s) (k.counts i q)
@@ -291,10 +290,10 @@ whole_stepped w drafts later arrays i e inbox parcels us left o came written k x
     new_region : (q : Name) (h : Home) (new : New q h) → table_of q w ≡ None → created n.nodes new.0 (λ j. new.0) ≡ sight q h v.nodes (messages_of now) (bytes_after (written q) (arrays q))
     new_region q h new none =
         let sides : (j : ℕ) → new_remote new.0 ≡ side h.size ((v.nodes j).remotes q) =
-        λ j. sym (ap (λ y. side h.size y) (of_node w.nodes i m (λ l y. y.remotes q ≡ None) (new.5 ∙ no_side w drafts arrays us q i k none) (λ l other. no_side w drafts arrays us q l k none) j) ∙ ap (λ (y : Home). new_remote y.size) new.1) in
+        λ j. sym (ap (λ y. side h.size y) (of_node w.nodes i m (λ l y. y.remotes q ≡ None) (new.5 ∙ no_side w arrays us q i k none) (λ l other. no_side w arrays us q l k none) j) ∙ ap (λ (y : Home). new_remote y.size) new.1) in
         let empty : [] ≡ find_all (flying q) (messages_of now) =
         sym (moves_nothing (moves q) (ap (λ l. find_all (flying q) (messages_of left) ++ l) new.6 ∙ append_nil _
-        ∙ subst (λ c. Comes c (find_all (flying q) (messages_of us)) (find_all (flying q) (messages_of left))) new.3 (x.comes q) ∙ nothing_flies w drafts arrays us q k none)) in
+        ∙ subst (λ c. Comes c (find_all (flying q) (messages_of us)) (find_all (flying q) (messages_of left))) new.3 (x.comes q) ∙ nothing_flies w arrays us q k none)) in
         let bytes : replicate new.0 0 ≡ bytes_after (written q) (arrays q) = sym (ap (λ y. bytes_after y (arrays q)) new.4) in
         λ t. record { home = sym new.1 t; remotes = λ j. sides j t; flight = empty t; array = bytes t }
 
