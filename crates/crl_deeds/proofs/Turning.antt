@@ -1,5 +1,4 @@
--- Each event of a run is a turn of the world: a deed of one node, a piece that is gathered, an answer that is taken, or
--- a piece that is carried. What holds of each node by itself, and of each message, holds throughout a run.
+-- Each event of a run is a turn of the world. What holds of each node by itself, and of each message, holds throughout a run.
 use Rattle.std.proofs.Common.{◌≡◌, ℕ, zero, suc, ◌+◌, ◌<◌, ◌==◌, ◌&&◌, true, None, Some, Option, List, [], ◌∷◌, length, refl, sym, ◌∙◌, subst}
 use Rattle.std.specs.List.{AllByRecursion}
 use Rattle.std.proofs.lemmas.Bool.{cond_both, and_parts, eqb-true, ltb-true}
@@ -23,21 +22,9 @@ use Rattle.crl_protocol.specs.Verdict.{verdict}
 use Rattle.crl_protocol.specs.World.{World, WorldStep, is_call, collects, carries, steps_node, handles_at, stays, step, is_free, is_ready, is_enabled, IsRunFrom, world_after, noted_call}
 use Rattle.crl_deeds.proofs.Placing.{all_append}
 use Rattle.crl_deeds.specs.Deeds.{Cause, Calls, Hears, Copies, Lives, Rounds, Notes, Deed, copies, lives, rounds, notes, home_opens, made, comes_away, flushes_own}
+pub use Rattle.crl_deeds.specs.Turns.{Turn, calls, hears, gathers, answers, carriage, rests, Frame, Came, Parts, Local, HeldIn, HeldOut, HeldAt, Held}
 use Rattle.crl_deeds.proofs.Deeding.{call_deed}
 use Rattle.crl_deeds.proofs.Hearing.{message_deed}
-
--- The turns.
-pub data Turn (w : World) : WorldStep → Type 0 where
-  calls : (i : ℕ) (e : Event) (c : Call) (o : Outcome) → i < w.count → (w.nodes i).activity ≡ Free → is_call (w.nodes i) c (verdict (w.nodes i) c) ≡ true → Deed (w.nodes i) (Calls c) o → Turn w (steps_node i e o w)
-  hears : (i : ℕ) (e : Event) (p : Piece) (rest : List Piece) (parcels : PartsGathered) (part : List ℕ) (o : Outcome) → i < w.count → Took p (w.nodes i).inbox rest
-      → Deed (record (w.nodes i) { inbox = rest; parcels = parcels }) (Hears p.message.sender (with_load part p.message.kind)) o → Turn w (steps_node i e o w)
-  gathers : (i : ℕ) (e : Event) (p : Piece) (rest : List Piece) (parcels : PartsGathered) (key : Key) → i < w.count → Took p (w.nodes i).inbox rest → key_of p.message ≡ Some key
-      → Turn w (steps_node i e (only (record (w.nodes i) { inbox = rest; parcels = parcels }) Done) w)
-  answers : (i : ℕ) (e : Event) (answer : Answer) → i < w.count → (w.nodes i).activity ≡ Ready answer
-      → Turn w (steps_node i e (record { node = record (w.nodes i) { activity = Free }; answer = answer; entries = []; posts = [] }) w)
-  carriage : (i : ℕ) (e : Event) (p : Piece) (rest : List Piece) → i < w.count → Took p (w.nodes i).outbox rest
-      → Turn w (carries i e (Some (record { taken = p; rest = rest })) w)
-  rests : Turn w (stays w)
 
 took_behind : {A : Type 0} (y : A) (ys : List A) (o : Option (Taken A)) → ((t : Taken A) → o ≡ Some t → Took t.taken ys t.rest) → (t : Taken A) → behind y o ≡ Some t → Took t.taken (y ∷ ys) t.rest
 took_behind y ys None h t e = cc
@@ -118,15 +105,6 @@ turn_of w (event.Carry i place) h = go (take_out place (w.nodes i).outbox) refl
     go None x = rests
     go (Some t) x = carriage i (event.Carry i place) t.taken t.rest few (took_at place (w.nodes i).outbox t x)
 
--- What a deed leaves alone.
-pub record Frame (n m : Node) : Type 0 where
-  pub me : m.me ≡ n.me
-  pub nodes : m.nodes ≡ n.nodes
-  pub capacity : m.capacity ≡ n.capacity
-  pub inbox : m.inbox ≡ n.inbox
-  pub outbox : m.outbox ≡ n.outbox
-  pub parcels : m.parcels ≡ n.parcels
-
 copies_frame : (n : Node) (cause : Cause) (o : Outcome) → Copies n cause o → Frame n o.node
 copies_frame n cause o (home_opens c write name h is e v w) = record { me = refl; nodes = refl; capacity = refl; inbox = refl; outbox = refl; parcels = refl }
 copies_frame n cause o _ = record { me = refl; nodes = refl; capacity = refl; inbox = refl; outbox = refl; parcels = refl }
@@ -149,36 +127,6 @@ deed_frame n cause o (lives d) = lives_frame n cause o d
 deed_frame n cause o (rounds d) = rounds_frame n cause o d
 deed_frame n cause o (notes d) = notes_frame n _ _ _ d
 deed_frame n cause o _ = record { me = refl; nodes = refl; capacity = refl; inbox = refl; outbox = refl; parcels = refl }
-
--- What holds of each node by itself and of each message, whatever part of its bytes it has: after every deed, and
--- wherever the boxes and lists differ.
-abbrev pub Came : (Message → Type 0) → ℕ → Cause → Type 0
-Came Q i (Calls c) = Unit {0}
-Came Q i (Hears from k) = Q (record { sender = from; addressee = i; kind = k })
-
-abbrev pub Parts : (Message → Type 0) → Type 0
-Parts Q = (m : Message) (part : List ℕ) → Q m → Q (record m { kind = with_load part m.kind })
-
-pub record Local (count : ℕ) (P : ℕ → Node → Type 0) (Q : Message → Type 0) : Type 0 where
-  pub deed : (i : ℕ) (n : Node) (cause : Cause) (o : Outcome) → i < count → Deed n cause o → Came Q i cause → P i n → P i o.node × AllByRecursion Q o.posts
-  pub boxes : (i : ℕ) (n : Node) (inbox outbox : List Piece) (parcels : PartsGathered) (records : List Recorded) (notes : List Note) (posted : ℕ) → P i n
-      → P i (record n { inbox = inbox; outbox = outbox; parcels = parcels; records = records; notes = notes; posted = posted })
-  pub answered : (i : ℕ) (n : Node) (answer : Answer) → n.activity ≡ Ready answer → P i n → P i (record n { activity = Free })
-  pub parts : Parts Q
-
-abbrev pub HeldIn : (Message → Type 0) → ℕ → Piece → Type 0
-HeldIn Q i p = Q p.message × (p.message.addressee ≡ i)
-
-abbrev pub HeldOut : (Message → Type 0) → Piece → Type 0
-HeldOut Q p = Q p.message
-
-pub record HeldAt (P : ℕ → Node → Type 0) (Q : Message → Type 0) (i : ℕ) (n : Node) : Type 0 where
-  pub node : P i n
-  pub inbox : AllByRecursion (HeldIn Q i) n.inbox
-  pub outbox : AllByRecursion (HeldOut Q) n.outbox
-
-abbrev pub Held : (ℕ → Node → Type 0) → (Message → Type 0) → World → Type 0
-Held P Q w = (i : ℕ) → HeldAt P Q i (w.nodes i)
 
 pub all_took : {A : Type 0} (P : A → Type 0) {x : A} {xs rest : List A} → Took x xs rest → AllByRecursion P xs → P x × AllByRecursion P rest
 all_took P here h = h

@@ -2,4 +2,5 @@
 //! from it for every run. There is no code here but empty functions, whose contracts are the laws.
 #![tactic(auto)]
 
+pub mod deeds;
 pub mod theorems;

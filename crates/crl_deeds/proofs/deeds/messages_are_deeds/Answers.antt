@@ -1,0 +1,5 @@
+use Rattle.crl_deeds.proofs.Hearing.{message_deed}
+use Rattle.crl_deeds.proofs.deeds.messages_are_deeds.Goals as goal
+
+pub returns : goal.returns
+returns c = message_deed
