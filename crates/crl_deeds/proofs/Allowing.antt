@@ -21,12 +21,12 @@ use Rattle.crl_protocol.specs.Verdict.{mapped_size, verdict}
 use Rattle.crl_protocol.specs.World.{is_enabled, is_free, is_call, IsRunFrom}
 use Rattle.crl_protocol.specs.Chosen.{Actor, Running, draft_of, call_with, call_of, eight_at, with_sum, after_change, is_change, is_allowed, goes_on, with_actor}
 use Rattle.crl_deeds.specs.Laws.{IsStatement, IsNext, past_statement, next_call, is_inside, Follows, ended, changes, calls, happens}
-use Rattle.crl_deeds.proofs.Fitting.{by_name, begun, seen, LengthFits, DraftFits, Holds, Fits}
-use Rattle.crl_deeds.proofs.Opening.{own_opened}
+use Rattle.crl_deeds.proofs.Fitting.{by_name, Fits}
 use Rattle.crl_deeds.proofs.Calling.{none_of}
 use Rattle.crl_deeds.proofs.Obeying.{allowed_by}
 use Rattle.crl_deeds.proofs.Entering.{open_size}
-use Rattle.crl_deeds.proofs.Sound.{Sound, by_node, sound_event}
+use Rattle.crl_deeds.proofs.Sound.{by_node}
+use Rattle.crl_deeds.proofs.Drafts.{begun, LengthFits, DraftFits, DraftsOf, DraftsFit, Sound, sound_event}
 
 -- The draft of an open write section has the section's length.
 draft_length : (o : Option OpenSection) (draft : List ℕ) → is_writing (section_of o) ≡ true → DraftFits o draft → length draft ≡ length (section_bytes o)
@@ -38,16 +38,15 @@ draft_length (Some r) draft w f = of_section r.section w f
     of_section (section.Reading count) w f = cc
     of_section section.Writing w f = f
 
-writing_draft : (i : ℕ) (n : Node) (d : Name → List ℕ) (name : Name) → n.activity ≡ Free → is_writing (section_at name n.sections) ≡ true → Fits i n d
+writing_draft : (n : Node) (d : Name → List ℕ) (name : Name) → n.activity ≡ Free → is_writing (section_at name n.sections) ≡ true → DraftsFit n d
     → length (d name) ≡ length (bytes_at name n.sections)
-writing_draft i n d name e w f =
-    draft_length (n.sections.records name) (d name) w (subst (λ a. DraftFits (n.sections.records name) (begun a d name)) e (f.each name).draft)
+writing_draft n d name e w k = draft_length (n.sections.records name) (d name) w (subst (λ a. DraftFits (n.sections.records name) (begun a d name)) e (k name))
 
 -- and the size under which the region is mapped
-writing_size : (i : ℕ) (n : Node) (d : Name → List ℕ) (name : Name) → n.activity ≡ Free → is_writing (section_at name n.sections) ≡ true → Fits i n d
+writing_size : (i : ℕ) (n : Node) (d : Name → List ℕ) (name : Name) → n.activity ≡ Free → is_writing (section_at name n.sections) ≡ true → Fits i n → DraftsFit n d
     → length (d name) ≡ mapped_size (n.maps name)
-writing_size i n d name e w f =
-    let size = open_size (n.sections.records name) (n.maps name) w (f.each name).sections in writing_draft i n d name e w f ∙ size.2 ∙ sym (ap mapped_size size.1)
+writing_size i n d name e w f k =
+    let size = open_size (n.sections.records name) (n.maps name) w (f.each name).sections in writing_draft n d name e w k ∙ size.2 ∙ sym (ap mapped_size size.1)
 
 -- A change keeps the draft's length.
 put_length : (offset : ℕ) (bytes old : List ℕ) → offset + length bytes ≤ length old → length (put_at offset bytes old) ≡ length old
@@ -62,32 +61,13 @@ same_draft : (o : Option OpenSection) (x y : List ℕ) → length x ≡ length y
 same_draft None x y e f = tt
 same_draft (Some r) x y e f = same_length r.section (length x) (length y) (length r.bytes) e f
 
-fits_draft_free : (i : ℕ) (n : Node) (d : Name → List ℕ) (name : Name) (bytes : List ℕ) → length bytes ≡ length (d name)
-    → Fits i (record n { activity = Free }) d → Fits i (record n { activity = Free }) (at_name d name bytes)
-fits_draft_free i n d name bytes e f = record {
-  me = f.me;
-  each = by_name name (λ b p. Holds n.me p Free (record (seen (record n { activity = Free }) d p) { draft = if b then bytes else d p })) (at_it (f.each name)) (λ p w. f.each p);
-  cache = f.cache;
-  fresh = f.fresh;
-  inbox = f.inbox;
-  outbox = f.outbox;
-}
+draft_put : (n : Node) (d : Name → List ℕ) (name : Name) (bytes : List ℕ) → n.activity ≡ Free → length bytes ≡ length (d name) → DraftsFit n d → DraftsFit n (at_name d name bytes)
+draft_put n d name bytes free e k =
+    subst (λ a. DraftsOf n.sections.records (begun a (at_name d name bytes))) (sym free)
+    (by_name name (λ b p. DraftFits (n.sections.records p) (if b then bytes else d p)) (same_draft (n.sections.records name) bytes (d name) e (was name)) (λ p w. was p))
   where
-    at_it : Holds n.me name Free (seen (record n { activity = Free }) d name) → Holds n.me name Free (record (seen (record n { activity = Free }) d name) { draft = bytes })
-    at_it x = record {
-      sections = x.sections;
-      draft = same_draft (n.sections.records name) bytes (d name) e x.draft;
-      own = own_opened (is_mine n name) _ _ _ x.own;
-      queue = x.queue;
-      asking = x.asking;
-      going = x.going;
-      waiting = x.waiting;
-    }
-
-fits_draft : (i : ℕ) (n : Node) (d : Name → List ℕ) (name : Name) (bytes : List ℕ) → n.activity ≡ Free → length bytes ≡ length (d name) → Fits i n d
-    → Fits i n (at_name d name bytes)
-fits_draft i n d name bytes free e =
-    subst (λ a. Fits i (record n { activity = a }) d → Fits i (record n { activity = a }) (at_name d name bytes)) (sym free) (fits_draft_free i n d name bytes e)
+    was : DraftsOf n.sections.records d
+    was = subst (λ a. DraftsOf n.sections.records (begun a d)) free k
 
 -- what an allowed change may do
 in_range : (n : Node) (name : Name) (offset len : ℕ) → verdict n (call.Put name offset len) ≡ None
@@ -107,19 +87,19 @@ allowed None e = refl
 allowed (Some why) e = cc
 
 fits_changed : (i : ℕ) (n : Node) (a : Actor) (s : Statement) → n.activity ≡ Free → (is_change s && is_allowed (verdict n (call_of n a s))) ≡ true
-    → Fits i n a.drafts → Fits i n (after_change s a).drafts
-fits_changed i n a (statement.Call c) free h f = f
-fits_changed i n a (statement.Put name offset bytes) free h f =
+    → Fits i n → DraftsFit n a.drafts → DraftsFit n (after_change s a).drafts
+fits_changed i n a (statement.Call c) free h f k = k
+fits_changed i n a (statement.Put name offset bytes) free h f k =
     let range = in_range n name offset (length bytes) (allowed _ h) in
-    let size = writing_size i n a.drafts name free range.0 f in
+    let size = writing_size i n a.drafts name free range.0 f k in
     let within : offset + length bytes ≤ length (a.drafts name) = subst (λ z. offset + length bytes ≤ z) (sym size) range.1 in
-    fits_draft i n a.drafts name (put_at offset bytes (a.drafts name)) free (put_length offset bytes (a.drafts name) within) f
-fits_changed i n a (statement.Add name offset number) free h f =
+    draft_put n a.drafts name (put_at offset bytes (a.drafts name)) free (put_length offset bytes (a.drafts name) within) k
+fits_changed i n a (statement.Add name offset number) free h f k =
     let range = in_range_added n name offset (allowed _ h) in
-    let size = writing_size i n a.drafts name free range.0 f in
+    let size = writing_size i n a.drafts name free range.0 f k in
     let within : offset + 8 ≤ length (a.drafts name) = subst (λ z. offset + 8 ≤ z) (sym size) range.1 in
-    fits_draft i n a.drafts name (with_sum offset number (a.drafts name)) free
-    (put_length offset (to_be_bytes w64 ((from_be_bytes w64 (eight_at offset (a.drafts name)) + number) % 2 ^ 64)) (a.drafts name) within) f
+    draft_put n a.drafts name (with_sum offset number (a.drafts name)) free
+    (put_length offset (to_be_bytes w64 ((from_be_bytes w64 (eight_at offset (a.drafts name)) + number) % 2 ^ 64)) (a.drafts name) within) k
 
 changed_left : (s : Statement) (a : Actor) → (after_change s a).left ≡ a.left
 changed_left (statement.Call c) a = refl
@@ -128,9 +108,9 @@ changed_left (statement.Add name offset number) a = refl
 
 -- A call of the script may come.
 end_call : (i : ℕ) (n : Node) (a : Actor) (name : Name) (after : List ℕ) (o : Option Refusal) → n.activity ≡ Free
-    → verdict n (call.EndWrite name after) ≡ o → Fits i n a.drafts → is_call n (call.EndWrite name (draft_of o name a)) o ≡ true
+    → verdict n (call.EndWrite name after) ≡ o → DraftsFit n a.drafts → is_call n (call.EndWrite name (draft_of o name a)) o ≡ true
 unfolding verdict
-end_call i n a name after None free v f = eq-eqb _ _ (writing_draft i n a.drafts name free (not-false _ (allowed_by _ _ (none_of _ _ v).1)) f)
+end_call i n a name after None free v f = eq-eqb _ _ (writing_draft n a.drafts name free (not-false _ (allowed_by _ _ (none_of _ _ v).1)) f)
 end_call i n a name after (Some why) free v f = refl
 
 refused_call : (n : Node) (c : Call) (o : Option Refusal) → is_allowed o ≡ false → is_call n c o ≡ true
@@ -141,7 +121,7 @@ by_option : (o : Option Refusal) (P : Option Refusal → Type 0) → P None → 
 by_option None P none some = none
 by_option (Some why) P none some = some why
 
-plain_call : (i : ℕ) (n : Node) (a : Actor) (c : Call) → n.activity ≡ Free → IsStatement (statement.Call c) → Fits i n a.drafts
+plain_call : (i : ℕ) (n : Node) (a : Actor) (c : Call) → n.activity ≡ Free → IsStatement (statement.Call c) → DraftsFit n a.drafts
     → is_call n (call_with n a c) (verdict n (call_with n a c)) ≡ true
 unfolding verdict
 plain_call i n a (call.Create size) free h f = by_option _ (λ o. is_call n (call.Create size) o ≡ true) refl (λ why. refl)
@@ -158,7 +138,7 @@ plain_call i n a (call.Flush name) free h f = by_option _ (λ o. is_call n (call
 plain_call i n a (call.Come part) free h f = by_option _ (λ o. is_call n (call.Come part) o ≡ true) refl (λ why. refl)
 
 script_call : (i : ℕ) (n : Node) (a : Actor) (s : Statement) → n.activity ≡ Free → IsStatement s
-    → (is_change s && is_allowed (verdict n (call_of n a s))) ≡ false → Fits i n a.drafts
+    → (is_change s && is_allowed (verdict n (call_of n a s))) ≡ false → DraftsFit n a.drafts
     → is_call n (call_of n a s) (verdict n (call_of n a s)) ≡ true
 script_call i n a (statement.Call c) free h out f = plain_call i n a c free h f
 script_call i n a (statement.Put name offset bytes) free h out f = refused_call n (call.Put name offset (length bytes)) _ out
@@ -168,7 +148,7 @@ script_enabled : (r : Running) (i : ℕ) (s : Statement) → i < r.world.count �
     → is_inside r i s ≡ false → Sound r → is_enabled (event.Call i (next_call r i s)) r.world ≡ true
 unfolding is_enabled
 script_enabled r i s h free st out sound =
-    and_from _ _ (lt-ltb i r.world.count h) (and_from _ _ (ap is_free free) (script_call i (r.world.nodes i) (r.actors i) s free st out (sound.fits i)))
+    and_from _ _ (lt-ltb i r.world.count h) (and_from _ _ (ap is_free free) (script_call i (r.world.nodes i) (r.actors i) s free st out (sound.drafts i)))
 
 -- The next statement of a node is taken.
 of_left : (r : Running) (i : ℕ) (s : Statement) (left : List Statement) → (r.actors i).left ≡ s ∷ left → Sound r → IsStatement s × AllByRecursion IsStatement left
@@ -176,7 +156,8 @@ of_left r i s left e sound = subst (λ x. AllByRecursion IsStatement x) e (sound
 
 sound_passed : (r : Running) (i : ℕ) (s : Statement) (left : List Statement) → (r.actors i).left ≡ s ∷ left → Sound r → Sound (past_statement r i left)
 sound_passed r i s left e sound = record {
-  fits = by_node i (λ b j. Fits j (r.world.nodes j) (if b then record (r.actors i) { left = left } else r.actors j).drafts) (sound.fits i) sound.fits;
+  fits = sound.fits;
+  drafts = by_node i (λ b j. DraftsFit (r.world.nodes j) (if b then record (r.actors i) { left = left } else r.actors j).drafts) (sound.drafts i) sound.drafts;
   left = by_node i (λ b j. AllByRecursion IsStatement (if b then record (r.actors i) { left = left } else r.actors j).left) (of_left r i s left e sound).1 sound.left;
 }
 
@@ -185,8 +166,9 @@ sound_changed : (r : Running) (i : ℕ) (s : Statement) (left : List Statement) 
 sound_changed r i s left n inside sound =
     let actor : Actor = record (r.actors i) { left = left } in
     record {
-      fits = by_node i (λ b j. Fits j (r.world.nodes j) (if b then after_change s actor else r.actors j).drafts)
-          (fits_changed i (r.world.nodes i) actor s n.1 (same_call (r.world.nodes i) (r.actors i) left s inside) (sound.fits i)) sound.fits;
+      fits = sound.fits;
+      drafts = by_node i (λ b j. DraftsFit (r.world.nodes j) (if b then after_change s actor else r.actors j).drafts)
+          (fits_changed i (r.world.nodes i) actor s n.1 (same_call (r.world.nodes i) (r.actors i) left s inside) (sound.fits i) (sound.drafts i)) sound.drafts;
       left = by_node i (λ b j. AllByRecursion IsStatement (if b then after_change s actor else r.actors j).left)
           (subst (λ x. AllByRecursion IsStatement x) (sym (changed_left s actor)) (of_left r i s left n.0 sound).1) sound.left;
     }

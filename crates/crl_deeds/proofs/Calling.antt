@@ -38,39 +38,39 @@ mapped_by None e = cc
 mapped_by (Some m) e = (m, refl)
 
 -- refused
-good_used : (i : ℕ) (d : Name → List ℕ) (n : Node) → Fits i n d → Fits i (uses_serial n) d
-good_used i d n f = cond_both (serials_used n == COUNT_LIMIT) _ _ (λ m. Fits i m d) (λ w. f) (λ w. fits_used i n d f)
+good_used : (i : ℕ) (n : Node) → Fits i n → Fits i (uses_serial n)
+good_used i n f = cond_both (serials_used n == COUNT_LIMIT) _ _ (λ m. Fits i m) (λ w. f) (λ w. fits_used i n f)
 
-pub good_refused : (i : ℕ) (d : Name → List ℕ) (n : Node) (why : Refusal) (c : Call) → Fits i n d → Good i d (refuses_call why c n)
+pub good_refused : (i : ℕ) (n : Node) (why : Refusal) (c : Call) → Fits i n → Good i (refuses_call why c n)
 unfolding refuses_call
-good_refused i d n why (call.Create size) f = record { node = good_used i d n f; posts = tt }
-good_refused i d n why (call.Delete name) f = record { node = f; posts = tt }
-good_refused i d n why (call.Map name) f = record { node = f; posts = tt }
-good_refused i d n why (call.Unmap name) f = record { node = f; posts = tt }
-good_refused i d n why (call.StartRead name) f = record { node = f; posts = tt }
-good_refused i d n why (call.EndRead name) f = record { node = f; posts = tt }
-good_refused i d n why (call.StartWrite name) f = record { node = f; posts = tt }
-good_refused i d n why (call.EndWrite name after) f = record { node = f; posts = tt }
-good_refused i d n why (call.Put name offset len) f = record { node = f; posts = tt }
-good_refused i d n why (call.Add name offset) f = record { node = f; posts = tt }
-good_refused i d n why (call.Flush name) f = record { node = f; posts = tt }
-good_refused i d n why (call.Come part) f = record { node = f; posts = tt }
+good_refused i n why (call.Create size) f = record { node = good_used i n f; posts = tt }
+good_refused i n why (call.Delete name) f = record { node = f; posts = tt }
+good_refused i n why (call.Map name) f = record { node = f; posts = tt }
+good_refused i n why (call.Unmap name) f = record { node = f; posts = tt }
+good_refused i n why (call.StartRead name) f = record { node = f; posts = tt }
+good_refused i n why (call.EndRead name) f = record { node = f; posts = tt }
+good_refused i n why (call.StartWrite name) f = record { node = f; posts = tt }
+good_refused i n why (call.EndWrite name after) f = record { node = f; posts = tt }
+good_refused i n why (call.Put name offset len) f = record { node = f; posts = tt }
+good_refused i n why (call.Add name offset) f = record { node = f; posts = tt }
+good_refused i n why (call.Flush name) f = record { node = f; posts = tt }
+good_refused i n why (call.Come part) f = record { node = f; posts = tt }
 
 -- a delete
-good_own_delete : (i : ℕ) (d : Name → List ℕ) (n : Node) (name : Name) (lifetime : Lifetime) (ms : List ℕ) → is_mine n name ≡ true → Fits i (free n) d
-    → Good i d (deletes_own name (elim ms [ [] ↦ record lifetime { stage = stage.Gone } | m ∷ rest ↦ record lifetime { stage = stage.Going n.me; missing = lifetime.asked } ]) (free n))
-good_own_delete i d n name lifetime [] mine f = record { node = fits_lifetime i (free n) d name (record lifetime { stage = stage.Gone }) mine tt tt f; posts = tt }
-good_own_delete i d n name lifetime (m ∷ rest) mine f = record {
-  node = fits_lifetime i (record n { activity = Waiting (ForDelete name) }) d name (record lifetime { stage = stage.Going n.me; missing = lifetime.asked }) mine tt (inr refl)
-      (fits_turn i n d d Free (Waiting (ForDelete name)) free_apart (λ q. tt) tt refl f);
+good_own_delete : (i : ℕ) (n : Node) (name : Name) (lifetime : Lifetime) (ms : List ℕ) → is_mine n name ≡ true → Fits i (free n)
+    → Good i (deletes_own name (elim ms [ [] ↦ record lifetime { stage = stage.Gone } | m ∷ rest ↦ record lifetime { stage = stage.Going n.me; missing = lifetime.asked } ]) (free n))
+good_own_delete i n name lifetime [] mine f = record { node = fits_lifetime i (free n) name (record lifetime { stage = stage.Gone }) mine tt tt f; posts = tt }
+good_own_delete i n name lifetime (m ∷ rest) mine f = record {
+  node = fits_lifetime i (record n { activity = Waiting (ForDelete name) }) name (record lifetime { stage = stage.Going n.me; missing = lifetime.asked }) mine tt (inr refl)
+      (fits_turn i n Free (Waiting (ForDelete name)) free_apart (λ q. tt) tt f);
   posts = purges_leave (free n) name (members n.nodes lifetime.asked);
 }
 
-pub good_delete : (i : ℕ) (d : Name → List ℕ) (n : Node) (name : Name) → Fits i (free n) d → Good i d (deletes name (free n))
+pub good_delete : (i : ℕ) (n : Node) (name : Name) → Fits i (free n) → Good i (deletes name (free n))
 unfolding lifetime_begins_delete
-good_delete i d n name f =
-    good_if i d (is_mine n name) _ _ (λ mine. good_own_delete i d n name (lifetime_of n name) (members n.nodes (lifetime_of n name).asked) mine f)
-    (λ other. good_waits i d n (ForDelete name) (message_to n name.home (kind.DeleteAsk name) ∷ []) (λ q. tt) tt ((other_way name.home n.me other, other), tt) f)
+good_delete i n name f =
+    good_if i (is_mine n name) _ _ (λ mine. good_own_delete i n name (lifetime_of n name) (members n.nodes (lifetime_of n name).asked) mine f)
+    (λ other. good_waits i n (ForDelete name) (message_to n name.home (kind.DeleteAsk name) ∷ []) (λ q. tt) tt ((other_way name.home n.me other, other), tt) f)
 
 -- A map.
 record_same : (o : Option OpenSection) (m k : Mapping) → k.size ≡ m.size → RecordFits o (Some m) → RecordFits o (Some k)
@@ -94,11 +94,11 @@ own_same true v m k w e own = record { live = own.live; bytes = own.bytes; mappe
 own_same false v m k w e own =
     record { bytes = own.bytes; mapped = there_same v.remote m k e (subst (λ x. MappedThere x v.remote) w own.mapped); nothing = own.nothing; unknown = own.unknown }
 
-pub fits_same_size : (i : ℕ) (d : Name → List ℕ) (n : Node) (name : Name) (m k : Mapping) → n.maps name ≡ Some m → k.size ≡ m.size
-    → WaitFits name n.activity (is_mine n name) (Some k) → Fits i n d → Fits i (with_mapping name (Some k) n) d
-fits_same_size i d n name m k w e wait f =
-    fits_mapping i n d name (Some k) (record_same (n.sections.records name) m k e (subst (λ x. RecordFits (n.sections.records name) x) w (f.each name).sections))
-    (own_same (is_mine n name) (seen n d name) m k w e (f.each name).own) wait f
+pub fits_same_size : (i : ℕ) (n : Node) (name : Name) (m k : Mapping) → n.maps name ≡ Some m → k.size ≡ m.size
+    → WaitFits name n.activity (is_mine n name) (Some k) → Fits i n → Fits i (with_mapping name (Some k) n)
+fits_same_size i n name m k w e wait f =
+    fits_mapping i n name (Some k) (record_same (n.sections.records name) m k e (subst (λ x. RecordFits (n.sections.records name) x) w (f.each name).sections))
+    (own_same (is_mine n name) (seen n name) m k w e (f.each name).own) wait f
 
 live_size : (s : Stage) (h : Option Home) → s ≡ stage.Live → LiveFits s h → MappedHere (Some (new_mapping (size_of h) false)) h
 live_size s None e f = absurd (subst (λ x. LiveFits x None) e f)
@@ -117,38 +117,38 @@ there_sized None k h = tt
 there_sized (Some r) k h = sym h
 
 -- no section is open of what isn't mapped
-pub no_record : (i : ℕ) (d : Name → List ℕ) (n : Node) (name : Name) (k : Option Mapping) → n.maps name ≡ None → Fits i n d → RecordFits (n.sections.records name) k
-no_record i d n name k e f = record_new (n.sections.records name) k (subst (λ x. RecordFits (n.sections.records name) x) e (f.each name).sections)
+pub no_record : (i : ℕ) (n : Node) (name : Name) (k : Option Mapping) → n.maps name ≡ None → Fits i n → RecordFits (n.sections.records name) k
+no_record i n name k e f = record_new (n.sections.records name) k (subst (λ x. RecordFits (n.sections.records name) x) e (f.each name).sections)
 
-good_map_own : (i : ℕ) (d : Name → List ℕ) (n : Node) (name : Name) → n.maps name ≡ None → is_mine n name ≡ true → (lifetime_of n name).stage ≡ stage.Live → Fits i (free n) d
-    → Good i d (maps_in name (new_mapping (size_of (home_of n name)) false) (free n))
-good_map_own i d n name e mine live f = record {
-  node = fits_mapping i (free n) d name _ (no_record i d (free n) name _ e f)
-      (own_new (is_mine n name) (seen (free n) d name) _ mine (live_size (lifetime_of n name).stage (home_of n name) live (here_if i d (free n) name mine f).live) (f.each name).own) tt f;
+good_map_own : (i : ℕ) (n : Node) (name : Name) → n.maps name ≡ None → is_mine n name ≡ true → (lifetime_of n name).stage ≡ stage.Live → Fits i (free n)
+    → Good i (maps_in name (new_mapping (size_of (home_of n name)) false) (free n))
+good_map_own i n name e mine live f = record {
+  node = fits_mapping i (free n) name _ (no_record i (free n) name _ e f)
+      (own_new (is_mine n name) (seen (free n) name) _ mine (live_size (lifetime_of n name).stage (home_of n name) live (here_if i (free n) name mine f).live) (f.each name).own) tt f;
   posts = tt;
 }
 
-good_map_cached : (i : ℕ) (d : Name → List ℕ) (n : Node) (name : Name) (size : Option ℕ) → cached_size name n.cache ≡ size → n.maps name ≡ None
-    → is_mine n name ≡ false → Fits i (free n) d
-    → Good i d (maps_cached name size (free n))
-good_map_cached i d n name None c e other f =
-    good_waits i d n (ForMap name false) (message_to n name.home (kind.InfoAsk name) ∷ [])
+good_map_cached : (i : ℕ) (n : Node) (name : Name) (size : Option ℕ) → cached_size name n.cache ≡ size → n.maps name ≡ None
+    → is_mine n name ≡ false → Fits i (free n)
+    → Good i (maps_cached name size (free n))
+good_map_cached i n name None c e other f =
+    good_waits i n (ForMap name false) (message_to n name.home (kind.InfoAsk name) ∷ [])
     (λ q same. (subst (λ x. n.maps x ≡ None) same e, subst (λ x. is_mine n x ≡ false) same other)) (not_cached name n.cache c) (tt, tt) f
-good_map_cached i d n name (Some size) c e other f =
-    let g = fits_cache i (free n) d (cache_without name n.cache) (λ q z h. f.cache q z (kept_dropped name q z n.cache h)) tt f in
+good_map_cached i n name (Some size) c e other f =
+    let g = fits_cache i (free n) (cache_without name n.cache) (λ q z h. f.cache q z (kept_dropped name q z n.cache h)) tt f in
     let m = free (record n { cache = cache_without name n.cache }) in
     record {
-      node = fits_mapping i m d name (Some (new_mapping size false)) (no_record i d m name _ e g)
-          (other_new (is_mine n name) (seen m d name) (new_mapping size false) other
+      node = fits_mapping i m name (Some (new_mapping size false)) (no_record i m name _ e g)
+          (other_new (is_mine n name) (seen m name) (new_mapping size false) other
           (there_sized (n.remotes name) (new_mapping size false) (f.cache name size (is_cached name n.cache size c))) (g.each name).own) tt g;
       posts = tt;
     }
 
-pub good_map : (i : ℕ) (d : Name → List ℕ) (n : Node) (name : Name) (o : Option Mapping) → n.maps name ≡ o
-    → (is_mine n name ≡ true → (lifetime_of n name).stage ≡ stage.Live) → Fits i (free n) d → Good i d (maps_over name o (free n))
-good_map i d n name (Some m) e live f = record { node = fits_same_size i d (free n) name m (record m { count = m.count + 1 }) e refl tt f; posts = tt }
-good_map i d n name None e live f =
-    good_if i d (is_mine n name) _ _ (λ mine. good_map_own i d n name e mine (live mine) f) (λ other. good_map_cached i d n name (cached_size name n.cache) refl e other f)
+pub good_map : (i : ℕ) (n : Node) (name : Name) (o : Option Mapping) → n.maps name ≡ o
+    → (is_mine n name ≡ true → (lifetime_of n name).stage ≡ stage.Live) → Fits i (free n) → Good i (maps_over name o (free n))
+good_map i n name (Some m) e live f = record { node = fits_same_size i (free n) name m (record m { count = m.count + 1 }) e refl tt f; posts = tt }
+good_map i n name None e live f =
+    good_if i (is_mine n name) _ _ (λ mine. good_map_own i n name e mine (live mine) f) (λ other. good_map_cached i n name (cached_size name n.cache) refl e other f)
 
 -- An unmap.
 own_none : (b : Bool) (v : Seen) → OwnFits b v → OwnFits b (record v { mapping = None })
@@ -160,9 +160,9 @@ record_closed None m h f = tt
 record_closed (Some r) None h f = f
 record_closed (Some r) (Some m) h f = let w = f.1 in cc
 
-good_evicts : (i : ℕ) (d : Name → List ℕ) (n : Node) (o : Option Name) → Fits i n d → Good i d (forgets_evicted o n)
-good_evicts i d n None f = good_only i d n f
-good_evicts i d n (Some name) f = good_forgets i d n name f
+good_evicts : (i : ℕ) (n : Node) (o : Option Name) → Fits i n → Good i (forgets_evicted o n)
+good_evicts i n None f = good_only i n f
+good_evicts i n (Some name) f = good_forgets i n name f
 
 -- what is in the cache afterwards is the new one or was there
 abbrev IsKept : Cached → List Cached → List Cached → Type 0
@@ -182,11 +182,11 @@ kept_in capacity new cache =
     cond_both (capacity == 0) _ _ (λ (k : CacheStep). IsKept new cache k.cache) (λ w q size h. inr h)
     (λ w. cond_both (nat_lt (length cache) capacity) _ _ (λ (k : CacheStep). IsKept new cache k.cache) (λ v q size h. kept_more q size new cache h) (λ v. kept_out new cache))
 
-good_caches : (i : ℕ) (d : Name → List ℕ) (n : Node) (name : Name) (size : ℕ) → SizeIs (n.remotes name) size → Fits i (free n) d → Good i d (caches name size (free n))
-good_caches i d n name size sized f =
+good_caches : (i : ℕ) (n : Node) (name : Name) (size : ℕ) → SizeIs (n.remotes name) size → Fits i (free n) → Good i (caches name size (free n))
+good_caches i n name size sized f =
     let kept = cache_with n.capacity (record { name = name; size = size }) n.cache in
-    good_evicts i d (free (record n { cache = kept.cache })) kept.evicted
-    (fits_cache i (free n) d kept.cache (λ q z h. its q z (kept_in n.capacity (record { name = name; size = size }) n.cache q z h)) tt f)
+    good_evicts i (free (record n { cache = kept.cache })) kept.evicted
+    (fits_cache i (free n) kept.cache (λ q z h. its q z (kept_in n.capacity (record { name = name; size = size }) n.cache q z h)) tt f)
   where
     its : (q : Name) (z : ℕ) → ((name ≡ q) × (size ≡ z)) ⊎ IsCached q z n.cache → SizeIs (n.remotes q) z
     its q z (inl w) = subst (λ x. SizeIs (n.remotes q) x) w.1 (subst (λ x. SizeIs (n.remotes x) size) w.0 sized)
@@ -196,15 +196,15 @@ sized_there : (o : Option Remote) (m : Mapping) → MappedThere (Some m) o → S
 sized_there None m h = tt
 sized_there (Some r) m h = sym h
 
-pub good_unmap : (i : ℕ) (d : Name → List ℕ) (n : Node) (name : Name) (o : Option Mapping) → n.maps name ≡ o
-    → is_closed (section_at name n.sections) ≡ true → Fits i (free n) d → Good i d (unmaps_over name o (free n))
-good_unmap i d n name None e closed f = good_only i d (free n) f
-good_unmap i d n name (Some m) e closed f =
-    let g = fits_mapping i (free n) d name None (record_closed (n.sections.records name) (n.maps name) closed (f.each name).sections)
-    (own_none (is_mine n name) (seen (free n) d name) (f.each name).own) tt f in
+pub good_unmap : (i : ℕ) (n : Node) (name : Name) (o : Option Mapping) → n.maps name ≡ o
+    → is_closed (section_at name n.sections) ≡ true → Fits i (free n) → Good i (unmaps_over name o (free n))
+good_unmap i n name None e closed f = good_only i (free n) f
+good_unmap i n name (Some m) e closed f =
+    let g = fits_mapping i (free n) name None (record_closed (n.sections.records name) (n.maps name) closed (f.each name).sections)
+    (own_none (is_mine n name) (seen (free n) name) (f.each name).own) tt f in
     let u = with_mapping name None n in
-    good_if i d (m.count == 1) _ _
-    (λ w. good_if i d (is_mine n name) _ _ (λ mine. good_only i d (free u) g)
-    (λ other. good_if i d m.doomed _ _ (λ v. good_forgets i d (free u) name g)
-    (λ v. good_caches i d u name m.size (sized_there (n.remotes name) m (subst (λ x. MappedThere x (n.remotes name)) e (there_if i d (free n) name other f).mapped)) g)))
-    (λ w. record { node = fits_same_size i d (free n) name m (record m { count = m.count - 1 }) e refl tt f; posts = tt })
+    good_if i (m.count == 1) _ _
+    (λ w. good_if i (is_mine n name) _ _ (λ mine. good_only i (free u) g)
+    (λ other. good_if i m.doomed _ _ (λ v. good_forgets i (free u) name g)
+    (λ v. good_caches i u name m.size (sized_there (n.remotes name) m (subst (λ x. MappedThere x (n.remotes name)) e (there_if i (free n) name other f).mapped)) g)))
+    (λ w. record { node = fits_same_size i (free n) name m (record m { count = m.count - 1 }) e refl tt f; posts = tt })

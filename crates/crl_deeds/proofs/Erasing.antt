@@ -98,48 +98,48 @@ made_same i r n size none = go (is_mine n r) refl
     go true w = inner (serials_used n + 1 == r.serial) refl
     go false w = refl
 
-delete_lives : (i : ℕ) (r : Name) (j : ℕ) (d : Name → List ℕ) (n : Node) (cause : Cause) (o : Outcome) → Lives n cause o → Fits j n d → NoneYet n → FreeIf cause n → Balance (token i r) (deleting i r) (waits_delete r) i n (came (token i r) n.me cause) o
-delete_lives i r j d n cause o (made size e) f none free = let same = made_same i r n size none in omega arith
-delete_lives i r j d n cause o (map_asks name e other c real) f none free =
+delete_lives : (i : ℕ) (r : Name) (j : ℕ) (n : Node) (cause : Cause) (o : Outcome) → Lives n cause o → Fits j n → NoneYet n → FreeIf cause n → Balance (token i r) (deleting i r) (waits_delete r) i n (came (token i r) n.me cause) o
+delete_lives i r j n cause o (made size e) f none free = let same = made_same i r n size none in omega arith
+delete_lives i r j n cause o (map_asks name e other c real) f none free =
     let was = no_wait_as (waits_delete r) i n Free free refl in let now = no_wait (waits_delete r) i o.node refl in omega arith
-delete_lives i r j d n cause o (map_told from name mine live) f none free = let x = exchange i r n name (record (lifetime_of n name) { asked = at_node (lifetime_of n name).asked from true }) stage.Live stage.Live mine live live in omega arith
-delete_lives i r j d n cause o (map_comes from name purged size e) f none free =
+delete_lives i r j n cause o (map_told from name mine live) f none free = let x = exchange i r n name (record (lifetime_of n name) { asked = at_node (lifetime_of n name).asked from true }) stage.Live stage.Live mine live live in omega arith
+delete_lives i r j n cause o (map_comes from name purged size e) f none free =
     let was = no_wait_as (waits_delete r) i n _ e refl in let now = no_wait (waits_delete r) i o.node refl in omega arith
-delete_lives i r j d n cause o (map_denied from name purged s why t q u e) f none free =
+delete_lives i r j n cause o (map_denied from name purged s why t q u e) f none free =
     let was = no_wait_as (waits_delete r) i n _ e refl in let now = no_wait (waits_delete r) i o.node refl in omega arith
-delete_lives i r j d n cause o (unmaps_doomed name m e one other doomed closed) f none free = even _ _ _ _ (parting_none _ _ _ (span i r) n name (n.remotes name)) refl
-delete_lives i r j d n cause o (unmaps_evicting name m old e one other sound closed kept) f none free = even _ _ _ _ (parting_none _ _ _ (span i r) n old (n.remotes old)) refl
-delete_lives i r j d n cause o (deletes_alone name mine live e) f none free = let x = exchange i r n name (record (lifetime_of n name) { stage = stage.Gone }) stage.Live stage.Gone mine live refl in omega arith
-delete_lives i r j d n cause o (deletes_own name m ms mine live e) f none free =
+delete_lives i r j n cause o (unmaps_doomed name m e one other doomed closed) f none free = even _ _ _ _ (parting_none _ _ _ (span i r) n name (n.remotes name)) refl
+delete_lives i r j n cause o (unmaps_evicting name m old e one other sound closed kept) f none free = even _ _ _ _ (parting_none _ _ _ (span i r) n old (n.remotes old)) refl
+delete_lives i r j n cause o (deletes_alone name mine live e) f none free = let x = exchange i r n name (record (lifetime_of n name) { stage = stage.Gone }) stage.Live stage.Gone mine live refl in omega arith
+delete_lives i r j n cause o (deletes_own name m ms mine live e) f none free =
     let x = exchange i r n name (record (lifetime_of n name) { stage = stage.Going n.me; missing = (lifetime_of n name).asked }) stage.Live (stage.Going n.me) mine live refl in
     let was = no_wait_as (waits_delete r) i n Free free refl in
     let sent = purges_none _ _ _ (span i r) n name (members n.nodes (lifetime_of n name).asked) in
     let z = none_to (name_eq name r) 0 in
     let y = swap (name_eq name r) (n.me == i) 1 in omega arith
-delete_lives i r j d n cause o (delete_asks name other real) f none free = let was = no_wait_as (waits_delete r) i n Free free refl in omega arith
-delete_lives i r j d n cause o (deletes_alone_for from name mine live e) f none free = let x = exchange i r n name (record (lifetime_of n name) { stage = stage.Gone }) stage.Live stage.Gone mine live refl in omega arith
-delete_lives i r j d n cause o (deletes_for from name m ms mine live e) f none free =
+delete_lives i r j n cause o (delete_asks name other real) f none free = let was = no_wait_as (waits_delete r) i n Free free refl in omega arith
+delete_lives i r j n cause o (deletes_alone_for from name mine live e) f none free = let x = exchange i r n name (record (lifetime_of n name) { stage = stage.Gone }) stage.Live stage.Gone mine live refl in omega arith
+delete_lives i r j n cause o (deletes_for from name m ms mine live e) f none free =
     let x = exchange i r n name (record (lifetime_of n name) { stage = stage.Going from; missing = (lifetime_of n name).asked }) stage.Live (stage.Going from) mine live refl in
     let sent = purges_none _ _ _ (span i r) n name (members n.nodes (lifetime_of n name).asked) in
     let z = none_to (name_eq name r) 0 in
     let y = swap (name_eq name r) (from == i) 1 in omega arith
-delete_lives i r j d n cause o (delete_comes from name t e) f none free =
+delete_lives i r j n cause o (delete_comes from name t e) f none free =
     let was : waited (waits_delete r) i n ≡ (if n.me == i then of_name name r else 0) = ap (λ x. if n.me == i then waits_delete r x else 0) e in let now = none_to (n.me == i) 0 in omega arith
-delete_lives i r j d n cause o (drops from name size e c) f none free =
+delete_lives i r j n cause o (drops from name size e c) f none free =
     let a = weigh_append (token i r) (parting n name (n.remotes name)) (message_to n from (kind.Purged name) ∷ []) in let b = parting_none _ _ _ (span i r) n name (n.remotes name) in omega arith
-delete_lives i r j d n cause o (warns from name e c) f none free = let same = ap (λ x. if n.me == i then x else 0) (warned r name n.activity) in omega arith
-delete_lives i r j d n cause o (counts_off from name deleter m ms mine e missing left) f none free = let x = exchange i r n name (record (lifetime_of n name) { missing = at_node (lifetime_of n name).missing from false }) (stage.Going deleter) (stage.Going deleter) mine e e in omega arith
-delete_lives i r j d n cause o (ends_own from name mine e missing last) f none free =
+delete_lives i r j n cause o (warns from name e c) f none free = let same = ap (λ x. if n.me == i then x else 0) (warned r name n.activity) in omega arith
+delete_lives i r j n cause o (counts_off from name deleter m ms mine e missing left) f none free = let x = exchange i r n name (record (lifetime_of n name) { missing = at_node (lifetime_of n name).missing from false }) (stage.Going deleter) (stage.Going deleter) mine e e in omega arith
+delete_lives i r j n cause o (ends_own from name mine e missing last) f none free =
     let x = exchange i r n name (record (lifetime_of n name) { stage = stage.Gone; missing = at_node (lifetime_of n name).missing from false }) (stage.Going n.me) stage.Gone mine e refl in
     let was : waited (waits_delete r) i n ≡ (if n.me == i then of_name name r else 0) = ap (λ a. if n.me == i then waits_delete r a else 0) (going_own n.me name _ n.activity (f.each name).going e) in
     let now = none_to (n.me == i) 0 in
     let z = none_to (name_eq name r) 0 in
     let y = swap (name_eq name r) (n.me == i) 1 in omega arith
-delete_lives i r j d n cause o (ends_for from name deleter mine e other missing last) f none free =
+delete_lives i r j n cause o (ends_for from name deleter mine e other missing last) f none free =
     let x = exchange i r n name (record (lifetime_of n name) { stage = stage.Gone; missing = at_node (lifetime_of n name).missing from false }) (stage.Going deleter) stage.Gone mine e refl in
     let z = none_to (name_eq name r) 0 in
     let y = swap (name_eq name r) (deleter == i) 1 in omega arith
-delete_lives i r j d n cause o _ f none free = omega arith
+delete_lives i r j n cause o _ f none free = omega arith
 
 -- a DeleteIs that nobody waits for doesn't come
 waits_it : (i : ℕ) (r name : Name) (n : Node) (a : Activity) (x : Activity) → (x ≡ Waiting (ForDelete name) → ⊥) → (n.me ≡ i → a ≡ x) → (b : Bool) → (n.me == i) ≡ b
@@ -175,7 +175,7 @@ delete_life : (i : ℕ) (r : Name) → Life i (token i r) (deleting i r) (waits_
 delete_life i r = record {
   tokens = record { whole = λ m. whole_of (token i r) (span i r).mail m.sender m.addressee m.kind; blind = λ n inbox outbox parcels records notes posted. refl; answered = λ n. refl; free = refl; ready = λ answer. refl };
   span = span i r;
-  lives = λ j d n cause o c f k free. delete_lives i r j d n cause o c f k free;
+  lives = λ j n cause o c f k free. delete_lives i r j n cause o c f k free;
   idle = delete_idle i r;
   near = delete_near i r;
 }

@@ -13,7 +13,7 @@ use Rattle.crl_protocol.specs.Sections.{is_writing}
 use Rattle.crl_protocol.specs.Node.{Node, ForSection, Activity, Free, Waiting, Ready, home_of, lifetime_of, with_home, with_remote, section_opens}
 use Rattle.crl_protocol.specs.Sectioning.{copy_bytes, after_serve}
 use Rattle.crl_protocol.specs.Handlers.{is_queued_in, takes_ask, takes_return, takes_release, opens_with_grant, takes_grant, takes_call_back}
-use Rattle.crl_deeds.proofs.Fitting.{name_self, other_name, begins, CopyFits, OneOwn, NoOwn, QueueFits, AskingFits, going_calm, IsMapped, Fits, Apart}
+use Rattle.crl_deeds.proofs.Fitting.{name_self, other_name, CopyFits, OneOwn, NoOwn, QueueFits, AskingFits, going_calm, IsMapped, Fits, Apart}
 use Rattle.crl_deeds.proofs.Serving.{HomeGoes, asked_goes, returned_goes, released_goes, RemoteGoes}
 use Rattle.crl_deeds.proofs.Tabling.{home_put}
 use Rattle.crl_deeds.proofs.Keeping.{fits_turn, fits_leave, fits_home, fits_remote}
@@ -21,33 +21,33 @@ use Rattle.crl_deeds.proofs.Opening.{free, fits_open}
 use Rattle.crl_deeds.proofs.Outcomes.{Good, good_if, good_only, free_apart, letters_leave, here_of, there_if, not_mine, home_bytes, remote_bytes, queue_of, asking_of, mapped_home, mapped_remote, good_moved}
 
 -- the node with its activity written out
-pub fits_as : (i : ℕ) (d : Name → List ℕ) (n : Node) (a : Activity) → n.activity ≡ a → Fits i n d → Fits i (record n { activity = a }) d
-fits_as i d n a e f = subst (λ x. Fits i (record n { activity = x }) d) e f
+pub fits_as : (i : ℕ) (n : Node) (a : Activity) → n.activity ≡ a → Fits i n → Fits i (record n { activity = a })
+fits_as i n a e f = subst (λ x. Fits i (record n { activity = x })) e f
 
 -- A node that waits for a section is done with that where nothing of its own is asked any more.
 section_apart : (name q : Name) → name_eq name q ≡ false → Apart q (Waiting (ForSection name))
 section_apart name q e = record { section = λ w. other_name name q e (let k : name ≡ q = cc in k); delete = λ w. cc }
 
-done_waiting : (i : ℕ) (d : Name → List ℕ) (n : Node) (name : Name) → QueueFits n.me name (home_of n name) Free
-    → AskingFits name (n.remotes name) Free → Fits i (record n { activity = Waiting (ForSection name) }) d → Fits i (free n) d
-done_waiting i d n name queue asking f =
-    fits_leave i n d d (Waiting (ForSection name)) Free name (section_apart name) (λ q. tt) tt queue asking
-    (going_calm n.me name (lifetime_of n name).stage (Waiting (ForSection name)) Free (λ e. cc) (f.each name).going) refl f
+done_waiting : (i : ℕ) (n : Node) (name : Name) → QueueFits n.me name (home_of n name) Free
+    → AskingFits name (n.remotes name) Free → Fits i (record n { activity = Waiting (ForSection name) }) → Fits i (free n)
+done_waiting i n name queue asking f =
+    fits_leave i n (Waiting (ForSection name)) Free name (section_apart name) (λ q. tt) tt queue asking
+    (going_calm n.me name (lifetime_of n name).stage (Waiting (ForSection name)) Free (λ e. cc) (f.each name).going) f
 
 mapped_as : (m : Option Mapping) → IsMapped m → (k : Mapping) × (m ≡ Some k)
 mapped_as None h = absurd h
 mapped_as (Some m) h = (m, refl)
 
 -- what a node waits for is mapped
-is_mapped : (i : ℕ) (d : Name → List ℕ) (n : Node) (name : Name) → Fits i (record n { activity = Waiting (ForSection name) }) d → (k : Mapping) × (n.maps name ≡ Some k)
-is_mapped i d n name f = mapped_as (n.maps name) ((f.each name).waiting refl)
+is_mapped : (i : ℕ) (n : Node) (name : Name) → Fits i (record n { activity = Waiting (ForSection name) }) → (k : Mapping) × (n.maps name ≡ Some k)
+is_mapped i n name f = mapped_as (n.maps name) ((f.each name).waiting refl)
 
 -- its section opens, and it is ready with that
-opens_ready : (i : ℕ) (d : Name → List ℕ) (n : Node) (write : Bool) (name : Name) (bytes : List ℕ) (m : Mapping) → n.maps name ≡ Some m → length bytes ≡ m.size → Fits i (free n) d
-    → Fits i (record (section_opens write name bytes n).node { activity = Ready (section_opens write name bytes n).answer }) d
-opens_ready i d n write name bytes m mapped size f =
+opens_ready : (i : ℕ) (n : Node) (write : Bool) (name : Name) (bytes : List ℕ) (m : Mapping) → n.maps name ≡ Some m → length bytes ≡ m.size → Fits i (free n)
+    → Fits i (record (section_opens write name bytes n).node { activity = Ready (section_opens write name bytes n).answer })
+opens_ready i n write name bytes m mapped size f =
     let o = section_opens write name bytes n in
-    fits_turn i o.node (begins o.answer d) d Free (Ready o.answer) free_apart (λ q. tt) tt refl (fits_open i n d write name bytes m mapped size f)
+    fits_turn i o.node Free (Ready o.answer) free_apart (λ q. tt) tt (fits_open i n write name bytes m mapped size f)
 
 -- Serve at the home.
 queue_more : (me : ℕ) (name : Name) (h g : Home) (a : Activity) → (NoOwn me h.queue → NoOwn me g.queue) → (OneOwn me h.queue → OneOwn me g.queue)
@@ -65,52 +65,52 @@ waits_own me name h s a o g q = of_two q.1
     of_two (inl w) = let k = g.silent w in cc
     of_two (inr w) = w
 
-served_opens : (i : ℕ) (d : Name → List ℕ) (n : Node) (name : Name) (h : Home) (s : HomeStep) (write : Bool) → home_of n name ≡ Some h
-    → HomeGoes n.me h s → s.opened ≡ true → Fits i (record n { activity = Waiting (ForSection name) }) d
-    → let o = section_opens write name s.home.bytes (with_home name s.home n) in Fits i (record o.node { activity = Ready o.answer }) d
-served_opens i d n name h s write e g o f =
-    let m = is_mapped i d n name f in
+served_opens : (i : ℕ) (n : Node) (name : Name) (h : Home) (s : HomeStep) (write : Bool) → home_of n name ≡ Some h
+    → HomeGoes n.me h s → s.opened ≡ true → Fits i (record n { activity = Waiting (ForSection name) })
+    → let o = section_opens write name s.home.bytes (with_home name s.home n) in Fits i (record o.node { activity = Ready o.answer })
+served_opens i n name h s write e g o f =
+    let m = is_mapped i n name f in
     let waiting : Node = record n { activity = Waiting (ForSection name) } in
-    let one = (queue_of i d waiting name h e f).0 in
+    let one = (queue_of i waiting name h e f).0 in
     let there : home_of (with_home name s.home n) name ≡ Some s.home = home_put n name h s.home e name ∙ cond-true (name_eq name name) _ _ (name_self name) in
-    opens_ready i d (with_home name s.home n) write name s.home.bytes m.0 m.1 (g.bytes ∙ sym (mapped_home i d waiting name h m.0 e m.1 f))
-    (done_waiting i d (with_home name s.home n) name (subst (λ x. QueueFits n.me name x Free) (sym there) (g.one one, inl (g.after one o)))
-    (subst (λ x. AskingFits name x Free) (sym (here_of i d waiting name h e f).nothing) tt)
-    (fits_home i waiting d name h s.home e g.size g.bytes (g.one one, inr refl) f))
+    opens_ready i (with_home name s.home n) write name s.home.bytes m.0 m.1 (g.bytes ∙ sym (mapped_home i waiting name h m.0 e m.1 f))
+    (done_waiting i (with_home name s.home n) name (subst (λ x. QueueFits n.me name x Free) (sym there) (g.one one, inl (g.after one o)))
+    (subst (λ x. AskingFits name x Free) (sym (here_of i waiting name h e f).nothing) tt)
+    (fits_home i waiting name h s.home e g.size g.bytes (g.one one, inr refl) f))
 
-good_served : (i : ℕ) (d : Name → List ℕ) (n : Node) (name : Name) (h : Home) (s : HomeStep) → home_of n name ≡ Some h → HomeGoes n.me h s → Fits i n d → Good i d (after_serve name s n)
+good_served : (i : ℕ) (n : Node) (name : Name) (h : Home) (s : HomeStep) → home_of n name ≡ Some h → HomeGoes n.me h s → Fits i n → Good i (after_serve name s n)
 unfolding after_serve section_opens
-good_served i d n name h s e g f =
-    good_if i d s.opened _ _
+good_served i n name h s e g f =
+    good_if i s.opened _ _
     (λ o. record {
-      node = served_opens i d n name h s (is_writing s.home.mine) e g o (fits_as i d n (Waiting (ForSection name)) (waits_own n.me name h s n.activity o g (queue_of i d n name h e f)) f);
+      node = served_opens i n name h s (is_writing s.home.mine) e g o (fits_as i n (Waiting (ForSection name)) (waits_own n.me name h s n.activity o g (queue_of i n name h e f)) f);
       posts = letters_leave n name s.posts g.mail;
     })
     (λ o. record {
-      node = fits_home i n d name h s.home e g.size g.bytes (queue_more n.me name h s.home n.activity g.none g.one (queue_of i d n name h e f)) f;
+      node = fits_home i n name h s.home e g.size g.bytes (queue_more n.me name h s.home n.activity g.none g.one (queue_of i n name h e f)) f;
       posts = letters_leave n name s.posts g.mail;
     })
 
-pub good_asked : (i : ℕ) (d : Name → List ℕ) (n : Node) (from : ℕ) (name : Name) (write : Bool) (have : ℕ) (o : Option Home) → home_of n name ≡ o
-    → (from == n.me) ≡ false → Fits i n d → Good i d (takes_ask from name write have o n)
-good_asked i d n from name write have None e other f = good_only i d n f
-good_asked i d n from name write have (Some h) e other f =
-    good_if i d (is_queued_in from n.homes) _ _ (λ w. good_only i d n f)
-    (λ w. good_served i d n name h _ e (asked_goes n.me (record { node = from; write = write; have = have }) h other (home_bytes i d n name h e f)) f)
+pub good_asked : (i : ℕ) (n : Node) (from : ℕ) (name : Name) (write : Bool) (have : ℕ) (o : Option Home) → home_of n name ≡ o
+    → (from == n.me) ≡ false → Fits i n → Good i (takes_ask from name write have o n)
+good_asked i n from name write have None e other f = good_only i n f
+good_asked i n from name write have (Some h) e other f =
+    good_if i (is_queued_in from n.homes) _ _ (λ w. good_only i n f)
+    (λ w. good_served i n name h _ e (asked_goes n.me (record { node = from; write = write; have = have }) h other (home_bytes i n name h e f)) f)
 
-pub good_returned : (i : ℕ) (d : Name → List ℕ) (n : Node) (from : ℕ) (name : Name) (version : ℕ) (bytes : Option (List ℕ)) (o : Option Home)
-    → home_of n name ≡ o → Fits i n d → Good i d (takes_return from name version bytes o n)
-good_returned i d n from name version bytes None e f = good_only i d n f
-good_returned i d n from name version bytes (Some h) e f =
-    good_if i d (return_fits from version bytes h) _ _ (λ w. good_served i d n name h _ e (returned_goes n.me from version bytes h (home_bytes i d n name h e f) w) f)
-    (λ w. good_only i d n f)
+pub good_returned : (i : ℕ) (n : Node) (from : ℕ) (name : Name) (version : ℕ) (bytes : Option (List ℕ)) (o : Option Home)
+    → home_of n name ≡ o → Fits i n → Good i (takes_return from name version bytes o n)
+good_returned i n from name version bytes None e f = good_only i n f
+good_returned i n from name version bytes (Some h) e f =
+    good_if i (return_fits from version bytes h) _ _ (λ w. good_served i n name h _ e (returned_goes n.me from version bytes h (home_bytes i n name h e f) w) f)
+    (λ w. good_only i n f)
 
-pub good_released : (i : ℕ) (d : Name → List ℕ) (n : Node) (from : ℕ) (name : Name) (version : ℕ) (bytes : List ℕ) (o : Option Home)
-    → home_of n name ≡ o → Fits i n d → Good i d (takes_release from name version bytes o n)
-good_released i d n from name version bytes None e f = good_only i d n f
-good_released i d n from name version bytes (Some h) e f =
-    good_if i d (release_fits bytes h) _ _ (λ w. good_served i d n name h _ e (released_goes n.me from version bytes h (home_bytes i d n name h e f) w) f)
-    (λ w. good_only i d n f)
+pub good_released : (i : ℕ) (n : Node) (from : ℕ) (name : Name) (version : ℕ) (bytes : List ℕ) (o : Option Home)
+    → home_of n name ≡ o → Fits i n → Good i (takes_release from name version bytes o n)
+good_released i n from name version bytes None e f = good_only i n f
+good_released i n from name version bytes (Some h) e f =
+    good_if i (release_fits bytes h) _ _ (λ w. good_served i n name h _ e (released_goes n.me from version bytes h (home_bytes i n name h e f) w) f)
+    (λ w. good_only i n f)
 
 -- A grant.
 granted_bytes : (version : ℕ) (g : Granted) (r : Remote) (copy : Option Copy) → r.copy ≡ copy → CopyFits copy r.size → grant_fits g r ≡ true
@@ -129,35 +129,35 @@ pub waits_granted : (name : Name) (g : Granted) (r : Remote) (a : Activity) → 
 waits_granted name g r a w (inl none) = absurd (asks_some g r r.asking refl w none)
 waits_granted name g r a w (inr e) = e
 
-granted_opens : (i : ℕ) (d : Name → List ℕ) (n : Node) (name : Name) (version : ℕ) (g : Granted) (r : Remote) → n.remotes name ≡ Some r
-    → grant_fits g r ≡ true → Fits i (record n { activity = Waiting (ForSection name) }) d
-    → Good i d (opens_with_grant name (asks_to_write r.asking) (remote_takes_grant version g r) n)
+granted_opens : (i : ℕ) (n : Node) (name : Name) (version : ℕ) (g : Granted) (r : Remote) → n.remotes name ≡ Some r
+    → grant_fits g r ≡ true → Fits i (record n { activity = Waiting (ForSection name) })
+    → Good i (opens_with_grant name (asks_to_write r.asking) (remote_takes_grant version g r) n)
 unfolding section_opens remote_takes_grant
-granted_opens i d n name version g r e w f =
+granted_opens i n name version g r e w f =
     let waiting : Node = record n { activity = Waiting (ForSection name) } in
-    let m = is_mapped i d n name f in
+    let m = is_mapped i n name f in
     let s = remote_takes_grant version g r in
-    let bytes = granted_bytes version g r r.copy refl (remote_bytes i d waiting name r e f) w in
-    let other = not_mine i d waiting name r e f in
+    let bytes = granted_bytes version g r r.copy refl (remote_bytes i waiting name r e f) w in
+    let other = not_mine i waiting name r e f in
     let there : (with_remote name (Some s) n).remotes name ≡ Some s = cond-true (name_eq name name) _ _ (name_self name) in
     record {
-      node = opens_ready i d (with_remote name (Some s) n) (asks_to_write r.asking) name (copy_bytes s.copy) m.0 m.1 (bytes.1 ∙ sym (mapped_remote i d waiting name r m.0 e m.1 f))
-          (done_waiting i d (with_remote name (Some s) n) name (subst (λ x. QueueFits n.me name x Free) (sym (there_if i d waiting name other f).nothing) tt)
-          (subst (λ x. AskingFits name x Free) (sym there) (inl refl)) (fits_remote i waiting d name r s e refl bytes.0 (inl refl) f));
+      node = opens_ready i (with_remote name (Some s) n) (asks_to_write r.asking) name (copy_bytes s.copy) m.0 m.1 (bytes.1 ∙ sym (mapped_remote i waiting name r m.0 e m.1 f))
+          (done_waiting i (with_remote name (Some s) n) name (subst (λ x. QueueFits n.me name x Free) (sym (there_if i waiting name other f).nothing) tt)
+          (subst (λ x. AskingFits name x Free) (sym there) (inl refl)) (fits_remote i waiting name r s e refl bytes.0 (inl refl) f));
       posts = tt;
     }
 
-pub good_granted : (i : ℕ) (d : Name → List ℕ) (n : Node) (name : Name) (version : ℕ) (g : Granted) (o : Option Remote) → n.remotes name ≡ o
-    → Fits i n d → Good i d (takes_grant name version g o n)
-good_granted i d n name version g None e f = good_only i d n f
-good_granted i d n name version g (Some r) e f =
-    good_if i d (grant_fits g r) _ _
-    (λ w. granted_opens i d n name version g r e w (fits_as i d n (Waiting (ForSection name)) (waits_granted name g r n.activity w (asking_of i d n name r e f)) f))
-    (λ w. good_only i d n f)
+pub good_granted : (i : ℕ) (n : Node) (name : Name) (version : ℕ) (g : Granted) (o : Option Remote) → n.remotes name ≡ o
+    → Fits i n → Good i (takes_grant name version g o n)
+good_granted i n name version g None e f = good_only i n f
+good_granted i n name version g (Some r) e f =
+    good_if i (grant_fits g r) _ _
+    (λ w. granted_opens i n name version g r e w (fits_as i n (Waiting (ForSection name)) (waits_granted name g r n.activity w (asking_of i n name r e f)) f))
+    (λ w. good_only i n f)
 
 -- a recall and a yield
-pub good_called : (i : ℕ) (d : Name → List ℕ) (n : Node) (name : Name) (step : Remote → RemoteStep) (o : Option Remote) → n.remotes name ≡ o
-    → ((r : Remote) → CopyFits r.copy r.size → RemoteGoes r (step r)) → Fits i n d
-    → Good i d (takes_call_back name step o n)
-good_called i d n name step None e g f = good_only i d n f
-good_called i d n name step (Some r) e g f = good_moved i d n name r (step r) e (g r (remote_bytes i d n name r e f)) f
+pub good_called : (i : ℕ) (n : Node) (name : Name) (step : Remote → RemoteStep) (o : Option Remote) → n.remotes name ≡ o
+    → ((r : Remote) → CopyFits r.copy r.size → RemoteGoes r (step r)) → Fits i n
+    → Good i (takes_call_back name step o n)
+good_called i n name step None e g f = good_only i n f
+good_called i n name step (Some r) e g f = good_moved i n name r (step r) e (g r (remote_bytes i n name r e f)) f

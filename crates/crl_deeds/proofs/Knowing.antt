@@ -3,7 +3,6 @@ use Rattle.std.proofs.Common.{◌≡◌, ℕ, zero, suc, ◌+◌, ◌-◌, ◌�
 use Rattle.std.proofs.lemmas.Bool.{cond_both, cond-true, eqb-true}
 use Rattle.std.proofs.Math.Logic.{◌⊎◌}
 use Rattle.std.specs.List.{AllByRecursion}
-use Rattle.std.proofs.lemmas.List.Elements.{All-from_recursion}
 use Rattle.crl_model.specs.declared.name.Name.{Name}
 use Rattle.crl_model.specs.declared.stage.Stage.{Stage}
 use Rattle.crl_model.specs.declared.stage.Stage.TheVariants as stage
@@ -18,11 +17,9 @@ use Rattle.crl_protocol.specs.Node.{Node, Activity, Outcome, is_mine, lifetime_o
 use Rattle.crl_protocol.specs.Calls.{creates}
 use Rattle.crl_protocol.specs.World.{World, new_world, step, is_enabled, IsRunFrom, world_after}
 use Rattle.crl_protocol.specs.Places.{put, Took}
-use Rattle.crl_deeds.specs.Laws.{AreStatements, node_of}
-use Rattle.crl_protocol.specs.Chosen.{Running, goes_on}
 use Rattle.crl_deeds.proofs.Fitting.{Leaves, ComesIn, Fits}
 use Rattle.crl_deeds.proofs.Turning.{Came, HeldIn, HeldOut, Held, turn_of, turn_count, held_turn, all_took}
-use Rattle.crl_deeds.proofs.Sound.{away_load, sound_start, sound_event}
+use Rattle.crl_deeds.proofs.Sound.{away_load, fits_start, fits_event}
 use Rattle.crl_deeds.proofs.Counting.{Counted, PlainKind, Plain, counted_local, counted_start}
 use Rattle.crl_deeds.specs.Deeds.{FreeIf, Cause, Calls, Hears, Copies, Lives, Rounds, Notes, Idles, Deed, copies, lives, rounds, notes, refuses, idles, home_opens, home_waits, home_ends, home_serves, home_serves_own, made, used_up, map_told, deletes_alone, deletes_own, deletes_alone_for, deletes_for, counts_off, ends_own, ends_for, comes_away, flushes_own}
 use Rattle.crl_protocol.specs.Home.{new_home}
@@ -110,56 +107,51 @@ none_local count = record {
 
 -- What is known of every world of a run.
 pub record Known (w : World) : Type 0 where
-  pub drafts : ℕ → Name → List ℕ
-  pub fits : (i : ℕ) → Fits i (w.nodes i) (drafts i)
+  pub fits : (i : ℕ) → Fits i (w.nodes i)
   pub held : Held (Counted w.count) (Plain w.count) w
   pub none : Held (λ i n. NoneYet n) (λ m. Unit {0}) w
-
-abbrev running_at : World → (ℕ → Name → List ℕ) → Running
-running_at w drafts = record { world = w; actors = λ i. record { left = []; drafts = drafts i }; events = []; entries = [] }
 
 pub known_step : (w : World) (e : Event) → is_enabled e w ≡ true → Known w → Known (step e w).world
 known_step w e h x =
     let t = turn_of w e h in
     record {
-      drafts = λ j. ((goes_on (node_of e) e (running_at w x.drafts)).actors j).drafts;
-      fits = (sound_event (running_at w x.drafts) e h (record { fits = x.fits; left = λ i. tt })).fits;
+      fits = fits_event w e h x.fits;
       held = subst (λ k. Held (Counted k) (Plain k) (step e w).world) (sym (turn_count w _ t)) (held_turn (Counted w.count) (Plain w.count) w _ t (counted_local w.count) x.held);
       none = held_turn (λ i n. NoneYet n) (λ m. Unit {0}) w _ t (none_local w.count) x.none;
     }
 
-no_statements : AreStatements []
-no_statements = All-from_recursion _ [] tt
-
 pub known_start : (count capacity : ℕ) → Known (new_world count capacity)
 known_start count capacity = record {
-  drafts = λ i q. [];
-  fits = (sound_start count capacity [] no_statements).fits;
+  fits = λ i. fits_start count capacity i;
   held = counted_start count capacity;
   none = λ i. record { node = λ s l. refl; inbox = tt; outbox = tt };
 }
+
+pub known_run : (w : World) (es : List Event) → IsRunFrom w es → Known w → Known (world_after w es)
+known_run w [] r x = x
+known_run w (e ∷ es) r x = known_run (step e w).world es r.1 (known_step w e r.0 x)
 
 -- The tokens of one lifetime: of what node i waits for.
 pub record Life (i : ℕ) (f : Message → ℕ) (g : Node → ℕ) (waits : Activity → ℕ) : Type 0 where
   pub tokens : Tokens f g waits
   pub span : Span f g waits
-  pub lives : (j : ℕ) (d : Name → List ℕ) (n : Node) (cause : Cause) (o : Outcome) → Lives n cause o → Fits j n d → NoneYet n → FreeIf cause n → Balance f g waits i n (came f n.me cause) o
+  pub lives : (j : ℕ) (n : Node) (cause : Cause) (o : Outcome) → Lives n cause o → Fits j n → NoneYet n → FreeIf cause n → Balance f g waits i n (came f n.me cause) o
   pub idle : (n : Node) (cause : Cause) (a : Activity) → Idles cause n → (n.me ≡ i → a ≡ n.activity) → came f n.me cause ≤ waits a → came f n.me cause ≡ 0
   pub near : (count from to : ℕ) (k : Kind) → i < count → PlainKind count from to k → (f (record { sender = from; addressee = to; kind = k }) ≡ 0) ⊎ (to < count)
 
-life_deed : (i : ℕ) (f : Message → ℕ) (g : Node → ℕ) (waits : Activity → ℕ) → Life i f g waits → (j : ℕ) (d : Name → List ℕ) (n : Node) (cause : Cause) (o : Outcome) (a : Activity) → Deed n cause o → Fits j n d → NoneYet n → Came Leaves n.me cause → FreeIf cause n
+life_deed : (i : ℕ) (f : Message → ℕ) (g : Node → ℕ) (waits : Activity → ℕ) → Life i f g waits → (j : ℕ) (n : Node) (cause : Cause) (o : Outcome) (a : Activity) → Deed n cause o → Fits j n → NoneYet n → Came Leaves n.me cause → FreeIf cause n
     → (n.me ≡ i → a ≡ n.activity) → came f n.me cause ≤ waits a → Balance f g waits i n (came f n.me cause) o
-life_deed i f g waits l j d n cause o a (copies c) x none s free same few = span_copies f g waits l.span i j d n cause o c x s free
-life_deed i f g waits l j d n cause o a (lives c) x none s free same few = l.lives j d n cause o c x none free
-life_deed i f g waits l j d n cause o a (rounds c) x none s free same few = span_rounds f g waits l.span i n cause o c free
-life_deed i f g waits l j d n cause o a (notes {m = m} c) x none s free same few = span_notes f g waits l.span i n _ _ m c
-life_deed i f g waits l j d n cause o a (refuses c why v) x none s free same few = refl
-life_deed i f g waits l j d n cause o a (idles h) x none s free same few = let z = l.idle n cause a h same few in omega arith
+life_deed i f g waits l j n cause o a (copies c) x none s free same few = span_copies f g waits l.span i j n cause o c x s free
+life_deed i f g waits l j n cause o a (lives c) x none s free same few = l.lives j n cause o c x none free
+life_deed i f g waits l j n cause o a (rounds c) x none s free same few = span_rounds f g waits l.span i n cause o c free
+life_deed i f g waits l j n cause o a (notes {m = m} c) x none s free same few = span_notes f g waits l.span i n _ _ m c
+life_deed i f g waits l j n cause o a (refuses c why v) x none s free same few = refl
+life_deed i f g waits l j n cause o a (idles h) x none s free same few = let z = l.idle n cause a h same few in omega arith
 
 life_balanced : (i : ℕ) (f : Message → ℕ) (g : Node → ℕ) (waits : Activity → ℕ) → Life i f g waits → (w : World) → i < w.count → Known w → sum (load f g) w ≡ waits (w.nodes i).activity → Balanced f g waits i w
 life_balanced i f g waits l w small x one = record {
   me = λ j. (x.fits j).me;
-  calls = λ j c o few free d. life_deed i f g waits l j (x.drafts j) (w.nodes j) (Calls c) o (w.nodes i).activity d (x.fits j) (x.none j).node tt free (λ e. same j e) (omega arith);
+  calls = λ j c o few free d. life_deed i f g waits l j (w.nodes j) (Calls c) o (w.nodes i).activity d (x.fits j) (x.none j).node tt free (λ e. same j e) (omega arith);
   hears = hearing;
   gathers = λ p key e. keyed_none f l.span.mail p.message.sender p.message.addressee p.message.kind key e;
   carriage = λ j p rest few took. l.near w.count p.message.sender p.message.addressee p.message.kind small (all_took (HeldOut (Plain w.count)) took (x.held j).outbox).0.1;
@@ -177,12 +169,12 @@ life_balanced i f g waits l w small x one = record {
         let t = x.fits j in
         let mine = all_took (ComesIn n.me) took t.inbox in
         let to = (all_took (HeldIn (Plain w.count) j) took (x.held j).inbox).0.1 in
-        let fits : Fits j (record n { inbox = rest; parcels = parcels }) (x.drafts j) = record { me = t.me; each = t.each; cache = t.cache; fresh = t.fresh; inbox = mine.1; outbox = t.outbox } in
+        let fits : Fits j (record n { inbox = rest; parcels = parcels }) = record { me = t.me; each = t.each; cache = t.cache; fresh = t.fresh; inbox = mine.1; outbox = t.outbox } in
         let weight : f m ≡ came f n.me (Hears m.sender (with_load part m.kind)) = ap (λ a. f (record { sender = m.sender; addressee = a; kind = m.kind })) (to ∙ sym t.me) ∙ sym (part_same f l.span.mail m.sender n.me part m.kind) in
         let took_out = weigh_took (on_piece f) took in
         let portion = sum_part (load f g) w j few in
         subst (λ c. Balance f g waits i (record n { inbox = rest; parcels = parcels }) c o) (sym weight)
-        (life_deed i f g waits l j (x.drafts j) (record n { inbox = rest; parcels = parcels }) (Hears m.sender (with_load part m.kind)) o (w.nodes i).activity d fits (x.none j).node
+        (life_deed i f g waits l j (record n { inbox = rest; parcels = parcels }) (Hears m.sender (with_load part m.kind)) o (w.nodes i).activity d fits (x.none j).node
         (subst (λ (y : Type 0). y) (away_load m.sender n.me part m.kind) mine.0) tt (λ e. same j e) (omega arith))
 
 pub life_run : (i : ℕ) (f : Message → ℕ) (g : Node → ℕ) (waits : Activity → ℕ) → Life i f g waits → (es : List Event) (w : World) → i < w.count → IsRunFrom w es → Known w → sum (load f g) w ≡ waits (w.nodes i).activity

@@ -20,10 +20,12 @@ pub mod Knowing
 pub mod Mapping
 pub mod Obeying
 pub mod Opening
+pub mod Opens
 pub mod Outcomes
 pub mod Placing
 pub mod Serving
 pub mod Sound
+pub mod Drafts
 pub mod Spans
 pub mod Tabling
 pub mod Totals

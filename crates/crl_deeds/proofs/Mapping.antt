@@ -67,25 +67,25 @@ going_own me q s a f e = go (subst (λ x. GoingFits me q x a) e f)
     go (inl w) = let k = eq-eqb me me refl in cc
     go (inr w) = w
 
-map_lives : (i : ℕ) (r : Name) (j : ℕ) (d : Name → List ℕ) (n : Node) (cause : Cause) (o : Outcome) → Lives n cause o → Fits j n d → FreeIf cause n → Balance (token i r) none (waits_map r) i n (came (token i r) n.me cause) o
-map_lives i r j d n cause o (map_asks name e other c real) f free = let was = no_wait_as (waits_map r) i n Free free refl in omega arith
-map_lives i r j d n cause o (map_comes from name purged size e) f free =
+map_lives : (i : ℕ) (r : Name) (j : ℕ) (n : Node) (cause : Cause) (o : Outcome) → Lives n cause o → Fits j n → FreeIf cause n → Balance (token i r) none (waits_map r) i n (came (token i r) n.me cause) o
+map_lives i r j n cause o (map_asks name e other c real) f free = let was = no_wait_as (waits_map r) i n Free free refl in omega arith
+map_lives i r j n cause o (map_comes from name purged size e) f free =
     let was : waited (waits_map r) i n ≡ (if n.me == i then of_name name r else 0) = ap (λ x. if n.me == i then waits_map r x else 0) e in let now = none_to (n.me == i) 0 in omega arith
-map_lives i r j d n cause o (map_denied from name purged s why t q u e) f free =
+map_lives i r j n cause o (map_denied from name purged s why t q u e) f free =
     let was : waited (waits_map r) i n ≡ (if n.me == i then of_name name r else 0) = ap (λ x. if n.me == i then waits_map r x else 0) e in let now = none_to (n.me == i) 0 in omega arith
-map_lives i r j d n cause o (unmaps_doomed name m e one other doomed closed) f free = even _ _ _ _ (parting_none _ _ _ (span i r) n name (n.remotes name)) refl
-map_lives i r j d n cause o (unmaps_evicting name m old e one other sound closed kept) f free = even _ _ _ _ (parting_none _ _ _ (span i r) n old (n.remotes old)) refl
-map_lives i r j d n cause o (deletes_own name m ms mine live e) f free =
+map_lives i r j n cause o (unmaps_doomed name m e one other doomed closed) f free = even _ _ _ _ (parting_none _ _ _ (span i r) n name (n.remotes name)) refl
+map_lives i r j n cause o (unmaps_evicting name m old e one other sound closed kept) f free = even _ _ _ _ (parting_none _ _ _ (span i r) n old (n.remotes old)) refl
+map_lives i r j n cause o (deletes_own name m ms mine live e) f free =
     shut _ _ _ _ _ _ (purges_none _ _ _ (span i r) n name _) refl refl (no_wait_as (waits_map r) i n Free free refl) (no_wait (waits_map r) i o.node refl)
-map_lives i r j d n cause o (delete_asks name other real) f free = let was = no_wait_as (waits_map r) i n Free free refl in let now = no_wait (waits_map r) i o.node refl in omega arith
-map_lives i r j d n cause o (deletes_for from name m ms mine live e) f free = even _ _ _ _ (purges_none _ _ _ (span i r) n name _) refl
-map_lives i r j d n cause o (delete_comes from name t e) f free = let was = no_wait_as (waits_map r) i n _ e refl in let now = no_wait (waits_map r) i o.node refl in omega arith
-map_lives i r j d n cause o (drops from name size e c) f free =
+map_lives i r j n cause o (delete_asks name other real) f free = let was = no_wait_as (waits_map r) i n Free free refl in let now = no_wait (waits_map r) i o.node refl in omega arith
+map_lives i r j n cause o (deletes_for from name m ms mine live e) f free = even _ _ _ _ (purges_none _ _ _ (span i r) n name _) refl
+map_lives i r j n cause o (delete_comes from name t e) f free = let was = no_wait_as (waits_map r) i n _ e refl in let now = no_wait (waits_map r) i o.node refl in omega arith
+map_lives i r j n cause o (drops from name size e c) f free =
     let a = weigh_append (token i r) (parting n name (n.remotes name)) (message_to n from (kind.Purged name) ∷ []) in let b = parting_none _ _ _ (span i r) n name (n.remotes name) in omega arith
-map_lives i r j d n cause o (warns from name e c) f free = let same = ap (λ x. if n.me == i then x else 0) (warned r name n.activity) in omega arith
-map_lives i r j d n cause o (ends_own from name mine e missing last) f free =
+map_lives i r j n cause o (warns from name e c) f free = let same = ap (λ x. if n.me == i then x else 0) (warned r name n.activity) in omega arith
+map_lives i r j n cause o (ends_own from name mine e missing last) f free =
     let was = no_wait_as (waits_map r) i n _ (going_own n.me name _ n.activity (f.each name).going e) refl in let now = no_wait (waits_map r) i o.node refl in omega arith
-map_lives i r j d n cause o _ f free = omega arith
+map_lives i r j n cause o _ f free = omega arith
 
 -- an InfoIs that nobody waits for doesn't come
 waits_it : (i : ℕ) (r name : Name) (n : Node) (a : Activity) (x : Activity) → n.activity ≡ x → ((purged : Bool) → x ≡ Waiting (ForMap name purged) → ⊥) → (n.me ≡ i → a ≡ x) → (b : Bool) → (n.me == i) ≡ b
@@ -117,7 +117,7 @@ map_life : (i : ℕ) (r : Name) → Life i (token i r) none (waits_map r)
 map_life i r = record {
   tokens = record { whole = λ m. whole_of (token i r) (span i r).mail m.sender m.addressee m.kind; blind = λ n inbox outbox parcels records notes posted. refl; answered = λ n. refl; free = refl; ready = λ answer. refl };
   span = span i r;
-  lives = λ j d n cause o c f k free. map_lives i r j d n cause o c f free;
+  lives = λ j n cause o c f k free. map_lives i r j n cause o c f free;
   idle = map_idle i r;
   near = map_near i r;
 }

@@ -23,30 +23,30 @@ of_true : (b : Bool) (x y : Option Refusal) → (if b then x else y) ≡ None �
 of_true true x y e w = e
 of_true false x y e w = cc
 
-good_taken : (i : ℕ) (d : Name → List ℕ) (n : Node) (c : Call) → verdict (free n) c ≡ None → is_call (free n) c None ≡ true → Fits i (free n) d → Good i d (takes_call c (free n))
+good_taken : (i : ℕ) (n : Node) (c : Call) → verdict (free n) c ≡ None → is_call (free n) c None ≡ true → Fits i (free n) → Good i (takes_call c (free n))
 unfolding verdict takes_call
-good_taken i d n (call.Create size) v e f = record { node = fits_made i size (free n) d f; posts = tt }
-good_taken i d n (call.Delete name) v e f = good_delete i d n name f
-good_taken i d n (call.Map name) v e f =
-    good_map i d n name (n.maps name) refl (λ mine. live_by (lifetime_of n name).stage (none_of _ _ (of_true (is_mine n name) _ _ v mine)).0) f
-good_taken i d n (call.Unmap name) v e f =
-    good_recording i d _ _ (good_unmap i d n name (n.maps name) refl (not-false _ (allowed_by _ _ (none_of _ _ v).1)) f)
-good_taken i d n (call.StartRead name) v e f = let m = mapped_by (n.maps name) (none_of _ _ v).0 in good_start i d n false name m.0 m.1 f
-good_taken i d n (call.EndRead name) v e f = good_end_read i d n name f
-good_taken i d n (call.StartWrite name) v e f = let m = mapped_by (n.maps name) (none_of _ _ v).0 in good_start i d n true name m.0 m.1 f
-good_taken i d n (call.EndWrite name after) v e f = good_end_write i d n name after (not-false _ (allowed_by _ _ (none_of _ _ v).1)) (eqb-true _ _ e) f
-good_taken i d n (call.Put name offset len) v e f = good_only i d (free n) f
-good_taken i d n (call.Add name offset) v e f = good_only i d (free n) f
-good_taken i d n (call.Flush name) v e f = good_flush i d (free n) name f
-good_taken i d n (call.Come part) v e f = good_come i d n part f
+good_taken i n (call.Create size) v e f = record { node = fits_made i size (free n) f; posts = tt }
+good_taken i n (call.Delete name) v e f = good_delete i n name f
+good_taken i n (call.Map name) v e f =
+    good_map i n name (n.maps name) refl (λ mine. live_by (lifetime_of n name).stage (none_of _ _ (of_true (is_mine n name) _ _ v mine)).0) f
+good_taken i n (call.Unmap name) v e f =
+    good_recording i _ _ (good_unmap i n name (n.maps name) refl (not-false _ (allowed_by _ _ (none_of _ _ v).1)) f)
+good_taken i n (call.StartRead name) v e f = let m = mapped_by (n.maps name) (none_of _ _ v).0 in good_start i n false name m.0 m.1 f
+good_taken i n (call.EndRead name) v e f = good_end_read i n name f
+good_taken i n (call.StartWrite name) v e f = let m = mapped_by (n.maps name) (none_of _ _ v).0 in good_start i n true name m.0 m.1 f
+good_taken i n (call.EndWrite name after) v e f = good_end_write i n name after (not-false _ (allowed_by _ _ (none_of _ _ v).1)) (eqb-true _ _ e) f
+good_taken i n (call.Put name offset len) v e f = good_only i (free n) f
+good_taken i n (call.Add name offset) v e f = good_only i (free n) f
+good_taken i n (call.Flush name) v e f = good_flush i (free n) name f
+good_taken i n (call.Come part) v e f = good_come i n part f
 
-good_as : (i : ℕ) (d : Name → List ℕ) (n : Node) (c : Call) (o : Option Refusal) → verdict (free n) c ≡ o → is_call (free n) c o ≡ true
-    → Fits i (free n) d → Good i d (call_or_refuse o c (free n))
-good_as i d n c None v e f = good_taken i d n c v e f
-good_as i d n c (Some why) v e f = good_refused i d (free n) why c f
+good_as : (i : ℕ) (n : Node) (c : Call) (o : Option Refusal) → verdict (free n) c ≡ o → is_call (free n) c o ≡ true
+    → Fits i (free n) → Good i (call_or_refuse o c (free n))
+good_as i n c None v e f = good_taken i n c v e f
+good_as i n c (Some why) v e f = good_refused i (free n) why c f
 
-pub good_call : (i : ℕ) (d : Name → List ℕ) (n : Node) (c : Call) → n.activity ≡ Free → is_call n c (verdict n c) ≡ true → Fits i n d → Good i d (node_calls c n)
-good_call i d n c e =
-    subst (λ a. is_call (record n { activity = a }) c (verdict (record n { activity = a }) c) ≡ true → Fits i (record n { activity = a }) d → Good i d
+pub good_call : (i : ℕ) (n : Node) (c : Call) → n.activity ≡ Free → is_call n c (verdict n c) ≡ true → Fits i n → Good i (node_calls c n)
+good_call i n c e =
+    subst (λ a. is_call (record n { activity = a }) c (verdict (record n { activity = a }) c) ≡ true → Fits i (record n { activity = a }) → Good i
     (node_calls c (record n { activity = a }))) (sym e)
-    (λ w f. good_as i d n c (verdict (free n) c) refl w f)
+    (λ w f. good_as i n c (verdict (free n) c) refl w f)

@@ -14,7 +14,7 @@ use Rattle.crl_protocol.specs.Lifetimes.{Mapping, Lifetime, new_lifetime}
 use Rattle.crl_protocol.specs.Sections.{OpenSection, Sections, begins_to_read, section_begins, section_ends, ends_over}
 use Rattle.crl_protocol.specs.Node.{Node, Free, is_mine, home_of, lifetime_of, next_name, serials_used, section_opens}
 use Rattle.crl_protocol.specs.Sectioning.{closes}
-use Rattle.crl_deeds.proofs.Fitting.{by_name, begins, Seen, seen, RecordFits, LengthFits, DraftFits, MappedHere, OwnFits, Holds, Fits}
+use Rattle.crl_deeds.proofs.Fitting.{by_name, Seen, seen, RecordFits, MappedHere, OwnFits, Holds, Fits}
 use Rattle.crl_deeds.proofs.Tabling.{lifetime_put, home_end, home_next}
 
 -- the node while it makes a call
@@ -38,14 +38,14 @@ own_made false v nodes size e none own = cc
 abbrev pub made : ℕ → Node → Node
 made size n = record n { homes = n.homes ++ Some (new_home n.nodes size) ∷ []; lifetimes = at_node n.lifetimes (serials_used n + 1) new_lifetime }
 
-pub fits_made : (i size : ℕ) (n : Node) (d : Name → List ℕ) → Fits i n d → Fits i (made size n) d
-fits_made i size n d f = record {
+pub fits_made : (i size : ℕ) (n : Node) → Fits i n → Fits i (made size n)
+fits_made i size n f = record {
   me = f.me;
-  each = λ q. subst (λ x. Holds n.me q n.activity (record (seen (made size n) d q) { home = x })) (sym (home_end n (made size n) (new_home n.nodes size) refl refl q))
-      (subst (λ (x : Lifetime). Holds n.me q n.activity (record (seen (made size n) d q) { home = at_name (home_of n) (next_name n) (Some (new_home n.nodes size)) q; stage = x.stage }))
+  each = λ q. subst (λ x. Holds n.me q n.activity (record (seen (made size n) q) { home = x })) (sym (home_end n (made size n) (new_home n.nodes size) refl refl q))
+      (subst (λ (x : Lifetime). Holds n.me q n.activity (record (seen (made size n) q) { home = at_name (home_of n) (next_name n) (Some (new_home n.nodes size)) q; stage = x.stage }))
       (sym (lifetime_put n (next_name n) new_lifetime (eq-eqb n.me n.me refl) q))
       (by_name (next_name n) (λ b p. Holds n.me p n.activity
-      (record (seen n d p) { home = if b then Some (new_home n.nodes size) else home_of n p; stage = (if b then new_lifetime else lifetime_of n p).stage })) (at_it (f.each (next_name n)))
+      (record (seen n p) { home = if b then Some (new_home n.nodes size) else home_of n p; stage = (if b then new_lifetime else lifetime_of n p).stage })) (at_it (f.each (next_name n)))
       (λ p w. f.each p) q));
   cache = f.cache;
   fresh = f.fresh;
@@ -53,12 +53,11 @@ fits_made i size n d f = record {
   outbox = f.outbox;
 }
   where
-    at_it : Holds n.me (next_name n) n.activity (seen n d (next_name n))
-        → Holds n.me (next_name n) n.activity (record (seen n d (next_name n)) { home = Some (new_home n.nodes size); stage = stage.Live })
+    at_it : Holds n.me (next_name n) n.activity (seen n (next_name n))
+        → Holds n.me (next_name n) n.activity (record (seen n (next_name n)) { home = Some (new_home n.nodes size); stage = stage.Live })
     at_it x = record {
       sections = x.sections;
-      draft = x.draft;
-      own = own_made (is_mine n (next_name n)) (seen n d (next_name n)) n.nodes size (eq-eqb n.me n.me refl) (home_next n) x.own;
+      own = own_made (is_mine n (next_name n)) (seen n (next_name n)) n.nodes size (eq-eqb n.me n.me refl) (home_next n) x.own;
       queue = (tt, inl tt);
       asking = x.asking;
       going = tt;
@@ -66,9 +65,9 @@ fits_made i size n d f = record {
     }
 
 -- what a node has of a name but for its sections
-pub own_opened : (b : Bool) (v : Seen) (o : Option OpenSection) (draft : List ℕ) → OwnFits b v → OwnFits b (record v { opened = o; draft = draft })
-own_opened true v o draft own = record { live = own.live; bytes = own.bytes; mapped = own.mapped; nothing = own.nothing }
-own_opened false v o draft own = record { bytes = own.bytes; mapped = own.mapped; nothing = own.nothing; unknown = own.unknown }
+pub own_opened : (b : Bool) (v : Seen) (o : Option OpenSection) → OwnFits b v → OwnFits b (record v { opened = o })
+own_opened true v o own = record { live = own.live; bytes = own.bytes; mapped = own.mapped; nothing = own.nothing }
+own_opened false v o own = record { bytes = own.bytes; mapped = own.mapped; nothing = own.nothing; unknown = own.unknown }
 
 -- A section ends.
 abbrev less : OpenSection → Section → Option OpenSection
@@ -80,37 +79,31 @@ less_record r (section.Reading count) None f = f
 less_record r (section.Reading count) (Some m) f = (f.0, refl)
 less_record r section.Writing m f = tt
 
-less_draft : (r : OpenSection) (s : Section) (draft : List ℕ) → DraftFits (less r s) draft
-less_draft r section.Closed draft = tt
-less_draft r (section.Reading count) draft = tt
-less_draft r section.Writing draft = tt
-
-fits_less : (i : ℕ) (n : Node) (d : Name → List ℕ) (name : Name) (o : Option OpenSection) → n.sections.records name ≡ o → Fits i n d
-    → Fits i (record n { sections = ends_over name o n.sections }) d
-fits_less i n d name None e f = f
-fits_less i n d name (Some r) e f = record {
+fits_less : (i : ℕ) (n : Node) (name : Name) (o : Option OpenSection) → n.sections.records name ≡ o → Fits i n
+    → Fits i (record n { sections = ends_over name o n.sections })
+fits_less i n name None e f = f
+fits_less i n name (Some r) e f = record {
   me = f.me;
-  each = by_name name (λ b p. Holds n.me p n.activity (record (seen n d p) { opened = if b then less r (one_section_less r.section) else n.sections.records p })) (at_it (f.each name)) (λ p w. f.each p);
+  each = by_name name (λ b p. Holds n.me p n.activity (record (seen n p) { opened = if b then less r (one_section_less r.section) else n.sections.records p })) (at_it (f.each name)) (λ p w. f.each p);
   cache = f.cache;
   fresh = f.fresh;
   inbox = f.inbox;
   outbox = f.outbox;
 }
   where
-    at_it : Holds n.me name n.activity (seen n d name) → Holds n.me name n.activity (record (seen n d name) { opened = less r (one_section_less r.section) })
+    at_it : Holds n.me name n.activity (seen n name) → Holds n.me name n.activity (record (seen n name) { opened = less r (one_section_less r.section) })
     at_it x = record {
       sections = less_record r (one_section_less r.section) (n.maps name) (subst (λ y. RecordFits y (n.maps name)) e x.sections);
-      draft = less_draft r (one_section_less r.section) (seen n d name).draft;
-      own = own_opened (is_mine n name) _ _ _ x.own;
+      own = own_opened (is_mine n name) _ _ x.own;
       queue = x.queue;
       asking = x.asking;
       going = x.going;
       waiting = x.waiting;
     }
 
-pub fits_close : (i : ℕ) (n : Node) (d : Name → List ℕ) (name : Name) → Fits i n d → Fits i (closes name n) d
+pub fits_close : (i : ℕ) (n : Node) (name : Name) → Fits i n → Fits i (closes name n)
 unfolding section_ends
-fits_close i n d name f = fits_less i n d name (n.sections.records name) refl f
+fits_close i n name f = fits_less i n name (n.sections.records name) refl f
 
 -- A section opens.
 abbrev anew : Section → List ℕ → Sections → OpenSection
@@ -129,17 +122,12 @@ more_open section.Closed = refl
 more_open (section.Reading count) = refl
 more_open section.Writing = refl
 
-more_draft : (s : Section) (a b : ℕ) → LengthFits s a b → LengthFits (one_section_more s) a b
-more_draft section.Closed a b f = tt
-more_draft (section.Reading count) a b f = tt
-more_draft section.Writing a b f = f
-
-fits_read : (i : ℕ) (n : Node) (d : Name → List ℕ) (name : Name) (bytes : List ℕ) (m : Mapping) (o : Option OpenSection) → n.sections.records name ≡ o
+fits_read : (i : ℕ) (n : Node) (name : Name) (bytes : List ℕ) (m : Mapping) (o : Option OpenSection) → n.sections.records name ≡ o
     → n.maps name ≡ Some m → length bytes ≡ m.size
-    → Fits i (free n) d → Fits i (free (record n { sections = (begins_to_read name o bytes n.sections).sections })) d
-fits_read i n d name bytes m None e mapped size f = record {
+    → Fits i (free n) → Fits i (free (record n { sections = (begins_to_read name o bytes n.sections).sections }))
+fits_read i n name bytes m None e mapped size f = record {
   me = f.me;
-  each = by_name name (λ b p. Holds n.me p Free (record (seen (free n) d p) { opened = if b then Some (anew (section.Reading 1) bytes n.sections) else n.sections.records p }))
+  each = by_name name (λ b p. Holds n.me p Free (record (seen (free n) p) { opened = if b then Some (anew (section.Reading 1) bytes n.sections) else n.sections.records p }))
       (at_it (f.each name)) (λ p w. f.each p);
   cache = f.cache;
   fresh = f.fresh;
@@ -147,19 +135,18 @@ fits_read i n d name bytes m None e mapped size f = record {
   outbox = f.outbox;
 }
   where
-    at_it : Holds n.me name Free (seen (free n) d name) → Holds n.me name Free (record (seen (free n) d name) { opened = Some (anew (section.Reading 1) bytes n.sections) })
+    at_it : Holds n.me name Free (seen (free n) name) → Holds n.me name Free (record (seen (free n) name) { opened = Some (anew (section.Reading 1) bytes n.sections) })
     at_it x = record {
       sections = anew_record (section.Reading 1) bytes n.sections (n.maps name) m mapped size refl;
-      draft = tt;
-      own = own_opened (is_mine n name) _ _ _ x.own;
+      own = own_opened (is_mine n name) _ _ x.own;
       queue = x.queue;
       asking = x.asking;
       going = x.going;
       waiting = x.waiting;
     }
-fits_read i n d name bytes m (Some r) e mapped size f = record {
+fits_read i n name bytes m (Some r) e mapped size f = record {
   me = f.me;
-  each = by_name name (λ b p. Holds n.me p Free (record (seen (free n) d p) { opened = if b then Some (record r { section = one_section_more r.section }) else n.sections.records p }))
+  each = by_name name (λ b p. Holds n.me p Free (record (seen (free n) p) { opened = if b then Some (record r { section = one_section_more r.section }) else n.sections.records p }))
       (at_it (f.each name)) (λ p w. f.each p);
   cache = f.cache;
   fresh = f.fresh;
@@ -167,47 +154,41 @@ fits_read i n d name bytes m (Some r) e mapped size f = record {
   outbox = f.outbox;
 }
   where
-    at_it : Holds n.me name Free (seen (free n) d name) → Holds n.me name Free (record (seen (free n) d name) { opened = Some (record r { section = one_section_more r.section }) })
+    at_it : Holds n.me name Free (seen (free n) name) → Holds n.me name Free (record (seen (free n) name) { opened = Some (record r { section = one_section_more r.section }) })
     at_it x = record {
       sections = more_record r r.section (n.maps name) (subst (λ y. RecordFits y (n.maps name)) e x.sections) (more_open r.section);
-      draft = more_draft r.section _ _ (subst (λ y. DraftFits y (d name)) e x.draft);
-      own = own_opened (is_mine n name) _ _ _ x.own;
+      own = own_opened (is_mine n name) _ _ x.own;
       queue = x.queue;
       asking = x.asking;
       going = x.going;
       waiting = x.waiting;
     }
 
-fits_write : (i : ℕ) (n : Node) (d : Name → List ℕ) (name : Name) (bytes : List ℕ) (m : Mapping) → n.maps name ≡ Some m → length bytes ≡ m.size
-    → Fits i (free n) d
-    → Fits i (free (record n { sections = record { records = at_name n.sections.records name (Some (anew section.Writing bytes n.sections)); last = n.sections.last + 1 } })) (at_name d name bytes)
-fits_write i n d name bytes m mapped size f = record {
+fits_write : (i : ℕ) (n : Node) (name : Name) (bytes : List ℕ) (m : Mapping) → n.maps name ≡ Some m → length bytes ≡ m.size
+    → Fits i (free n)
+    → Fits i (free (record n { sections = record { records = at_name n.sections.records name (Some (anew section.Writing bytes n.sections)); last = n.sections.last + 1 } }))
+fits_write i n name bytes m mapped size f = record {
   me = f.me;
-  each = by_name name (λ b p. Holds n.me p Free (record (seen (free n) d p) {
-    opened = if b then Some
-        (anew section.Writing bytes n.sections) else n.sections.records p;
-    draft = if b then bytes else d p;
-  })) (at_it (f.each name)) (λ p w. f.each p);
+  each = by_name name (λ b p. Holds n.me p Free (record (seen (free n) p) { opened = if b then Some (anew section.Writing bytes n.sections) else n.sections.records p })) (at_it (f.each name)) (λ p w. f.each p);
   cache = f.cache;
   fresh = f.fresh;
   inbox = f.inbox;
   outbox = f.outbox;
 }
   where
-    at_it : Holds n.me name Free (seen (free n) d name)
-        → Holds n.me name Free (record (seen (free n) d name) { opened = Some (anew section.Writing bytes n.sections); draft = bytes })
+    at_it : Holds n.me name Free (seen (free n) name)
+        → Holds n.me name Free (record (seen (free n) name) { opened = Some (anew section.Writing bytes n.sections) })
     at_it x = record {
       sections = anew_record section.Writing bytes n.sections (n.maps name) m mapped size refl;
-      draft = refl;
-      own = own_opened (is_mine n name) _ _ _ x.own;
+      own = own_opened (is_mine n name) _ _ x.own;
       queue = x.queue;
       asking = x.asking;
       going = x.going;
       waiting = x.waiting;
     }
 
-pub fits_open : (i : ℕ) (n : Node) (d : Name → List ℕ) (write : Bool) (name : Name) (bytes : List ℕ) (m : Mapping) → n.maps name ≡ Some m → length bytes ≡ m.size
-    → Fits i (free n) d → Fits i (free (section_opens write name bytes n).node) (begins (section_opens write name bytes n).answer d)
+pub fits_open : (i : ℕ) (n : Node) (write : Bool) (name : Name) (bytes : List ℕ) (m : Mapping) → n.maps name ≡ Some m → length bytes ≡ m.size
+    → Fits i (free n) → Fits i (free (section_opens write name bytes n).node)
 unfolding section_opens section_begins
-fits_open i n d true name bytes m mapped size f = fits_write i n d name bytes m mapped size f
-fits_open i n d false name bytes m mapped size f = fits_read i n d name bytes m (n.sections.records name) refl mapped size f
+fits_open i n true name bytes m mapped size f = fits_write i n name bytes m mapped size f
+fits_open i n false name bytes m mapped size f = fits_read i n name bytes m (n.sections.records name) refl mapped size f

@@ -17,37 +17,37 @@ use Rattle.crl_protocol.specs.Gathering.{Gathering}
 use Rattle.crl_protocol.specs.Node.{Node, Awaited, Free, Waiting, Outcome, only, Done, is_mine, home_of, message_to, letter_messages, mail_messages}
 use Rattle.crl_protocol.specs.Sectioning.{waits, with_entry_first, forgets_over, forgets, after_remote}
 use Rattle.crl_protocol.specs.Calls.{results_from}
-use Rattle.crl_deeds.proofs.Fitting.{begins, seen, CopyFits, RemoteFits, HomeFits, OwnFits, OwnHere, OwnThere, MappedHere, MappedThere, QueueFits, AskingFits, WaitFits, IsCached, FreshFits, IsAway, Leaves, Fits, Apart, other_name, same_name}
+use Rattle.crl_deeds.proofs.Fitting.{seen, CopyFits, RemoteFits, HomeFits, OwnFits, OwnHere, OwnThere, MappedHere, MappedThere, QueueFits, AskingFits, WaitFits, IsCached, FreshFits, IsAway, Leaves, Fits, Apart, other_name, same_name}
 use Rattle.crl_deeds.proofs.Serving.{NoAsk, NoAsks, RemoteGoes}
 use Rattle.crl_deeds.proofs.Keeping.{fits_turn, fits_remote, fits_forget}
 use Rattle.crl_deeds.proofs.Opening.{free}
 
--- the node that a step leaves, with its drafts, and what it sends
-pub record Good (i : ℕ) (d : Name → List ℕ) (o : Outcome) : Type 0 where
-  pub node : Fits i o.node (begins o.answer d)
+-- the node that a step leaves, and what it sends
+pub record Good (i : ℕ) (o : Outcome) : Type 0 where
+  pub node : Fits i o.node
   pub posts : AllByRecursion Leaves o.posts
 
-pub good_if : (i : ℕ) (d : Name → List ℕ) (b : Bool) (x y : Outcome) → (b ≡ true → Good i d x) → (b ≡ false → Good i d y) → Good i d (if b then x else y)
-good_if i d b x y f g = cond_both b x y (λ o. Good i d o) f g
+pub good_if : (i : ℕ) (b : Bool) (x y : Outcome) → (b ≡ true → Good i x) → (b ≡ false → Good i y) → Good i (if b then x else y)
+good_if i b x y f g = cond_both b x y (λ o. Good i o) f g
 
-pub good_only : (i : ℕ) (d : Name → List ℕ) (n : Node) → Fits i n d → Good i d (only n Done)
-good_only i d n f = record { node = f; posts = tt }
+pub good_only : (i : ℕ) (n : Node) → Fits i n → Good i (only n Done)
+good_only i n f = record { node = f; posts = tt }
 
-pub good_recording : (i : ℕ) (d : Name → List ℕ) (what : What) (o : Outcome) → Good i d o → Good i d (with_entry_first what o)
-good_recording i d what o g = record { node = g.node; posts = g.posts }
+pub good_recording : (i : ℕ) (what : What) (o : Outcome) → Good i o → Good i (with_entry_first what o)
+good_recording i what o g = record { node = g.node; posts = g.posts }
 
 -- nothing waits at a node that is free
 pub free_apart : (q : Name) → Apart q Free
 free_apart q = record { section = λ e. cc; delete = λ e. cc }
 
-pub good_waits : (i : ℕ) (d : Name → List ℕ) (n : Node) (awaited : Awaited) (posts : List Message)
+pub good_waits : (i : ℕ) (n : Node) (awaited : Awaited) (posts : List Message)
     → ((q : Name) → WaitFits q (Waiting awaited) (is_mine n q) (n.maps q)) → FreshFits (Waiting awaited) n.cache → AllByRecursion Leaves posts
-    → Fits i (free n) d → Good i d (waits (free n) awaited posts)
-good_waits i d n awaited posts wait fresh leave f = record { node = fits_turn i n d d Free (Waiting awaited) free_apart wait fresh refl f; posts = leave }
+    → Fits i (free n) → Good i (waits (free n) awaited posts)
+good_waits i n awaited posts wait fresh leave f = record { node = fits_turn i n Free (Waiting awaited) free_apart wait fresh f; posts = leave }
 
 -- what holds of the rounds is none of this
-pub fits_rounds : (i : ℕ) (d : Name → List ℕ) (n : Node) (rounds : ℕ) (g : Gathering) → Fits i n d → Fits i (record n { rounds = rounds; gathering = g }) d
-fits_rounds i d n rounds g f = record { me = f.me; each = f.each; cache = f.cache; fresh = f.fresh; inbox = f.inbox; outbox = f.outbox }
+pub fits_rounds : (i : ℕ) (n : Node) (rounds : ℕ) (g : Gathering) → Fits i n → Fits i (record n { rounds = rounds; gathering = g })
+fits_rounds i n rounds g f = record { me = f.me; each = f.each; cache = f.cache; fresh = f.fresh; inbox = f.inbox; outbox = f.outbox }
 
 -- Messages leave: those of a home ask for nothing, and those to another home go away.
 pub other_way : (a b : ℕ) → (a == b) ≡ false → (b == a) ≡ false
@@ -86,67 +86,67 @@ purges_leave n name [] = tt
 purges_leave n name (m ∷ ms) = (tt, purges_leave n name ms)
 
 -- A name with a table is the node's own, and one with a copy isn't.
-own_here : (i : ℕ) (d : Name → List ℕ) (n : Node) (name : Name) (h : Home) (b : Bool) → is_mine n name ≡ b → home_of n name ≡ Some h
-    → OwnFits b (seen n d name) → OwnHere (seen n d name)
-own_here i d n name h true e w own = own
-own_here i d n name h false e w own = let k = own.nothing in cc
+own_here : (i : ℕ) (n : Node) (name : Name) (h : Home) (b : Bool) → is_mine n name ≡ b → home_of n name ≡ Some h
+    → OwnFits b (seen n name) → OwnHere (seen n name)
+own_here i n name h true e w own = own
+own_here i n name h false e w own = let k = own.nothing in cc
 
-pub here_of : (i : ℕ) (d : Name → List ℕ) (n : Node) (name : Name) (h : Home) → home_of n name ≡ Some h → Fits i n d → OwnHere (seen n d name)
-here_of i d n name h e f = own_here i d n name h (is_mine n name) refl e (f.each name).own
+pub here_of : (i : ℕ) (n : Node) (name : Name) (h : Home) → home_of n name ≡ Some h → Fits i n → OwnHere (seen n name)
+here_of i n name h e f = own_here i n name h (is_mine n name) refl e (f.each name).own
 
 -- what holds of a name that is the node's own, and of one that isn't
-pub here_if : (i : ℕ) (d : Name → List ℕ) (n : Node) (name : Name) → is_mine n name ≡ true → Fits i n d → OwnHere (seen n d name)
-here_if i d n name e f = subst (λ b. OwnFits b (seen n d name)) e (f.each name).own
+pub here_if : (i : ℕ) (n : Node) (name : Name) → is_mine n name ≡ true → Fits i n → OwnHere (seen n name)
+here_if i n name e f = subst (λ b. OwnFits b (seen n name)) e (f.each name).own
 
-pub there_if : (i : ℕ) (d : Name → List ℕ) (n : Node) (name : Name) → is_mine n name ≡ false → Fits i n d → OwnThere (seen n d name)
-there_if i d n name e f = subst (λ b. OwnFits b (seen n d name)) e (f.each name).own
+pub there_if : (i : ℕ) (n : Node) (name : Name) → is_mine n name ≡ false → Fits i n → OwnThere (seen n name)
+there_if i n name e f = subst (λ b. OwnFits b (seen n name)) e (f.each name).own
 
-not_own : (d : Name → List ℕ) (n : Node) (name : Name) (r : Remote) (b : Bool) → is_mine n name ≡ b → n.remotes name ≡ Some r → OwnFits b (seen n d name) → is_mine n name ≡ false
-not_own d n name r true e w own = let k = own.nothing in cc
-not_own d n name r false e w own = e
+not_own : (n : Node) (name : Name) (r : Remote) (b : Bool) → is_mine n name ≡ b → n.remotes name ≡ Some r → OwnFits b (seen n name) → is_mine n name ≡ false
+not_own n name r true e w own = let k = own.nothing in cc
+not_own n name r false e w own = e
 
-pub not_mine : (i : ℕ) (d : Name → List ℕ) (n : Node) (name : Name) (r : Remote) → n.remotes name ≡ Some r → Fits i n d → is_mine n name ≡ false
-not_mine i d n name r e f = not_own d n name r (is_mine n name) refl e (f.each name).own
+pub not_mine : (i : ℕ) (n : Node) (name : Name) (r : Remote) → n.remotes name ≡ Some r → Fits i n → is_mine n name ≡ false
+not_mine i n name r e f = not_own n name r (is_mine n name) refl e (f.each name).own
 
-pub home_bytes : (i : ℕ) (d : Name → List ℕ) (n : Node) (name : Name) (h : Home) → home_of n name ≡ Some h → Fits i n d → length h.bytes ≡ h.size
-home_bytes i d n name h e f = subst (λ x. HomeFits x) e (here_of i d n name h e f).bytes
+pub home_bytes : (i : ℕ) (n : Node) (name : Name) (h : Home) → home_of n name ≡ Some h → Fits i n → length h.bytes ≡ h.size
+home_bytes i n name h e f = subst (λ x. HomeFits x) e (here_of i n name h e f).bytes
 
-pub remote_bytes : (i : ℕ) (d : Name → List ℕ) (n : Node) (name : Name) (r : Remote) → n.remotes name ≡ Some r → Fits i n d → CopyFits r.copy r.size
-remote_bytes i d n name r e f = subst (λ x. RemoteFits x) e (there_if i d n name (not_mine i d n name r e f) f).bytes
+pub remote_bytes : (i : ℕ) (n : Node) (name : Name) (r : Remote) → n.remotes name ≡ Some r → Fits i n → CopyFits r.copy r.size
+remote_bytes i n name r e f = subst (λ x. RemoteFits x) e (there_if i n name (not_mine i n name r e f) f).bytes
 
-pub queue_of : (i : ℕ) (d : Name → List ℕ) (n : Node) (name : Name) (h : Home) → home_of n name ≡ Some h → Fits i n d → QueueFits n.me name (Some h) n.activity
-queue_of i d n name h e f = subst (λ x. QueueFits n.me name x n.activity) e (f.each name).queue
+pub queue_of : (i : ℕ) (n : Node) (name : Name) (h : Home) → home_of n name ≡ Some h → Fits i n → QueueFits n.me name (Some h) n.activity
+queue_of i n name h e f = subst (λ x. QueueFits n.me name x n.activity) e (f.each name).queue
 
-pub asking_of : (i : ℕ) (d : Name → List ℕ) (n : Node) (name : Name) (r : Remote) → n.remotes name ≡ Some r → Fits i n d → AskingFits name (Some r) n.activity
-asking_of i d n name r e f = subst (λ x. AskingFits name x n.activity) e (f.each name).asking
+pub asking_of : (i : ℕ) (n : Node) (name : Name) (r : Remote) → n.remotes name ≡ Some r → Fits i n → AskingFits name (Some r) n.activity
+asking_of i n name r e f = subst (λ x. AskingFits name x n.activity) e (f.each name).asking
 
 -- sizes of what is mapped
-pub mapped_home : (i : ℕ) (d : Name → List ℕ) (n : Node) (name : Name) (h : Home) (m : Mapping) → home_of n name ≡ Some h → n.maps name ≡ Some m → Fits i n d → m.size ≡ h.size
-mapped_home i d n name h m e w f = subst (λ x. MappedHere (Some m) x) e (subst (λ y. MappedHere y (home_of n name)) w (here_of i d n name h e f).mapped)
+pub mapped_home : (i : ℕ) (n : Node) (name : Name) (h : Home) (m : Mapping) → home_of n name ≡ Some h → n.maps name ≡ Some m → Fits i n → m.size ≡ h.size
+mapped_home i n name h m e w f = subst (λ x. MappedHere (Some m) x) e (subst (λ y. MappedHere y (home_of n name)) w (here_of i n name h e f).mapped)
 
-pub mapped_remote : (i : ℕ) (d : Name → List ℕ) (n : Node) (name : Name) (r : Remote) (m : Mapping) → n.remotes name ≡ Some r → n.maps name ≡ Some m → Fits i n d → m.size ≡ r.size
-mapped_remote i d n name r m e w f =
-    subst (λ x. MappedThere (Some m) x) e (subst (λ y. MappedThere y (n.remotes name)) w (there_if i d n name (not_mine i d n name r e f) f).mapped)
+pub mapped_remote : (i : ℕ) (n : Node) (name : Name) (r : Remote) (m : Mapping) → n.remotes name ≡ Some r → n.maps name ≡ Some m → Fits i n → m.size ≡ r.size
+mapped_remote i n name r m e w f =
+    subst (λ x. MappedThere (Some m) x) e (subst (λ y. MappedThere y (n.remotes name)) w (there_if i n name (not_mine i n name r e f) f).mapped)
 
 -- A node's side of a region moves on, or is forgotten.
-pub good_moved : (i : ℕ) (d : Name → List ℕ) (n : Node) (name : Name) (r : Remote) (s : RemoteStep) → n.remotes name ≡ Some r → RemoteGoes r s → Fits i n d → Good i d (after_remote name s n)
+pub good_moved : (i : ℕ) (n : Node) (name : Name) (r : Remote) (s : RemoteStep) → n.remotes name ≡ Some r → RemoteGoes r s → Fits i n → Good i (after_remote name s n)
 unfolding after_remote
-good_moved i d n name r s e g f = record {
-  node = fits_remote i n d name r s.remote e g.size (subst (λ z. CopyFits s.remote.copy z) (sym g.size) g.bytes) (asking_same (asking_of i d n name r e f)) f;
-  posts = mails_leave n name s.posts (not_mine i d n name r e f);
+good_moved i n name r s e g f = record {
+  node = fits_remote i n name r s.remote e g.size (subst (λ z. CopyFits s.remote.copy z) (sym g.size) g.bytes) (asking_same (asking_of i n name r e f)) f;
+  posts = mails_leave n name s.posts (not_mine i n name r e f);
 }
   where
     asking_same : AskingFits name (Some r) n.activity → AskingFits name (Some s.remote) n.activity
     asking_same (inl w) = inl (g.asking ∙ w)
     asking_same (inr w) = inr w
 
-good_forgets_over : (i : ℕ) (d : Name → List ℕ) (n : Node) (name : Name) (o : Option Remote) → n.remotes name ≡ o → Fits i n d → Good i d (forgets_over name o n)
-good_forgets_over i d n name None e f = good_only i d n f
-good_forgets_over i d n name (Some r) e f = record { node = fits_forget i n d name f; posts = mails_leave n name (remote_flushes r).posts (not_mine i d n name r e f) }
+good_forgets_over : (i : ℕ) (n : Node) (name : Name) (o : Option Remote) → n.remotes name ≡ o → Fits i n → Good i (forgets_over name o n)
+good_forgets_over i n name None e f = good_only i n f
+good_forgets_over i n name (Some r) e f = record { node = fits_forget i n name f; posts = mails_leave n name (remote_flushes r).posts (not_mine i n name r e f) }
 
-pub good_forgets : (i : ℕ) (d : Name → List ℕ) (n : Node) (name : Name) → Fits i n d → Good i d (forgets name n)
+pub good_forgets : (i : ℕ) (n : Node) (name : Name) → Fits i n → Good i (forgets name n)
 unfolding forgets
-good_forgets i d n name f = good_forgets_over i d n name (n.remotes name) refl f
+good_forgets i n name f = good_forgets_over i n name (n.remotes name) refl f
 
 -- The cache.
 pub is_cached : (name : Name) (cache : List Cached) (size : ℕ) → cached_size name cache ≡ Some size → IsCached name size cache

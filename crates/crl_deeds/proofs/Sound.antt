@@ -1,8 +1,7 @@
--- What holds of the nodes and actors of a run holds after each event.
+-- What holds of every node holds after each event.
 use Rattle.std.proofs.Common.{◌≡◌, ℕ, zero, suc, ◌+◌, ◌==◌, ◌&&◌, Bool, true, false, None, Some, Option, List, [], ◌∷◌, length, if◌then◌else◌, refl, sym, ◌∙◌, subst}
-use Rattle.std.specs.List.{All, AllByRecursion}
+use Rattle.std.specs.List.{AllByRecursion}
 use Rattle.std.proofs.lemmas.Bool.{cond_both, eqb-true, and_parts}
-use Rattle.std.proofs.lemmas.List.Elements.{recursion_from_All}
 use Rattle.crl_model.specs.declared.name.Name.{Name}
 use Rattle.crl_model.specs.declared.stage.Stage.TheVariants as stage
 use Rattle.crl_model.specs.declared.event.Event.{Event}
@@ -10,30 +9,23 @@ use Rattle.crl_model.specs.declared.event.Event.TheVariants as event
 use Rattle.crl_model.specs.declared.message.Message.{Message}
 use Rattle.crl_model.specs.declared.message.Kind.{Kind}
 use Rattle.crl_model.specs.declared.message.Kind.TheVariants as kind
+use Rattle.crl_model.specs.Names.{at_node}
 use Rattle.crl_pieces.specs.Pieces.{count, cut, fresh, Cell, left_from, is_missing, is_complete, joined}
 use Rattle.crl_protocol.specs.Parcels.{Piece, load_of, with_load, piece_of, pieces_of, pieces_in, Key, key_of, PartsGathered, slots_or, at_key, fits_size}
 use Rattle.crl_protocol.specs.Receiving.{size_for, slots_with, gathers_piece, receives_part, receives_as, receives}
-use Rattle.crl_model.specs.declared.statement.Statement.{Statement}
-use Rattle.crl_model.specs.Names.{at_node}
 use Rattle.crl_protocol.specs.Places.{Taken, behind, take_out}
 use Rattle.crl_protocol.specs.Home.{Home}
 use Rattle.crl_protocol.specs.Lifetimes.{no_lifetime}
-use Rattle.crl_protocol.specs.Node.{Node, new_node, Answer, Made, Mapped, Reading, Writing, Done, Came, Refused, Wait, Activity, Free, Waiting, Ready, Outcome}
+use Rattle.crl_protocol.specs.Node.{Node, new_node, Activity, Free, Waiting, Ready, Outcome}
 use Rattle.crl_protocol.specs.Calls.{node_calls}
-use Rattle.crl_protocol.specs.World.{commits, steps_node, collects, handles_at, put_in, carries, note, step, is_enabled, is_free}
-use Rattle.crl_protocol.specs.Chosen.{Actor, Running, block_of, running, takes_guard, going_on, goes_on}
-use Rattle.crl_deeds.specs.Laws.{IsStatement, AreStatements, node_of}
-use Rattle.crl_deeds.proofs.Fitting.{begins, seen, OwnFits, Holds, Comes, Leaves, IsAway, Fits}
+use Rattle.crl_protocol.specs.World.{World, commits, steps_node, collects, handles_at, put_in, carries, note, step, is_enabled, is_free, IsRunFrom, world_after}
+use Rattle.crl_deeds.specs.NodeFacts.{seen, OwnFits, Holds, Comes, Leaves, IsAway, Fits}
 use Rattle.crl_deeds.proofs.Placing.{all_append}
 use Rattle.crl_deeds.proofs.Keeping.{fits_turn}
 use Rattle.crl_deeds.proofs.Outcomes.{Good, good_only}
 use Rattle.crl_deeds.proofs.Obeying.{good_call}
 use Rattle.crl_deeds.proofs.Handling.{fits_as}
 use Rattle.crl_deeds.proofs.Informing.{good_message}
-
-pub record Sound (r : Running) : Type 0 where
-  pub fits : (i : ℕ) → Fits i (r.world.nodes i) (r.actors i).drafts
-  pub left : (i : ℕ) → AllByRecursion IsStatement (r.actors i).left
 
 -- what holds at a node and at all others, where a value was changed at the node
 by_test : (i j : ℕ) (P : Bool → ℕ → Type 0) (b : Bool) → (i == j) ≡ b → P true i → ((i == j) ≡ false → P false j) → P b j
@@ -44,7 +36,7 @@ pub by_node : (i : ℕ) (P : Bool → ℕ → Type 0) → P true i → ((j : ℕ
 by_node i P here there j = by_test i j P (i == j) refl here (λ e. there j)
 
 -- The start of a run.
-own_start : (b : Bool) (q : Name) → OwnFits b (record { mine = b; stage = stage.Unknown; home = None; remote = None; mapping = None; opened = None; draft = [] })
+own_start : (b : Bool) (q : Name) → OwnFits b (record { mine = b; stage = stage.Unknown; home = None; remote = None; mapping = None; opened = None })
 own_start true q = record { live = tt; bytes = tt; mapped = tt; nothing = refl }
 own_start false q = record { bytes = tt; mapped = tt; nothing = refl; unknown = refl }
 
@@ -60,31 +52,16 @@ no_stage : (b : Bool) → (if b then no_lifetime else no_lifetime).stage ≡ sta
 no_stage true = refl
 no_stage false = refl
 
-fits_start : (count capacity i : ℕ) → Fits i (new_node count capacity i) (λ q. [])
+pub fits_start : (count capacity i : ℕ) → Fits i (new_node count capacity i)
 fits_start count capacity i = record {
   me = refl;
-  each = λ q. subst (λ s. Holds i q Free (record (seen (new_node count capacity i) (λ p. []) q) { stage = s })) (sym (no_stage (q.home == i)))
-      (subst (λ h. Holds i q Free (record (seen (new_node count capacity i) (λ p. []) q) { stage = stage.Unknown; home = h })) (sym (no_table (q.home == i) (q.serial == 0)))
-      (record { sections = tt; draft = tt; own = own_start (q.home == i) q; queue = tt; asking = tt; going = tt; waiting = tt }));
+  each = λ q. subst (λ s. Holds i q Free (record (seen (new_node count capacity i) q) { stage = s })) (sym (no_stage (q.home == i)))
+      (subst (λ h. Holds i q Free (record (seen (new_node count capacity i) q) { stage = stage.Unknown; home = h })) (sym (no_table (q.home == i) (q.serial == 0)))
+      (record { sections = tt; own = own_start (q.home == i) q; queue = tt; asking = tt; going = tt; waiting = tt }));
   cache = λ q size c. absurd c;
   fresh = tt;
   inbox = tt;
   outbox = tt;
-}
-
-all_blocks : (blocks : List (List Statement)) (i : ℕ) → AllByRecursion (λ block. AllByRecursion IsStatement block) blocks → AllByRecursion IsStatement (block_of blocks i)
-all_blocks [] i h = tt
-all_blocks (b ∷ blocks) zero h = h.0
-all_blocks (b ∷ blocks) (suc i) h = all_blocks blocks i h.1
-
-inner : (blocks : List (List Statement)) → AllByRecursion (λ block. All IsStatement block) blocks → AllByRecursion (λ block. AllByRecursion IsStatement block) blocks
-inner [] h = tt
-inner (b ∷ blocks) h = (recursion_from_All IsStatement b h.0, inner blocks h.1)
-
-pub sound_start : (count capacity : ℕ) (blocks : List (List Statement)) → AreStatements blocks → Sound (running count capacity blocks)
-sound_start count capacity blocks h = record {
-  fits = λ i. fits_start count capacity i;
-  left = λ i. all_blocks blocks i (inner blocks (recursion_from_All (λ block. All IsStatement block) blocks h));
 }
 
 -- The pieces of messages that leave.
@@ -118,59 +95,27 @@ pieces_leave [] h = tt
 pieces_leave (m ∷ ms) h = all_append LeavesIn (pieces_of m) (pieces_in ms) (left_leave m (count (length (load_of m.kind))) 0 (fresh (cut (load_of m.kind))) h.0) (pieces_leave ms h.1)
 
 -- A piece comes.
-fits_parcels : (i : ℕ) (d : Name → List ℕ) (n : Node) (parcels : PartsGathered) → Fits i n d → Fits i (record n { parcels = parcels }) d
-fits_parcels i d n parcels f = record { me = f.me; each = f.each; cache = f.cache; fresh = f.fresh; inbox = f.inbox; outbox = f.outbox }
+pub fits_parcels : (i : ℕ) (n : Node) (parcels : PartsGathered) → Fits i n → Fits i (record n { parcels = parcels })
+fits_parcels i n parcels f = record { me = f.me; each = f.each; cache = f.cache; fresh = f.fresh; inbox = f.inbox; outbox = f.outbox }
 
-good_piece : (i : ℕ) (d : Name → List ℕ) (n : Node) (o : Option Key) (p : Piece) → Comes n.me p.message → Fits i n d → Good i d (receives_as o p n)
-good_piece i d n None p h f = good_message i d n p.message.sender p.message.kind h f
-good_piece i d n (Some key) p h f = go (size_for key.load key.name n)
+good_piece : (i : ℕ) (n : Node) (o : Option Key) (p : Piece) → Comes n.me p.message → Fits i n → Good i (receives_as o p n)
+good_piece i n None p h f = good_message i n p.message.sender p.message.kind h f
+good_piece i n (Some key) p h f = go (size_for key.load key.name n)
   where
-    gathers : (slots : List (Option (List ℕ))) → Good i d (gathers_piece key p slots n)
+    gathers : (slots : List (Option (List ℕ))) → Good i (gathers_piece key p slots n)
     gathers slots =
-        cond_both (is_complete slots) _ _ (λ (x : Outcome). Good i d x)
-        (λ w. good_message i d (record n { parcels = at_key n.parcels key None }) p.message.sender (with_load (joined slots) p.message.kind) (subst (λ (x : Type 0). x) (away_load p.message.sender n.me (joined slots) p.message.kind) h)
-        (fits_parcels i d n (at_key n.parcels key None) f)) (λ w. good_only i d (record n { parcels = at_key n.parcels key (Some slots) }) (fits_parcels i d n (at_key n.parcels key (Some slots)) f))
+        cond_both (is_complete slots) _ _ (λ (x : Outcome). Good i x)
+        (λ w. good_message i (record n { parcels = at_key n.parcels key None }) p.message.sender (with_load (joined slots) p.message.kind) (subst (λ (x : Type 0). x) (away_load p.message.sender n.me (joined slots) p.message.kind) h)
+        (fits_parcels i n (at_key n.parcels key None) f)) (λ w. good_only i (record n { parcels = at_key n.parcels key (Some slots) }) (fits_parcels i n (at_key n.parcels key (Some slots)) f))
 
-    go : (size : Option ℕ) → Good i d (receives_part key p size n)
-    go None = good_only i d n f
-    go (Some size) = cond_both (fits_size size p && is_missing p.index (slots_or p.pieces (n.parcels key))) _ _ (λ (x : Outcome). Good i d x) (λ w. gathers (slots_with p (n.parcels key))) (λ w. good_only i d n f)
+    go : (size : Option ℕ) → Good i (receives_part key p size n)
+    go None = good_only i n f
+    go (Some size) = cond_both (fits_size size p && is_missing p.index (slots_or p.pieces (n.parcels key))) _ _ (λ (x : Outcome). Good i x) (λ w. gathers (slots_with p (n.parcels key))) (λ w. good_only i n f)
 
 -- An outcome is committed, and its answer given.
-fits_committed : (i position : ℕ) (d : Name → List ℕ) (e : Event) (o : Outcome) → Good i d o → Fits i (commits position e o) (begins o.answer d)
-fits_committed i position d e o g =
+fits_committed : (i position : ℕ) (e : Event) (o : Outcome) → Good i o → Fits i (commits position e o)
+fits_committed i position e o g =
     let f = g.node in record { me = f.me; each = f.each; cache = f.cache; fresh = f.fresh; inbox = f.inbox; outbox = all_append LeavesIn o.node.outbox (pieces_in o.posts) f.outbox (pieces_leave o.posts g.posts) }
-
-given_drafts : (answer : Answer) (a : Actor) → (takes_guard answer a).drafts ≡ begins answer a.drafts
-given_drafts (Made name) a = refl
-given_drafts (Mapped name size) a = refl
-given_drafts (Reading guard) a = refl
-given_drafts (Writing guard) a = refl
-given_drafts Done a = refl
-given_drafts (Came round fold) a = refl
-given_drafts (Refused why) a = refl
-given_drafts Wait a = refl
-
-given_left : (answer : Answer) (a : Actor) → (takes_guard answer a).left ≡ a.left
-given_left (Made name) a = refl
-given_left (Mapped name size) a = refl
-given_left (Reading guard) a = refl
-given_left (Writing guard) a = refl
-given_left Done a = refl
-given_left (Came round fold) a = refl
-given_left (Refused why) a = refl
-given_left Wait a = refl
-
-left_given : (r : Running) (i : ℕ) (answer : Answer) → Sound r → (j : ℕ) → AllByRecursion IsStatement (at_node r.actors i (takes_guard answer (r.actors i)) j).left
-left_given r i answer s =
-    by_node i (λ b j. AllByRecursion IsStatement (if b then takes_guard answer (r.actors i) else r.actors j).left)
-    (subst (λ x. AllByRecursion IsStatement x) (sym (given_left answer (r.actors i))) (s.left i)) s.left
-
-sound_stepped : (r : Running) (i : ℕ) (e f : Event) (o : Outcome) → Good i (r.actors i).drafts o → Sound r → Sound (going_on i f (steps_node i e o r.world) r)
-sound_stepped r i e f o g s = record {
-  fits = by_node i (λ b j. Fits j (if b then commits r.world.events e o else r.world.nodes j) (if b then takes_guard o.answer (r.actors i) else r.actors j).drafts)
-      (subst (λ x. Fits i (commits r.world.events e o) x) (sym (given_drafts o.answer (r.actors i))) (fits_committed i r.world.events (r.actors i).drafts e o g)) s.fits;
-  left = left_given r i o.answer s;
-}
 
 -- What is taken out of a list was one of its elements.
 all_behind : {A : Type 0} (P : A → Type 0) (x : A) (o : Option (Taken A)) (t : Taken A) → behind x o ≡ Some t → P x
@@ -181,61 +126,57 @@ all_behind P x (Some u) t e h k =
     let same : record { taken = u.taken; rest = x ∷ u.rest } ≡ t = cc in
     subst (λ (v : Taken _). P v.taken × AllByRecursion P v.rest) same (parts.0, (h, parts.1))
 
-all_taken : {A : Type 0} (P : A → Type 0) (place : ℕ) (xs : List A) (t : Taken A) → take_out place xs ≡ Some t → AllByRecursion P xs → P t.taken × AllByRecursion P t.rest
+pub all_taken : {A : Type 0} (P : A → Type 0) (place : ℕ) (xs : List A) (t : Taken A) → take_out place xs ≡ Some t → AllByRecursion P xs → P t.taken × AllByRecursion P t.rest
 all_taken P place [] t e h = cc
 all_taken P zero (x ∷ xs) t e h =
     let same : record { taken = x; rest = xs } ≡ t = cc in subst (λ (v : Taken _). P v.taken × AllByRecursion P v.rest) same h
 all_taken P (suc place) (x ∷ xs) t e h = all_behind P x (take_out place xs) t e h.0 (λ u w. all_taken P place xs u w h.1)
 
-sound_handled : (r : Running) (i place : ℕ) (e f : Event) (o : Option (Taken Piece)) → take_out place (r.world.nodes i).inbox ≡ o → Sound r
-    → Sound (going_on i f (handles_at i e o r.world) r)
-sound_handled r i place e f None w s = record {
-  fits = by_node i (λ b j. Fits j (r.world.nodes j) (if b then r.actors i else r.actors j).drafts) (s.fits i) s.fits;
-  left = left_given r i Done s;
-}
-sound_handled r i place e f (Some t) w s =
-    let n = r.world.nodes i in
-    let fits = s.fits i in
-    let parts = all_taken (λ (p : Piece). Comes n.me p.message) place n.inbox t w fits.inbox in
-    let taken : Node = record n { inbox = t.rest } in
-    let g : Fits i taken (r.actors i).drafts = record { me = fits.me; each = fits.each; cache = fits.cache; fresh = fits.fresh; inbox = parts.1; outbox = fits.outbox } in
-    sound_stepped r i e f (receives t.taken taken) (good_piece i (r.actors i).drafts taken (key_of t.taken.message) t.taken parts.0 g) s
-
-good_collected : (i : ℕ) (d : Name → List ℕ) (n : Node) (a : Activity) → n.activity ≡ a → Fits i n d → Good i d (collects a n)
-good_collected i d n Free e f = good_only i d n f
-good_collected i d n (Waiting awaited) e f = good_only i d n f
-good_collected i d n (Ready answer) e f = record {
-  node = fits_turn i n d (begins answer d) (Ready answer) Free (λ q. record { section = λ w. cc; delete = λ w. cc }) (λ q. tt) tt refl (fits_as i d n (Ready answer) e f);
+good_collected : (i : ℕ) (n : Node) (a : Activity) → n.activity ≡ a → Fits i n → Good i (collects a n)
+good_collected i n Free e f = good_only i n f
+good_collected i n (Waiting awaited) e f = good_only i n f
+good_collected i n (Ready answer) e f = record {
+  node = fits_turn i n (Ready answer) Free (λ q. record { section = λ w. cc; delete = λ w. cc }) (λ q. tt) tt (fits_as i n (Ready answer) e f);
   posts = tt;
 }
 
-sound_carried : (r : Running) (i place : ℕ) (e f : Event) (o : Option (Taken Piece)) → take_out place (r.world.nodes i).outbox ≡ o → Sound r
-    → Sound (going_on i f (carries i e o r.world) r)
-sound_carried r i place e f None w s = record {
-  fits = by_node i (λ b j. Fits j (r.world.nodes j) (if b then r.actors i else r.actors j).drafts) (s.fits i) s.fits;
-  left = left_given r i Done s;
-}
-sound_carried r i place e f (Some t) w s = record {
-  fits = by_node i (λ b j. Fits j (at_node between t.taken.message.addressee (put_in t.taken (between t.taken.message.addressee)) j) (if b then r.actors i else r.actors j).drafts) (arrived i) arrived;
-  left = left_given r i Done s;
-}
+-- All nodes of a world.
+abbrev pub AllFit : World → Type 0
+AllFit w = (i : ℕ) → Fits i (w.nodes i)
+
+fits_stepped : (w : World) (i : ℕ) (e : Event) (o : Outcome) → Good i o → AllFit w → AllFit (steps_node i e o w).world
+fits_stepped w i e o g s = by_node i (λ b j. Fits j (if b then commits w.events e o else w.nodes j)) (fits_committed i w.events e o g) s
+
+fits_handled : (w : World) (i place : ℕ) (e : Event) (o : Option (Taken Piece)) → take_out place (w.nodes i).inbox ≡ o → AllFit w → AllFit (handles_at i e o w).world
+fits_handled w i place e None out s = s
+fits_handled w i place e (Some t) out s =
+    let n = w.nodes i in
+    let fits = s i in
+    let parts = all_taken (λ (p : Piece). Comes n.me p.message) place n.inbox t out fits.inbox in
+    let taken : Node = record n { inbox = t.rest } in
+    let g : Fits i taken = record { me = fits.me; each = fits.each; cache = fits.cache; fresh = fits.fresh; inbox = parts.1; outbox = fits.outbox } in
+    fits_stepped w i e (receives t.taken taken) (good_piece i taken (key_of t.taken.message) t.taken parts.0 g) s
+
+fits_carried : (w : World) (i place : ℕ) (e : Event) (o : Option (Taken Piece)) → take_out place (w.nodes i).outbox ≡ o → AllFit w → AllFit (carries i e o w).world
+fits_carried w i place e None out s = s
+fits_carried w i place e (Some t) out s = arrived
   where
     sender : Node
-    sender = note r.world.events e (record (r.world.nodes i) { outbox = t.rest })
+    sender = note w.events e (record (w.nodes i) { outbox = t.rest })
 
     between : ℕ → Node
-    between = at_node r.world.nodes i sender
+    between = at_node w.nodes i sender
 
     parts : LeavesIn t.taken × AllByRecursion LeavesIn t.rest
-    parts = all_taken LeavesIn place (r.world.nodes i).outbox t w (s.fits i).outbox
+    parts = all_taken LeavesIn place (w.nodes i).outbox t out (s i).outbox
 
-    sent : Fits i sender (r.actors i).drafts
-    sent = let fits = s.fits i in record { me = fits.me; each = fits.each; cache = fits.cache; fresh = fits.fresh; inbox = fits.inbox; outbox = parts.1 }
+    sent : Fits i sender
+    sent = let fits = s i in record { me = fits.me; each = fits.each; cache = fits.cache; fresh = fits.fresh; inbox = fits.inbox; outbox = parts.1 }
 
-    left_there : (j : ℕ) → Fits j (between j) (r.actors j).drafts
-    left_there = by_node i (λ b j. Fits j (if b then sender else r.world.nodes j) (r.actors j).drafts) sent s.fits
+    left_there : (j : ℕ) → Fits j (between j)
+    left_there = by_node i (λ b j. Fits j (if b then sender else w.nodes j)) sent s
 
-    put : (j : ℕ) (n : Node) → t.taken.message.addressee ≡ j → Fits j n (r.actors j).drafts → Fits j (put_in t.taken n) (r.actors j).drafts
+    put : (j : ℕ) (n : Node) → t.taken.message.addressee ≡ j → Fits j n → Fits j (put_in t.taken n)
     put j n to fits = record {
       me = fits.me;
       each = fits.each;
@@ -245,23 +186,26 @@ sound_carried r i place e f (Some t) w s = record {
       outbox = fits.outbox;
     }
 
-    arrived : (j : ℕ) → Fits j (at_node between t.taken.message.addressee (put_in t.taken (between t.taken.message.addressee)) j) (r.actors j).drafts
-    arrived = by_node t.taken.message.addressee (λ b j. Fits j (if b then put_in t.taken (between t.taken.message.addressee) else between j) (r.actors j).drafts)
+    arrived : (j : ℕ) → Fits j (at_node between t.taken.message.addressee (put_in t.taken (between t.taken.message.addressee)) j)
+    arrived = by_node t.taken.message.addressee (λ b j. Fits j (if b then put_in t.taken (between t.taken.message.addressee) else between j))
         (put t.taken.message.addressee (between t.taken.message.addressee) refl (left_there t.taken.message.addressee)) left_there
 
-is_freed : (a : Activity) → is_free a ≡ true → a ≡ Free
+pub is_freed : (a : Activity) → is_free a ≡ true → a ≡ Free
 is_freed Free e = refl
 is_freed (Waiting awaited) e = cc
 is_freed (Ready answer) e = cc
 
 -- any event that may come
-pub sound_event : (r : Running) (e : Event) → is_enabled e r.world ≡ true → Sound r → Sound (goes_on (node_of e) e r)
+pub fits_event : (w : World) (e : Event) → is_enabled e w ≡ true → AllFit w → AllFit (step e w).world
 unfolding step is_enabled
-sound_event r (event.Call i c) h s =
+fits_event w (event.Call i c) h s =
     let parts = and_parts _ _ (and_parts _ _ h).1 in
-    sound_stepped r i _ (event.Call i c) (node_calls c (r.world.nodes i)) (good_call i (r.actors i).drafts (r.world.nodes i) c (is_freed (r.world.nodes i).activity parts.0) parts.1 (s.fits i)) s
-sound_event r (event.Collect i) h s =
-    sound_stepped r i _ (event.Collect i) (collects (r.world.nodes i).activity (r.world.nodes i))
-    (good_collected i (r.actors i).drafts (r.world.nodes i) (r.world.nodes i).activity refl (s.fits i)) s
-sound_event r (event.Handle i place) h s = sound_handled r i place (event.Handle i place) (event.Handle i place) (take_out place (r.world.nodes i).inbox) refl s
-sound_event r (event.Carry i place) h s = sound_carried r i place (event.Carry i place) (event.Carry i place) (take_out place (r.world.nodes i).outbox) refl s
+    fits_stepped w i _ (node_calls c (w.nodes i)) (good_call i (w.nodes i) c (is_freed (w.nodes i).activity parts.0) parts.1 (s i)) s
+fits_event w (event.Collect i) h s = fits_stepped w i _ (collects (w.nodes i).activity (w.nodes i)) (good_collected i (w.nodes i) (w.nodes i).activity refl (s i)) s
+fits_event w (event.Handle i place) h s = fits_handled w i place _ (take_out place (w.nodes i).inbox) refl s
+fits_event w (event.Carry i place) h s = fits_carried w i place _ (take_out place (w.nodes i).outbox) refl s
+
+-- and any run
+pub fits_run : (w : World) (es : List Event) → IsRunFrom w es → AllFit w → AllFit (world_after w es)
+fits_run w [] r s = s
+fits_run w (e ∷ es) r s = fits_run (step e w).world es r.1 (fits_event w e r.0 s)

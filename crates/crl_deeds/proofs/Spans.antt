@@ -19,9 +19,7 @@ use Rattle.crl_protocol.specs.Node.{Node, Answer, ForSection, ForRound, Activity
 use Rattle.crl_protocol.specs.Calls.{results_from}
 use Rattle.crl_model.specs.FoldOf.{fold_of}
 use Rattle.crl_deeds.proofs.Fitting.{IsAway, Leaves, Fits}
-use Rattle.crl_deeds.proofs.Serving.{HomeGoes, asked_goes, returned_goes, released_goes}
-use Rattle.crl_deeds.proofs.Outcomes.{home_bytes, queue_of, asking_of}
-use Rattle.crl_deeds.proofs.Handling.{waits_own, waits_granted}
+use Rattle.crl_deeds.proofs.Opens.{own_waits, grant_waits}
 use Rattle.crl_deeds.proofs.Turning.{Came}
 use Rattle.crl_deeds.specs.Deeds.{FreeIf, Cause, Calls, Hears, parting, Copies, Rounds, Notes, home_opens, home_waits, side_opens, side_waits, home_ends, side_ends, side_flushes, home_serves, home_serves_own, grant_comes, side_called, Serves, ask_comes, copy_returns, copy_lowers, CallsBack, wholly, to_share, comes_away, comes_home, comes_last, part_comes, part_last, part_last_idle, result_comes, ends_nowhere}
 use Rattle.crl_deeds.proofs.Totals.{weigh, weighs, waited, none_to, Balance}
@@ -109,11 +107,6 @@ back_none : (f : Message → ℕ) (g : Node → ℕ) (waits : Activity → ℕ) 
 back_none f g waits s r to from k name x (wholly q version) = s.mail from to q (Recall version)
 back_none f g waits s r to from k name x (to_share q version) = s.mail from to q (Yield version)
 
-serves_goes : (n : Node) (h : Home) (from : ℕ) (k : Kind) (name : Name) (s : HomeStep) → Serves n h from k name s → IsAway from n.me k → length h.bytes ≡ h.size → HomeGoes n.me h s
-serves_goes n h from k name s (ask_comes f q write have free) away b = asked_goes n.me (record { node = from; write = write; have = have }) h away b
-serves_goes n h from k name s (copy_returns f q version bytes fits) away b = returned_goes n.me from version bytes h b fits
-serves_goes n h from k name s (copy_lowers f q version bytes fits) away b = released_goes n.me from version bytes h b fits
-
 -- what came, as it weighs
 abbrev pub came : (Message → ℕ) → ℕ → Cause → ℕ
 came f me (Calls c) = 0
@@ -126,25 +119,25 @@ even s x y v e f = omega arith
 pub shut : (s x y c v u : ℕ) → s ≡ 0 → x ≡ y → c ≡ 0 → v ≡ 0 → u ≡ 0 → (s + x) + v ≡ (c + y) + u
 shut s x y c v u e f g h k = omega arith
 
-pub span_copies : (f : Message → ℕ) (g : Node → ℕ) (waits : Activity → ℕ) → Span f g waits → (i j : ℕ) (d : Name → List ℕ) (n : Node) (cause : Cause) (o : Outcome) → Copies n cause o → Fits j n d → Came Leaves n.me cause → FreeIf cause n
+pub span_copies : (f : Message → ℕ) (g : Node → ℕ) (waits : Activity → ℕ) → Span f g waits → (i j : ℕ) (n : Node) (cause : Cause) (o : Outcome) → Copies n cause o → Fits j n → Came Leaves n.me cause → FreeIf cause n
     → Balance f g waits i n (came f n.me cause) o
-span_copies f g waits s i j d n cause o (home_opens c write name h is e v x) t w free = let a = letters_none f g waits s n name _ in let b = s.kept n o.node refl refl in even _ _ _ _ a b
-span_copies f g waits s i j d n cause o (home_waits c write name h is e v x) t w free =
+span_copies f g waits s i j n cause o (home_opens c write name h is e v x) t w free = let a = letters_none f g waits s n name _ in let b = s.kept n o.node refl refl in even _ _ _ _ a b
+span_copies f g waits s i j n cause o (home_waits c write name h is e v x) t w free =
     shut _ _ _ _ _ _ (letters_none f g waits s n name _) (s.kept n o.node refl refl) refl (no_wait_as waits i n Free free s.free) (no_wait waits i o.node (s.section name))
-span_copies f g waits s i j d n cause o (side_opens c write name r is e k v x) t w free = even _ _ _ _ (mails_none f g waits s n name _) (s.kept n o.node refl refl)
-span_copies f g waits s i j d n cause o (side_waits c write name r is e k v x) t w free =
+span_copies f g waits s i j n cause o (side_opens c write name r is e k v x) t w free = even _ _ _ _ (mails_none f g waits s n name _) (s.kept n o.node refl refl)
+span_copies f g waits s i j n cause o (side_waits c write name r is e k v x) t w free =
     shut _ _ _ _ _ _ (mails_none f g waits s n name _) (s.kept n o.node refl refl) refl (no_wait_as waits i n Free free s.free) (no_wait waits i o.node (s.section name))
-span_copies f g waits s i j d n cause o (home_ends c name y ends lowers h is e) t w free = even _ _ _ _ (letters_none f g waits s n name _) (s.kept n o.node refl refl)
-span_copies f g waits s i j d n cause o (side_ends c name y ends lowers r is e k) t w free = even _ _ _ _ (mails_none f g waits s n name _) (s.kept n o.node refl refl)
-span_copies f g waits s i j d n cause o (side_flushes name r other e closed) t w free = even _ _ _ _ (mails_none f g waits s n name _) (s.kept n o.node refl refl)
-span_copies f g waits s i j d n cause o (home_serves from k name h y is e x) t w free =
+span_copies f g waits s i j n cause o (home_ends c name y ends lowers h is e) t w free = even _ _ _ _ (letters_none f g waits s n name _) (s.kept n o.node refl refl)
+span_copies f g waits s i j n cause o (side_ends c name y ends lowers r is e k) t w free = even _ _ _ _ (mails_none f g waits s n name _) (s.kept n o.node refl refl)
+span_copies f g waits s i j n cause o (side_flushes name r other e closed) t w free = even _ _ _ _ (mails_none f g waits s n name _) (s.kept n o.node refl refl)
+span_copies f g waits s i j n cause o (home_serves from k name h y is e x) t w free =
     let a = letters_none f g waits s n name y.posts in let b = s.kept n o.node refl refl in let c = serves_none f g waits s n h n.me from k name y is in omega arith
-span_copies f g waits s i j d n cause o (home_serves_own from k name h y is e x) t w free =
-    let own = waits_own n.me name h y n.activity x (serves_goes n h from k name y is w (home_bytes j d n name h e t)) (queue_of j d n name h e t) in
+span_copies f g waits s i j n cause o (home_serves_own from k name h y is e x) t w free =
+    let own = own_waits j n h from k name y is e x w t in
     shut _ _ _ _ _ _ (letters_none f g waits s n name y.posts) (s.kept n o.node refl refl) (serves_none f g waits s n h n.me from k name y is) (no_wait_as waits i n _ own (s.section name)) (no_wait waits i o.node (s.ready _))
-span_copies f g waits s i j d n cause o (grant_comes from name version what r e y) t w free =
-    shut _ _ _ _ _ _ refl (s.kept n o.node refl refl) (s.mail from n.me name (Grant version what)) (no_wait_as waits i n _ (waits_granted name what r n.activity y (asking_of j d n name r e t)) (s.section name)) (no_wait waits i o.node (s.ready _))
-span_copies f g waits s i j d n cause o (side_called from k name r y is e) t w free =
+span_copies f g waits s i j n cause o (grant_comes from name version what r e y) t w free =
+    shut _ _ _ _ _ _ refl (s.kept n o.node refl refl) (s.mail from n.me name (Grant version what)) (no_wait_as waits i n _ (grant_waits j n name what r e y t) (s.section name)) (no_wait waits i o.node (s.ready _))
+span_copies f g waits s i j n cause o (side_called from k name r y is e) t w free =
     let a = mails_none f g waits s n name y.posts in let b = s.kept n o.node refl refl in let c = back_none f g waits s r n.me from k name y is in omega arith
 
 pub span_rounds : (f : Message → ℕ) (g : Node → ℕ) (waits : Activity → ℕ) → Span f g waits → (i : ℕ) (n : Node) (cause : Cause) (o : Outcome) → Rounds n cause o → FreeIf cause n → Balance f g waits i n (came f n.me cause) o

@@ -1,3 +1,4 @@
 pub mod Deeds
 pub mod Laws
 pub mod Turns
+pub mod NodeFacts
