@@ -56,13 +56,13 @@ closed_is section.Closed e = refl
 closed_is (section.Reading count) e = cc
 closed_is section.Writing e = cc
 
-left_at : (i : ℕ) (d : Name → List ℕ) (n : Node) (name : Name) → n.activity ≡ Free → section_at name n.sections ≡ section.Closed → Local i d n → IsLeft i name n
-left_at i d n name free closed l r e =
-    (away i d n name r e l.fits, here_is i d n name r e l ∙ closed, free_asks name r (subst (λ a. AskingFits name (Some r) a) free (asking_of i d n name r e l.fits)), closed)
+left_at : (i : ℕ) (n : Node) (name : Name) → n.activity ≡ Free → section_at name n.sections ≡ section.Closed → Local i n → IsLeft i name n
+left_at i n name free closed l r e =
+    (away i n name r e l.fits, here_is i n name r e l ∙ closed, free_asks name r (subst (λ a. AskingFits name (Some r) a) free (asking_of i n name r e l.fits)), closed)
 
 -- what a node maps isn't its own, and nothing of it is here
-comes_new : (i : ℕ) (d : Name → List ℕ) (n : Node) (name : Name) (purged : Bool) → n.activity ≡ Waiting (ForMap name purged) → Local i d n → ((i == name.home) ≡ false) × (n.remotes name ≡ None)
-comes_new i d n name purged e l = (ne_eqb i name.home (λ w. eqb-false name.home n.me waits.1 (sym w ∙ sym l.fits.me)), nowhere (n.remotes name) refl)
+comes_new : (i : ℕ) (n : Node) (name : Name) (purged : Bool) → n.activity ≡ Waiting (ForMap name purged) → Local i n → ((i == name.home) ≡ false) × (n.remotes name ≡ None)
+comes_new i n name purged e l = (ne_eqb i name.home (λ w. eqb-false name.home n.me waits.1 (sym w ∙ sym l.fits.me)), nowhere (n.remotes name) refl)
   where
     waits : (n.maps name ≡ None) × (is_mine n name ≡ false)
     waits = subst (λ a. WaitFits name a (is_mine n name) (n.maps name)) e (l.fits.each name).waiting refl
@@ -77,26 +77,26 @@ acts_made K i n size v me q = subst (λ o. Acts K q i None (left_in q n o (call.
 left_refused : (q : Name) (n : Node) (c : Call) (why : Refusal) → verdict n c ≡ Some why → lefts q n (Calls c) ≡ None
 left_refused q n c why v = ap (λ o. left_in q n o c) v ∙ left_none q n why c
 
-acts_lives : (K : Name → ℕ → Type 0) (i : ℕ) (d : Name → List ℕ) (n : Node) (cause : Cause) (o : Outcome) → Lives n cause o → FreeIf cause n → TellsIf K cause → Local i d n → (q : Name) → Acts K q i None (lefts q n cause) n o.node o.posts
+acts_lives : (K : Name → ℕ → Type 0) (i : ℕ) (n : Node) (cause : Cause) (o : Outcome) → Lives n cause o → FreeIf cause n → TellsIf K cause → Local i n → (q : Name) → Acts K q i None (lefts q n cause) n o.node o.posts
 unfolding verdict
-acts_lives K i d n cause o (made size e) free tells l q = acts_made K i n size e l.fits.me q
-acts_lives K i d n cause o (used_up size why e x) free tells l q =
+acts_lives K i n cause o (made size e) free tells l q = acts_made K i n size e l.fits.me q
+acts_lives K i n cause o (used_up size why e x) free tells l q =
     subst (λ w. Acts K q i None w n o.node []) (sym (left_refused q n (call.Create size) why e)) (nothing refl refl (home_none n q) refl refl refl)
-acts_lives K i d n cause o (map_comes from name purged size e) free tells l q = let new = comes_new i d n name purged e l in acts_info_told K i d n name purged (told.Live size) new.0 new.1 l tells q
-acts_lives K i d n cause o (unmaps_doomed name m e one other doomed closed) free tells l q =
-    acts_forgotten K i n o.node name (n.remotes name) refl l.fits.me (left_at i d n name free (closed_is _ closed) l) (λ p. refl) refl refl refl q
-acts_lives K i d n cause o (unmaps_evicting name m old e one other sound closed kept) free tells l q =
+acts_lives K i n cause o (map_comes from name purged size e) free tells l q = let new = comes_new i n name purged e l in acts_info_told K i n name purged (told.Live size) new.0 new.1 l tells q
+acts_lives K i n cause o (unmaps_doomed name m e one other doomed closed) free tells l q =
+    acts_forgotten K i n o.node name (n.remotes name) refl l.fits.me (left_at i n name free (closed_is _ closed) l) (λ p. refl) refl refl refl q
+acts_lives K i n cause o (unmaps_evicting name m old e one other sound closed kept) free tells l q =
     acts_forgotten K i n o.node old (n.remotes old) refl l.fits.me (of_either (evicted_from n.capacity (record { name = name; size = m.size }) n.cache old kept)) (λ p. refl) refl refl refl q
   where
     of_either : (name ≡ old) ⊎ ((size : ℕ) × IsCached old size n.cache) → IsLeft i old n
-    of_either (inl same) = subst (λ x. IsLeft i x n) same (left_at i d n name free (closed_is _ closed) l)
-    of_either (inr c) = left_at i d n old free (unmapped_closed i d n old (l.cached old c.0 c.1) l) l
-acts_lives K i d n cause o (drops from name size e c) free tells l q =
+    of_either (inl same) = subst (λ x. IsLeft i x n) same (left_at i n name free (closed_is _ closed) l)
+    of_either (inr c) = left_at i n old free (unmapped_closed i n old (l.cached old c.0 c.1) l) l
+acts_lives K i n cause o (drops from name size e c) free tells l q =
     acts_sending K q i None None n o.node (parting n name (n.remotes name)) (message_to n from (kind.Purged name)) refl
-    (acts_forgotten K i n o.node name (n.remotes name) refl l.fits.me (left_unmapped i d n name e l) (λ p. refl) refl refl refl q)
-acts_lives K i d n cause o (deletes_own name m ms mine live e) free tells l q = nothing refl refl refl refl (purges_quiet n name q (members n.nodes (lifetime_of n name).asked)) refl
-acts_lives K i d n cause o (deletes_for from name m ms mine live e) free tells l q = nothing refl refl refl refl (purges_quiet n name q (members n.nodes (lifetime_of n name).asked)) refl
-acts_lives K i d n cause o _ free tells l q = nothing refl refl refl refl refl refl
+    (acts_forgotten K i n o.node name (n.remotes name) refl l.fits.me (left_unmapped i n name e l) (λ p. refl) refl refl refl q)
+acts_lives K i n cause o (deletes_own name m ms mine live e) free tells l q = nothing refl refl refl refl (purges_quiet n name q (members n.nodes (lifetime_of n name).asked)) refl
+acts_lives K i n cause o (deletes_for from name m ms mine live e) free tells l q = nothing refl refl refl refl (purges_quiet n name q (members n.nodes (lifetime_of n name).asked)) refl
+acts_lives K i n cause o _ free tells l q = nothing refl refl refl refl refl refl
 
 acts_rounds : (K : Name → ℕ → Type 0) (i : ℕ) (n : Node) (cause : Cause) (o : Outcome) → Rounds n cause o → (q : Name) → Acts K q i None (lefts q n cause) n o.node o.posts
 acts_rounds K i n cause o (comes_last part parts first fits all) q = nothing refl refl refl refl (results_quiet n q 1 (n.nodes - 1) _ _) refl

@@ -88,11 +88,11 @@ no_record : (o : Option OpenSection) → RecordFits o None → section_of o ≡ 
 no_record None f = refl
 no_record (Some r) f = absurd f
 
-pub left_closed : (i : ℕ) (d : Name → List ℕ) (n : Node) (name : Name) → section_at name n.sections ≡ section.Closed → Local i d (free n) → IsLeft i name (free n)
-left_closed i d n name closed l r e = (away i d (free n) name r e l.fits, here_is i d (free n) name r e l ∙ closed, free_asks name r (asking_of i d (free n) name r e l.fits), closed)
+pub left_closed : (i : ℕ) (n : Node) (name : Name) → section_at name n.sections ≡ section.Closed → Local i (free n) → IsLeft i name (free n)
+left_closed i n name closed l r e = (away i (free n) name r e l.fits, here_is i (free n) name r e l ∙ closed, free_asks name r (asking_of i (free n) name r e l.fits), closed)
 
-pub unmapped_closed : (i : ℕ) (d : Name → List ℕ) (n : Node) (name : Name) → n.maps name ≡ None → Local i d n → section_at name n.sections ≡ section.Closed
-unmapped_closed i d n name e l = no_record (n.sections.records name) (subst (λ m. RecordFits (n.sections.records name) m) e (l.fits.each name).sections)
+pub unmapped_closed : (i : ℕ) (n : Node) (name : Name) → n.maps name ≡ None → Local i n → section_at name n.sections ≡ section.Closed
+unmapped_closed i n name e l = no_record (n.sections.records name) (subst (λ m. RecordFits (n.sections.records name) m) e (l.fits.each name).sections)
 
 -- what the cache gives up is what is put in, or was there
 abbrev pub FromCache : Cached → List Cached → CacheStep → Type 0
@@ -114,13 +114,13 @@ acts_evicts K i n maps cache None me left q = nothing refl refl refl refl refl r
 acts_evicts K i n maps cache (Some name) me left q = acts_forgets K i n maps cache name me (left name refl) q
 
 -- an unmap
-acts_unmap : (K : Name → ℕ → Type 0) (i : ℕ) (d : Name → List ℕ) (n : Node) (name : Name) (m : Option Mapping) → of_open (section_at name n.sections) ≡ None → Local i d (free n)
+acts_unmap : (K : Name → ℕ → Type 0) (i : ℕ) (n : Node) (name : Name) (m : Option Mapping) → of_open (section_at name n.sections) ≡ None → Local i (free n)
     → (q : Name) → let o = unmaps_over name m (free n) in Acts K q i None None (free n) o.node o.posts
-acts_unmap K i d n name None v l q = nothing refl refl refl refl refl refl
-acts_unmap K i d n name (Some m) v l q =
+acts_unmap K i n name None v l q = nothing refl refl refl refl refl refl
+acts_unmap K i n name (Some m) v l q =
     acts_if K q i None None (free n) (m.count == 1) _ _
     (λ w. acts_if K q i None None (free n) (is_mine (free n) name) _ _ (λ u. nothing refl refl refl refl refl refl)
-    (λ u. acts_if K q i None None (free n) m.doomed _ _ (λ k. acts_forgets K i (free n) _ _ name l.fits.me (left_closed i d n name closed l) q)
+    (λ u. acts_if K q i None None (free n) m.doomed _ _ (λ k. acts_forgets K i (free n) _ _ name l.fits.me (left_closed i n name closed l) q)
     (λ k. acts_evicts K i (free n) _ _ (cache_with n.capacity (record { name = name; size = m.size }) n.cache).evicted l.fits.me evicted q)))
     (λ w. nothing refl refl refl refl refl refl)
   where
@@ -128,8 +128,8 @@ acts_unmap K i d n name (Some m) v l q =
     closed = closed_of (section_at name n.sections) v
 
     of_either : (p : Name) → (name ≡ p) ⊎ ((size : ℕ) × IsCached p size n.cache) → IsLeft i p (free n)
-    of_either p (inl same) = subst (λ x. IsLeft i x (free n)) same (left_closed i d n name closed l)
-    of_either p (inr c) = left_closed i d n p (unmapped_closed i d (free n) p (l.cached p c.0 c.1) l) l
+    of_either p (inl same) = subst (λ x. IsLeft i x (free n)) same (left_closed i n name closed l)
+    of_either p (inr c) = left_closed i n p (unmapped_closed i (free n) p (l.cached p c.0 c.1) l) l
 
     evicted : (p : Name) → (cache_with n.capacity (record { name = name; size = m.size }) n.cache).evicted ≡ Some p → IsLeft i p (free n)
     evicted p e = of_either p (evicted_from n.capacity (record { name = name; size = m.size }) n.cache p e)
@@ -165,21 +165,21 @@ acts_refused K i n why (call.Add name offset) q = nothing refl refl refl refl re
 acts_refused K i n why (call.Flush name) q = nothing refl refl refl refl refl refl
 acts_refused K i n why (call.Come part) q = nothing refl refl refl refl refl refl
 
-acts_taken : (K : Name → ℕ → Type 0) (i : ℕ) (d : Name → List ℕ) (n : Node) (c : Call) → verdict (free n) c ≡ None → is_call (free n) c None ≡ true → Local i d (free n)
+acts_taken : (K : Name → ℕ → Type 0) (i : ℕ) (n : Node) (c : Call) → verdict (free n) c ≡ None → is_call (free n) c None ≡ true → Local i (free n)
     → (q : Name) → let o = takes_call c (free n) in Acts K q i None (left_in q (free n) None c) (free n) o.node o.posts
 unfolding verdict takes_call
-acts_taken K i d n (call.Create size) v e l q = acts_create K i size (free n) l.fits.me q
-acts_taken K i d n (call.Delete name) v e l q = acts_delete K i (free n) name q
-acts_taken K i d n (call.Map name) v e l q = acts_map K i (free n) name q (n.maps name)
-acts_taken K i d n (call.Unmap name) v e l q = acts_unmap K i d n name (n.maps name) (none_of _ _ v).1 l q
-acts_taken K i d n (call.StartRead name) v e l q = acts_start K i d n false name (none_of _ _ v).1 l q
-acts_taken K i d n (call.EndRead name) v e l q = acts_end_read K i d n name (none_of _ _ v).1 l q
-acts_taken K i d n (call.StartWrite name) v e l q = acts_start K i d n true name (none_of _ _ v).1 l q
-acts_taken K i d n (call.EndWrite name after) v e l q = acts_end_write K i d n name after (none_of _ _ v).1 (eqb-true _ _ e) l q
-acts_taken K i d n (call.Put name offset len) v e l q = nothing refl refl refl refl refl refl
-acts_taken K i d n (call.Add name offset) v e l q = nothing refl refl refl refl refl refl
-acts_taken K i d n (call.Flush name) v e l q = acts_flush K i d n name (none_of _ _ v).1 l q
-acts_taken K i d n (call.Come part) v e l q = acts_come K i (free n) part q
+acts_taken K i n (call.Create size) v e l q = acts_create K i size (free n) l.fits.me q
+acts_taken K i n (call.Delete name) v e l q = acts_delete K i (free n) name q
+acts_taken K i n (call.Map name) v e l q = acts_map K i (free n) name q (n.maps name)
+acts_taken K i n (call.Unmap name) v e l q = acts_unmap K i n name (n.maps name) (none_of _ _ v).1 l q
+acts_taken K i n (call.StartRead name) v e l q = acts_start K i n false name (none_of _ _ v).1 l q
+acts_taken K i n (call.EndRead name) v e l q = acts_end_read K i n name (none_of _ _ v).1 l q
+acts_taken K i n (call.StartWrite name) v e l q = acts_start K i n true name (none_of _ _ v).1 l q
+acts_taken K i n (call.EndWrite name after) v e l q = acts_end_write K i n name after (none_of _ _ v).1 (eqb-true _ _ e) l q
+acts_taken K i n (call.Put name offset len) v e l q = nothing refl refl refl refl refl refl
+acts_taken K i n (call.Add name offset) v e l q = nothing refl refl refl refl refl refl
+acts_taken K i n (call.Flush name) v e l q = acts_flush K i n name (none_of _ _ v).1 l q
+acts_taken K i n (call.Come part) v e l q = acts_come K i (free n) part q
 
 left_refused : (b : Bool) (why : Refusal) (after : List ℕ) → left_if b (Some why) after ≡ None
 left_refused true why after = refl
@@ -199,14 +199,14 @@ left_none q n why (call.Add name offset) = refl
 left_none q n why (call.Flush name) = refl
 left_none q n why (call.Come part) = refl
 
-acts_as : (K : Name → ℕ → Type 0) (i : ℕ) (d : Name → List ℕ) (n : Node) (c : Call) (o : Option Refusal) → verdict (free n) c ≡ o → is_call (free n) c o ≡ true → Local i d (free n)
+acts_as : (K : Name → ℕ → Type 0) (i : ℕ) (n : Node) (c : Call) (o : Option Refusal) → verdict (free n) c ≡ o → is_call (free n) c o ≡ true → Local i (free n)
     → (q : Name) → let out = call_or_refuse o c (free n) in Acts K q i None (left_in q (free n) o c) (free n) out.node out.posts
-acts_as K i d n c None v e l q = acts_taken K i d n c v e l q
-acts_as K i d n c (Some why) v e l q =
+acts_as K i n c None v e l q = acts_taken K i n c v e l q
+acts_as K i n c (Some why) v e l q =
     subst (λ x. let out = refuses_call why c (free n) in Acts K q i None x (free n) out.node out.posts) (sym (left_none q (free n) why c)) (acts_refused K i (free n) why c q)
 
-pub acts_call : (K : Name → ℕ → Type 0) (i : ℕ) (d : Name → List ℕ) (n : Node) (c : Call) → n.activity ≡ Free → is_call n c (verdict n c) ≡ true → Local i d n
+pub acts_call : (K : Name → ℕ → Type 0) (i : ℕ) (n : Node) (c : Call) → n.activity ≡ Free → is_call n c (verdict n c) ≡ true → Local i n
     → (q : Name) → let out = node_calls c n in Acts K q i None (left_in q n (verdict n c) c) n out.node out.posts
-acts_call K i d n c e =
-    subst (λ a. let m = record n { activity = a } in is_call m c (verdict m c) ≡ true → Local i d m → (q : Name) → let out = node_calls c m in Acts K q i None (left_in q m (verdict m c) c) m out.node out.posts) (sym e)
-    (λ w l q. acts_as K i d n c (verdict (free n) c) refl w l q)
+acts_call K i n c e =
+    subst (λ a. let m = record n { activity = a } in is_call m c (verdict m c) ≡ true → Local i m → (q : Name) → let out = node_calls c m in Acts K q i None (left_in q m (verdict m c) c) m out.node out.posts) (sym e)
+    (λ w l q. acts_as K i n c (verdict (free n) c) refl w l q)

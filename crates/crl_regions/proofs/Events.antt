@@ -45,28 +45,28 @@ use Rattle.crl_regions.proofs.Whole.{Whole, local, passes}
 use Rattle.crl_regions.proofs.Steps.{StepFits, whole_stepped}
 
 -- what is known of all nodes after an event, and what the event was of a region that was there
-pub record GoneOn (w v : World) (us : List Under) (later : ℕ → Name → List ℕ) (arrays left : Name → List ℕ) : Type 0 where
+pub record GoneOn (w v : World) (us : List Under) (arrays left : Name → List ℕ) : Type 0 where
   pub under : List Under
   pub lost : List Piece
-  pub whole : Whole v later left under lost
+  pub whole : Whole v left under lost
   pub ran : (q : Name) (h : Home) → table_of q w ≡ Some h → (k : Home) × (table_of q v ≡ Some k) × Run q.home (sight q h w.nodes (messages_of us) (arrays q)) (sight q k v.nodes (messages_of under) (left q))
 
-of_outcome : (w : World) (drafts later : ℕ → Name → List ℕ) (arrays : Name → List ℕ) (i : ℕ) (e : Event) (inbox : List Piece) (parcels : PartsGathered) (us left : List Under) (lost : List Piece) (o : Outcome) (came : Name → Option Flying) (written : Name → Option (List ℕ))
-    → Whole w drafts arrays us lost → StepFits w later i e inbox parcels us left lost o came written → GoneOn w (steps_node i e o w).world us later arrays (λ q. bytes_after (written q) (arrays q))
-of_outcome w drafts later arrays i e inbox parcels us left lost o came written k x =
-    let both = whole_stepped w drafts later arrays i e inbox parcels us left lost o came written k x in
+of_outcome : (w : World) (arrays : Name → List ℕ) (i : ℕ) (e : Event) (inbox : List Piece) (parcels : PartsGathered) (us left : List Under) (lost : List Piece) (o : Outcome) (came : Name → Option Flying) (written : Name → Option (List ℕ))
+    → Whole w arrays us lost → StepFits w i e inbox parcels us left lost o came written → GoneOn w (steps_node i e o w).world us arrays (λ q. bytes_after (written q) (arrays q))
+of_outcome w arrays i e inbox parcels us left lost o came written k x =
+    let both = whole_stepped w arrays i e inbox parcels us left lost o came written k x in
     record { under = left ++ map posted o.posts; lost = lost; whole = both.0; ran = λ q h there. let l = both.1 q h there in (l.home, l.there, l.run) }
 
-pub nothing_on : (w : World) (drafts : ℕ → Name → List ℕ) (arrays : Name → List ℕ) (us : List Under) (lost : List Piece) → Whole w drafts arrays us lost → GoneOn w w us drafts arrays arrays
-nothing_on w drafts arrays us lost k = record { under = us; lost = lost; whole = k; ran = λ q h there. (h, there, done) }
+pub nothing_on : (w : World) (arrays : Name → List ℕ) (us : List Under) (lost : List Piece) → Whole w arrays us lost → GoneOn w w us arrays arrays
+nothing_on w arrays us lost k = record { under = us; lost = lost; whole = k; ran = λ q h there. (h, there, done) }
 
 pub is_freed : (a : Activity) → is_free a ≡ true → a ≡ Free
 is_freed Free e = refl
 is_freed (Waiting awaited) e = cc
 is_freed (Ready answer) e = cc
 
-own_nothing : (i : ℕ) (d : Name → List ℕ) (n : Node) → Fits i n d → OwnNothing n
-own_nothing i d n f name mine = let own = subst (λ b. OwnFits b (seen n d name)) mine (f.each name).own in own.nothing
+own_nothing : (i : ℕ) (n : Node) → Fits i n → OwnNothing n
+own_nothing i n f name mine = let own = subst (λ b. OwnFits b (seen n name)) mine (f.each name).own in own.nothing
 
 -- the boxes where no message is taken out
 stays_flying : (w : World) (i : ℕ) (us : List Under) (lost : List Piece) → IsFlight us (pieces_in_boxes w ++ lost) (λ j. (w.nodes j).parcels) → IsFlight us (boxes_from 0 w.count (at_node w.nodes i (w.nodes i)) ++ lost) (λ j. (at_node w.nodes i (w.nodes i) j).parcels)
@@ -75,14 +75,14 @@ stays_flying w i us lost f =
     (λ j key. of_node w.nodes i (w.nodes i) (λ l (n : Node). n.parcels key ≡ (w.nodes l).parcels key) refl (λ l other. refl) j)
     (subst (λ b. IsFlight us (b ++ lost) (λ j. (w.nodes j).parcels)) (flight_same w.count w.nodes (at_node w.nodes i (w.nodes i)) (λ l few. sym (of_node w.nodes i (w.nodes i) (λ j n. boxes n ≡ boxes (w.nodes j)) refl (λ j other. refl) l))) f)
 
-pub call_on : (w : World) (drafts later : ℕ → Name → List ℕ) (arrays : Name → List ℕ) (us : List Under) (lost : List Piece) (i : ℕ) (e : Event) (c : Call) → i < w.count → (w.nodes i).activity ≡ Free → is_call (w.nodes i) c (verdict (w.nodes i) c) ≡ true → Whole w drafts arrays us lost
-    → ((j : ℕ) → Fits j ((steps_node i e (node_calls c (w.nodes i)) w).world.nodes j) (later j)) → GoneOn w (steps_node i e (node_calls c (w.nodes i)) w).world us later arrays (λ q. array_after q (event.Call i c) w (arrays q))
-call_on w drafts later arrays us lost i e c few idle may k fits =
-    of_outcome w drafts later arrays i e (w.nodes i).inbox (w.nodes i).parcels us us lost (node_calls c (w.nodes i)) (λ q. None) (λ q. left_by q (event.Call i c) w) k (record {
+pub call_on : (w : World) (arrays : Name → List ℕ) (us : List Under) (lost : List Piece) (i : ℕ) (e : Event) (c : Call) → i < w.count → (w.nodes i).activity ≡ Free → is_call (w.nodes i) c (verdict (w.nodes i) c) ≡ true → Whole w arrays us lost
+    → ((j : ℕ) → Fits j ((steps_node i e (node_calls c (w.nodes i)) w).world.nodes j)) → GoneOn w (steps_node i e (node_calls c (w.nodes i)) w).world us arrays (λ q. array_after q (event.Call i c) w (arrays q))
+call_on w arrays us lost i e c few idle may k fits =
+    of_outcome w arrays i e (w.nodes i).inbox (w.nodes i).parcels us us lost (node_calls c (w.nodes i)) (λ q. None) (λ q. left_by q (event.Call i c) w) k (record {
       few = few;
       fits = fits;
-      acts = λ q. acts_call _ i (drafts i) (w.nodes i) c idle may (local w drafts arrays us lost i k) q;
-      keeps = keeps_call (w.nodes i) c (own_nothing i (drafts i) (w.nodes i) (k.fits i));
+      acts = λ q. acts_call _ i (w.nodes i) c idle may (local w arrays us lost i k) q;
+      keeps = keeps_call (w.nodes i) c (own_nothing i (w.nodes i) (k.fits i));
       rest = k.inbox i;
       left_fair = k.fair;
       flies = stays_flying w i us lost k.flies;
@@ -96,11 +96,11 @@ acts_collected K i n Free q = nothing refl refl refl refl refl refl
 acts_collected K i n (Waiting awaited) q = nothing refl refl refl refl refl refl
 acts_collected K i n (Ready answer) q = nothing refl refl refl refl refl refl
 
-pub collect_on : (w : World) (drafts later : ℕ → Name → List ℕ) (arrays : Name → List ℕ) (us : List Under) (lost : List Piece) (i : ℕ) (e : Event) → i < w.count → Whole w drafts arrays us lost
-    → ((j : ℕ) → Fits j ((steps_node i e (collects (w.nodes i).activity (w.nodes i)) w).world.nodes j) (later j))
-    → GoneOn w (steps_node i e (collects (w.nodes i).activity (w.nodes i)) w).world us later arrays arrays
-collect_on w drafts later arrays us lost i e few k fits =
-    of_outcome w drafts later arrays i e (w.nodes i).inbox (w.nodes i).parcels us us lost (collects (w.nodes i).activity (w.nodes i)) (λ q. None) (λ q. None) k (record {
+pub collect_on : (w : World) (arrays : Name → List ℕ) (us : List Under) (lost : List Piece) (i : ℕ) (e : Event) → i < w.count → Whole w arrays us lost
+    → ((j : ℕ) → Fits j ((steps_node i e (collects (w.nodes i).activity (w.nodes i)) w).world.nodes j))
+    → GoneOn w (steps_node i e (collects (w.nodes i).activity (w.nodes i)) w).world us arrays arrays
+collect_on w arrays us lost i e few k fits =
+    of_outcome w arrays i e (w.nodes i).inbox (w.nodes i).parcels us us lost (collects (w.nodes i).activity (w.nodes i)) (λ q. None) (λ q. None) k (record {
       few = few;
       fits = fits;
       acts = λ q. acts_collected _ i (w.nodes i) (w.nodes i).activity q;
@@ -189,17 +189,17 @@ tells_of w from to (kind.Come round part) f = tt
 tells_of w from to (kind.Result round fold) f = tt
 
 -- A message that is under way is handled at its addressee, whose gathering and inbox are these now.
-message_on : (w : World) (drafts later : ℕ → Name → List ℕ) (arrays : Name → List ℕ) (us left : List Under) (lost : List Piece) (i : ℕ) (e : Event) (m : Message) (inbox : List Piece) (parcels : PartsGathered) → i < w.count → Whole w drafts arrays us lost
+message_on : (w : World) (arrays : Name → List ℕ) (us left : List Under) (lost : List Piece) (i : ℕ) (e : Event) (m : Message) (inbox : List Piece) (parcels : PartsGathered) → i < w.count → Whole w arrays us lost
     → m.addressee ≡ i → AllByRecursion (λ (p : Piece). p.message.addressee ≡ i) inbox → AllByRecursion (fitting.ComesIn (w.nodes i).me) inbox → Took m (messages_of us) (messages_of left)
     → let n = record (w.nodes i) { inbox = inbox; parcels = parcels } in IsFlight left (boxes_from 0 w.count (at_node w.nodes i n) ++ lost) (λ j. (at_node w.nodes i n j).parcels)
     → let o = node_handles m.sender m.kind n in
-    ((j : ℕ) → Fits j ((steps_node i e o w).world.nodes j) (later j)) → GoneOn w (steps_node i e o w).world us later arrays arrays
-message_on w drafts later arrays us left lost i e m inbox parcels few k to rest fitted took flies fits =
-    of_outcome w drafts later arrays i e inbox parcels us left lost (node_handles m.sender m.kind n) (λ q. flying q m) (λ q. None) k (record {
+    ((j : ℕ) → Fits j ((steps_node i e o w).world.nodes j)) → GoneOn w (steps_node i e o w).world us arrays arrays
+message_on w arrays us left lost i e m inbox parcels few k to rest fitted took flies fits =
+    of_outcome w arrays i e inbox parcels us left lost (node_handles m.sender m.kind n) (λ q. flying q m) (λ q. None) k (record {
       few = few;
       fits = fits;
       acts = λ q. subst (λ a. Acts (Known w) q i (flying q (record { sender = m.sender; addressee = a; kind = m.kind })) None n (node_handles m.sender m.kind n).node (node_handles m.sender m.kind n).posts) (sym to)
-          (acts_message (Known w) i (drafts i) m.sender m.kind n (goes_of w.count tables m.sender i m.kind fair_i) (passes w drafts arrays us lost i m inbox parcels _ k to parts.0 took)
+          (acts_message (Known w) i m.sender m.kind n (goes_of w.count tables m.sender i m.kind fair_i) (passes w arrays us lost i m inbox parcels _ k to parts.0 took)
           (tells_of w m.sender i m.kind fair_i) local_n q);
       keeps = keeps_message n m.sender m.kind (k.fits i).fresh;
       rest = rest;
@@ -226,8 +226,8 @@ message_on w drafts later arrays us left lost i e m inbox parcels few k to rest 
     comes_of q None x = subst (λ c. Comes c (find_all (flying q) (messages_of us)) (find_all (flying q) (messages_of left))) (sym x) (sym (took_none (flying q) took x))
     comes_of q (Some f) x = subst (λ c. Comes c (find_all (flying q) (messages_of us)) (find_all (flying q) (messages_of left))) (sym x) (took_some (flying q) took f x)
 
-    local_n : Local i (drafts i) n
-    local_n = let l = local w drafts arrays us lost i k in record {
+    local_n : Local i n
+    local_n = let l = local w arrays us lost i k in record {
       fits = record { me = l.fits.me; each = l.fits.each; cache = l.fits.cache; fresh = l.fits.fresh; inbox = fitted; outbox = l.fits.outbox };
       agrees = l.agrees;
       counts = l.counts;
@@ -239,12 +239,12 @@ acts_kept : (K : Name → ℕ → Type 0) (i : ℕ) (n : Node) (g : PartsGathere
 acts_kept K i n g q = nothing refl refl refl refl refl refl
 
 -- A piece is gathered, and nothing else happens.
-gathered_on : (w : World) (drafts later : ℕ → Name → List ℕ) (arrays : Name → List ℕ) (us left : List Under) (lost : List Piece) (i : ℕ) (e : Event) (inbox : List Piece) (parcels : PartsGathered) → i < w.count → Whole w drafts arrays us lost
+gathered_on : (w : World) (arrays : Name → List ℕ) (us left : List Under) (lost : List Piece) (i : ℕ) (e : Event) (inbox : List Piece) (parcels : PartsGathered) → i < w.count → Whole w arrays us lost
     → AllByRecursion (λ (p : Piece). p.message.addressee ≡ i) inbox → messages_of left ≡ messages_of us
     → let n = record (w.nodes i) { inbox = inbox; parcels = parcels } in IsFlight left (boxes_from 0 w.count (at_node w.nodes i n) ++ lost) (λ j. (at_node w.nodes i n j).parcels)
-    → ((j : ℕ) → Fits j ((steps_node i e (only n Done) w).world.nodes j) (later j)) → GoneOn w (steps_node i e (only n Done) w).world us later arrays arrays
-gathered_on w drafts later arrays us left lost i e inbox parcels few k rest same flies fits =
-    of_outcome w drafts later arrays i e inbox parcels us left lost (only (record (w.nodes i) { inbox = inbox; parcels = parcels }) Done) (λ q. None) (λ q. None) k (record {
+    → ((j : ℕ) → Fits j ((steps_node i e (only n Done) w).world.nodes j)) → GoneOn w (steps_node i e (only n Done) w).world us arrays arrays
+gathered_on w arrays us left lost i e inbox parcels few k rest same flies fits =
+    of_outcome w arrays i e inbox parcels us left lost (only (record (w.nodes i) { inbox = inbox; parcels = parcels }) Done) (λ q. None) (λ q. None) k (record {
       few = few;
       fits = fits;
       acts = λ q. nothing refl refl refl refl refl refl;
@@ -273,10 +273,10 @@ received_key : (p : Piece) (n : Node) (key : Key) (size : ℕ) → key_of p.mess
     → receives p n ≡ gathers_piece key p (slots_with p (n.parcels key)) n
 received_key p n key size e s f m = ap (λ o. receives_as o p n) e ∙ ap (λ o. receives_part key p o n) s ∙ cond-true (fits_size size p && is_missing p.index (slots_or p.pieces (n.parcels key))) _ _ (and_from _ _ f m)
 
-pub handle_on : (w : World) (drafts later : ℕ → Name → List ℕ) (arrays : Name → List ℕ) (us : List Under) (lost : List Piece) (i place : ℕ) (e : Event) (t : Taken Piece) → i < w.count → take_out place (w.nodes i).inbox ≡ Some t → Whole w drafts arrays us lost
+pub handle_on : (w : World) (arrays : Name → List ℕ) (us : List Under) (lost : List Piece) (i place : ℕ) (e : Event) (t : Taken Piece) → i < w.count → take_out place (w.nodes i).inbox ≡ Some t → Whole w arrays us lost
     → let o = receives t.taken (record (w.nodes i) { inbox = t.rest }) in
-    ((j : ℕ) → Fits j ((steps_node i e o w).world.nodes j) (later j)) → GoneOn w (steps_node i e o w).world us later arrays arrays
-handle_on w drafts later arrays us lost i place e t few out k fits = go (comes us (pieces_in_boxes w ++ lost) (after ++ lost) (λ j. (w.nodes j).parcels) t.taken k.flies (alone_in w.count w.nodes tables arrays us k.fair k.coherent) (took_left lost under_way)) fits
+    ((j : ℕ) → Fits j ((steps_node i e o w).world.nodes j)) → GoneOn w (steps_node i e o w).world us arrays arrays
+handle_on w arrays us lost i place e t few out k fits = go (comes us (pieces_in_boxes w ++ lost) (after ++ lost) (λ j. (w.nodes j).parcels) t.taken k.flies (alone_in w.count w.nodes tables arrays us k.fair k.coherent) (took_left lost under_way)) fits
   where
     n : Node
     n = record (w.nodes i) { inbox = t.rest }
@@ -316,7 +316,7 @@ handle_on w drafts later arrays us lost i place e t few out k fits = go (comes u
         (subst (λ b. IsFlight left (b ++ lost) (put_at (λ j. (w.nodes j).parcels) t.taken.message.addressee key v)) (boxes_with (at_key n.parcels key v)) f)
 
     Ends : Outcome → Type 0
-    Ends o = ((j : ℕ) → Fits j ((steps_node i e o w).world.nodes j) (later j)) → GoneOn w (steps_node i e o w).world us later arrays arrays
+    Ends o = ((j : ℕ) → Fits j ((steps_node i e o w).world.nodes j)) → GoneOn w (steps_node i e o w).world us arrays arrays
 
     -- the piece is taken in
     taken_in : (key : Key) (u : Under) (others : List Under) → IsNext us (λ j. (w.nodes j).parcels) t.taken key u others → receives t.taken n ≡ gathers_piece key t.taken (slots_with t.taken (n.parcels key)) n
@@ -325,13 +325,13 @@ handle_on w drafts later arrays us lost i place e t few out k fits = go (comes u
         let fair = (all_took (Fair w.count tables) (took_message x.took) k.fair).0 in
         let of_u : key_in u.message.sender u.message.kind ≡ Some key = x.of_message in
         let known = size_known w.count i tables n u.message.sender key u.message.kind of_u (subst (λ a. FairKind w.count tables u.message.sender a u.message.kind) to fair)
-        (passes w drafts arrays us lost i u.message t.rest (w.nodes i).parcels _ k to fair (took_message x.took)) (λ name h there at_i. subst (λ j. home_of (w.nodes j) name ≡ Some h) at_i there) in
+        (passes w arrays us lost i u.message t.rest (w.nodes i).parcels _ k to fair (took_message x.took)) (λ name h there at_i. subst (λ j. home_of (w.nodes j) name ≡ Some h) at_i there) in
         received_key t.taken n key (length (load_of u.message.kind)) x.of_key known x.fits (subst (λ a. is_missing t.taken.index (slots_or t.taken.pieces ((w.nodes a).parcels key)) ≡ true) parts.0 x.missing)
 
     go : PieceComes us (after ++ lost) (λ j. (w.nodes j).parcels) t.taken → Ends (receives t.taken n)
     go (plain u others x none same f) =
         subst Ends (sym (received_plain t.taken n none))
-        (message_on w drafts later arrays us others lost i e t.taken.message t.rest (w.nodes i).parcels few k parts.0 parts.1 fitted
+        (message_on w arrays us others lost i e t.taken.message t.rest (w.nodes i).parcels few k parts.0 parts.1 fitted
         (subst (λ m. Took m (messages_of us) (messages_of others)) (sym same) (took_message x)) (flight_as others _ _ _ same_parcels f))
     go (last key u others x full whole f) =
         let at_i : is_complete (slots_with t.taken (n.parcels key)) ≡ true = subst (λ a. is_complete (slots_with t.taken ((w.nodes a).parcels key)) ≡ true) parts.0 full in
@@ -339,11 +339,11 @@ handle_on w drafts later arrays us lost i place e t few out k fits = go (comes u
         let m : Node = record n { parcels = at_key n.parcels key None } in
         let same : node_handles u.message.sender u.message.kind m ≡ receives t.taken n =
         sym (taken_in key u others x ∙ cond-true (is_complete (slots_with t.taken (n.parcels key))) _ _ at_i ∙ ap (λ s. node_handles s (with_load (joined (slots_with t.taken (n.parcels key))) t.taken.message.kind) m) x.sender ∙ ap (λ y. node_handles u.message.sender y m) kind_i) in
-        subst Ends same (message_on w drafts later arrays us others lost i e u.message t.rest (at_key (w.nodes i).parcels key None) few k (sym x.addressee ∙ parts.0) parts.1 fitted (took_message x.took) (with_key key None others f))
+        subst Ends same (message_on w arrays us others lost i e u.message t.rest (at_key (w.nodes i).parcels key None) few k (sym x.addressee ∙ parts.0) parts.1 fitted (took_message x.took) (with_key key None others f))
     go (gathers key u others left x less same f) =
         let slots = slots_with t.taken (n.parcels key) in
         let at_i : is_complete slots ≡ false = subst (λ a. is_complete (slots_with t.taken ((w.nodes a).parcels key)) ≡ false) parts.0 less in
         let f_i = subst (λ a. IsFlight left (after ++ lost) (put_at (λ j. (w.nodes j).parcels) t.taken.message.addressee key (Some (slots_with t.taken ((w.nodes a).parcels key))))) parts.0 f in
         let m : Node = record n { parcels = at_key n.parcels key (Some slots) } in
         let eq : only m Done ≡ receives t.taken n = sym (taken_in key u others x ∙ cond-false (is_complete slots) _ _ at_i) in
-        subst Ends eq (gathered_on w drafts later arrays us left lost i e t.rest (at_key (w.nodes i).parcels key (Some slots)) few k parts.1 same (with_key key (Some slots) left f_i))
+        subst Ends eq (gathered_on w arrays us left lost i e t.rest (at_key (w.nodes i).parcels key (Some slots)) few k parts.1 same (with_key key (Some slots) left f_i))

@@ -92,12 +92,12 @@ opened_count : (mine : Section) → (mine ≡ section.Writing) ⊎ (mine ≡ sec
 opened_count mine (inl w) = subst (λ x. CountFits x) (sym w) tt
 opened_count mine (inr w) = let few : 1 < 2 ^ 32 = omega arith in subst (λ x. CountFits x) (sym w) few
 
-acts_served : (K : Name → ℕ → Type 0) (i : ℕ) (d : Name → List ℕ) (from : ℕ) (n : Node) (name : Name) (h : Home) (s : HomeStep) (mail : Mail) → home_of n name ≡ Some h → s.home.size ≡ h.size → (from == name.home) ≡ false
-    → Local i d n → Serves h.mine s → OpensClosed h s → ((count : ℕ) → from < count → Near n.me count h → NearServed n.me count s)
+acts_served : (K : Name → ℕ → Type 0) (i : ℕ) (from : ℕ) (n : Node) (name : Name) (h : Home) (s : HomeStep) (mail : Mail) → home_of n name ≡ Some h → s.home.size ≡ h.size → (from == name.home) ≡ false
+    → Local i n → Serves h.mine s → OpensClosed h s → ((count : ℕ) → from < count → Near n.me count h → NearServed n.me count s)
     → ((g : Region) (rest : List Flying) → g.home ≡ h → Took (region.flies from mail) g.flight rest → Happens name.home g (at_home s rest g))
     → (q : Name) → let o = after_serve name s n in Acts K q i (coming q from i (name_eq name q) mail) None n o.node o.posts
 unfolding after_serve section_opens
-acts_served K i d from n name h s mail e size other l serves closed near happens =
+acts_served K i from n name h s mail e size other l serves closed near happens =
     by_name name (λ b q. let o = after_serve name s n in Acts K q i (coming q from i b mail) None n o.node o.posts)
     (acts_if K name i (coming name from i true mail) None n s.opened _ _
     (λ w. home_here K name i _ None n _ h s e refl refl size (sym (after w)) (subst (λ x. CountFits x) (sym (after w)) (opened_count s.home.mine (serves.0 w))) nears it)
@@ -117,7 +117,7 @@ acts_served K i d from n name h s mail e size other l serves closed near happens
         subst (λ x. Near x count s.home) me (near count (subst (λ x. x < count) (cond-false (from == name.home) i from other) f) (subst (λ x. Near x count h) (sym me) k)).near
 
     mine : h.mine ≡ section_at name n.sections
-    mine = mine_is i d n name h e l
+    mine = mine_is i n name h e l
 
     after : s.opened ≡ true → section_at name (section_begins (is_writing s.home.mine) name s.home.bytes n.sections).sections ≡ s.home.mine
     after w = noted_begun (is_writing s.home.mine) name s.home.bytes n.sections ∙ ap (λ x. begun (is_writing s.home.mine) x) (sym mine ∙ closed w) ∙ opened_is s.home.mine (serves.0 w)
@@ -127,40 +127,40 @@ acts_absent : (K : Name → ℕ → Type 0) (i from : ℕ) (n : Node) (name : Na
 acts_absent K i from n name mail e here =
     by_name name (λ b q. Acts K q i (coming q from i b mail) None n n []) (absent refl here e e refl refl refl) (λ q other. nothing refl refl refl refl refl refl)
 
-acts_asked : (K : Name → ℕ → Type 0) (i : ℕ) (d : Name → List ℕ) (from : ℕ) (n : Node) (name : Name) (write : Bool) (have : ℕ) → ToHome name from i → Passes from (kind.Ask name write have) n → Local i d n → (o : Option Home) → home_of n name ≡ o
+acts_asked : (K : Name → ℕ → Type 0) (i : ℕ) (from : ℕ) (n : Node) (name : Name) (write : Bool) (have : ℕ) → ToHome name from i → Passes from (kind.Ask name write have) n → Local i n → (o : Option Home) → home_of n name ≡ o
     → (q : Name) → let out = takes_ask from name write have o n in Acts K q i (coming q from i (name_eq name q) (Ask write have)) None n out.node out.posts
-acts_asked K i d from n name write have goes passes l None e q = acts_absent K i from n name (Ask write have) e (eq-eqb name.home i goes.0) q
-acts_asked K i d from n name write have goes passes l (Some h) e q =
+acts_asked K i from n name write have goes passes l None e q = acts_absent K i from n name (Ask write have) e (eq-eqb name.home i goes.0) q
+acts_asked K i from n name write have goes passes l (Some h) e q =
     let me : n.me ≡ name.home = eqb-true n.me name.home (home_is n name h e) in
     let ask : Asked = record { node = from; write = write; have = have } in
     acts_if K q i _ None n (is_queued_in from n.homes) _ _ (λ w. absurd (let free = passes.0 in cc))
-    (λ w. acts_served K i d from n name h (home_takes_ask n.me ask h) (Ask write have) e
-    (asked_goes n.me ask h (ap (λ k. from == k) me ∙ goes.1) (home_bytes i d n name h e l.fits)).size goes.1 l (asked_serves n.me ask h) (passes.1 h e) (λ count few k. near_asked n.me count ask h few k)
+    (λ w. acts_served K i from n name h (home_takes_ask n.me ask h) (Ask write have) e
+    (asked_goes n.me ask h (ap (λ k. from == k) me ∙ goes.1) (home_bytes i n name h e l.fits)).size goes.1 l (asked_serves n.me ask h) (passes.1 h e) (λ count few k. near_asked n.me count ask h few k)
     (λ g rest at_g took. home_event n.me name.home h (λ k x. home_takes_ask k ask x) g rest g.array me at_g (region.ask_comes from write have rest (eqb-false from name.home goes.1) took)) q)
 
-acts_returned : (K : Name → ℕ → Type 0) (i : ℕ) (d : Name → List ℕ) (from : ℕ) (n : Node) (name : Name) (version : ℕ) (bytes : Option (List ℕ)) → ToHome name from i
-    → Passes from (kind.Return name version bytes) n → Local i d n → (o : Option Home) → home_of n name ≡ o
+acts_returned : (K : Name → ℕ → Type 0) (i : ℕ) (from : ℕ) (n : Node) (name : Name) (version : ℕ) (bytes : Option (List ℕ)) → ToHome name from i
+    → Passes from (kind.Return name version bytes) n → Local i n → (o : Option Home) → home_of n name ≡ o
     → (q : Name) → let out = takes_return from name version bytes o n in Acts K q i (coming q from i (name_eq name q) (Return version bytes)) None n out.node out.posts
-acts_returned K i d from n name version bytes goes takes l None e q = acts_absent K i from n name (Return version bytes) e (eq-eqb name.home i goes.0) q
-acts_returned K i d from n name version bytes goes takes l (Some h) e q =
+acts_returned K i from n name version bytes goes takes l None e q = acts_absent K i from n name (Return version bytes) e (eq-eqb name.home i goes.0) q
+acts_returned K i from n name version bytes goes takes l (Some h) e q =
     let me : n.me ≡ name.home = eqb-true n.me name.home (home_is n name h e) in
     let fits = (takes h e).0 in
     acts_if K q i _ None n (return_fits from version bytes h) _ _
-    (λ w. acts_served K i d from n name h (home_takes_return n.me from bytes h) (Return version bytes) e
-    (returned_goes n.me from version bytes h (home_bytes i d n name h e l.fits) fits).size goes.1 l (returned_serves n.me from bytes h) (takes h e).1 (λ count few k. near_returned n.me count from bytes h k)
+    (λ w. acts_served K i from n name h (home_takes_return n.me from bytes h) (Return version bytes) e
+    (returned_goes n.me from version bytes h (home_bytes i n name h e l.fits) fits).size goes.1 l (returned_serves n.me from bytes h) (takes h e).1 (λ count few k. near_returned n.me count from bytes h k)
     (λ g rest at_g took. home_event n.me name.home h (λ k x. home_takes_return k from bytes x) g rest g.array me at_g (region.return_comes from version bytes rest (eqb-false from name.home goes.1) took)) q)
     (λ w. absurd (cc))
 
-acts_released : (K : Name → ℕ → Type 0) (i : ℕ) (d : Name → List ℕ) (from : ℕ) (n : Node) (name : Name) (version : ℕ) (bytes : List ℕ) → ToHome name from i
-    → Passes from (kind.Release name version bytes) n → Local i d n → (o : Option Home) → home_of n name ≡ o
+acts_released : (K : Name → ℕ → Type 0) (i : ℕ) (from : ℕ) (n : Node) (name : Name) (version : ℕ) (bytes : List ℕ) → ToHome name from i
+    → Passes from (kind.Release name version bytes) n → Local i n → (o : Option Home) → home_of n name ≡ o
     → (q : Name) → let out = takes_release from name version bytes o n in Acts K q i (coming q from i (name_eq name q) (Release version bytes)) None n out.node out.posts
-acts_released K i d from n name version bytes goes takes l None e q = acts_absent K i from n name (Release version bytes) e (eq-eqb name.home i goes.0) q
-acts_released K i d from n name version bytes goes takes l (Some h) e q =
+acts_released K i from n name version bytes goes takes l None e q = acts_absent K i from n name (Release version bytes) e (eq-eqb name.home i goes.0) q
+acts_released K i from n name version bytes goes takes l (Some h) e q =
     let me : n.me ≡ name.home = eqb-true n.me name.home (home_is n name h e) in
     let fits = (takes h e).0 in
     acts_if K q i _ None n (release_fits bytes h) _ _
-    (λ w. acts_served K i d from n name h (home_takes_release n.me from version bytes h) (Release version bytes) e
-    (released_goes n.me from version bytes h (home_bytes i d n name h e l.fits) fits).size goes.1 l (released_serves n.me from version bytes h) (takes h e).1 (λ count few k. near_released n.me count from version bytes h k)
+    (λ w. acts_served K i from n name h (home_takes_release n.me from version bytes h) (Release version bytes) e
+    (released_goes n.me from version bytes h (home_bytes i n name h e l.fits) fits).size goes.1 l (released_serves n.me from version bytes h) (takes h e).1 (λ count few k. near_released n.me count from version bytes h k)
     (λ g rest at_g took. home_event n.me name.home h (λ k x. home_takes_release k from version bytes x) g rest g.array me at_g (region.release_comes from version bytes rest (eqb-false from name.home goes.1) took)) q)
     (λ w. absurd (cc))
 
@@ -169,32 +169,32 @@ from_home : (name : Name) (i from : ℕ) (mail : Mail) (before rest : List Flyin
 from_home name i from mail before rest goes took = subst (λ k. Took (region.flies k mail) before rest) (cond-true (from == name.home) i from (eq-eqb from name.home goes.0)) took
 
 -- where the node has no record of the region, the message changes nothing
-nowhere_closed : (i : ℕ) (d : Name → List ℕ) (n : Node) (name : Name) → (i == name.home) ≡ false → n.remotes name ≡ None → Local i d n → expected None (n.remotes name) ≡ section_at name n.sections
-nowhere_closed i d n name other e l =
+nowhere_closed : (i : ℕ) (n : Node) (name : Name) → (i == name.home) ≡ false → n.remotes name ≡ None → Local i n → expected None (n.remotes name) ≡ section_at name n.sections
+nowhere_closed i n name other e l =
     let away_from : is_mine n name ≡ false = ne_eqb name.home n.me (λ w. eqb-false i name.home other (sym l.fits.me ∙ sym w)) in
     ap (λ o. expected None o) e ∙ sym (ap (λ o. expected o (n.remotes name)) (cond-false (is_mine n name) _ _ away_from) ∙ ap (λ o. expected None o) e) ∙ l.agrees name
 
-acts_nowhere : (K : Name → ℕ → Type 0) (i : ℕ) (d : Name → List ℕ) (from : ℕ) (n : Node) (name : Name) (mail : Mail) (step : Remote → RemoteStep) → FromHome name from i → Local i d n → n.remotes name ≡ None
+acts_nowhere : (K : Name → ℕ → Type 0) (i : ℕ) (from : ℕ) (n : Node) (name : Name) (mail : Mail) (step : Remote → RemoteStep) → FromHome name from i → Local i n → n.remotes name ≡ None
     → ((size : ℕ) → step (new_remote size) ≡ record { remote = new_remote size; posts = []; opened = false })
     → ((g : Region) (rest : List Flying) → Took (region.flies i mail) g.flight rest → Happens name.home g (at_remote i (step (g.remotes i)) rest g))
     → (q : Name) → Acts K q i (coming q from i (name_eq name q) mail) None n n []
-acts_nowhere K i d from n name mail step goes l e blank happens =
+acts_nowhere K i from n name mail step goes l e blank happens =
     by_name name (λ b q. Acts K q i (coming q from i b mail) None n n [])
-    (side_acts (λ size. new_remote size) [] (away_none n name i l.fits.me goes.1) refl (λ size. ap (λ o. side size o) e) refl (nowhere_closed i d n name goes.1 e l) (l.counts name) (λ known r w. known r w)
+    (side_acts (λ size. new_remote size) [] (away_none n name i l.fits.me goes.1) refl (λ size. ap (λ o. side size o) e) refl (nowhere_closed i n name goes.1 e l) (l.counts name) (λ known r w. known r w)
     (λ g rest at_g sized took. subst (λ (s : RemoteStep). Happens name.home g (at_remote i s rest g)) (ap step (at_g ∙ ap (λ o. side g.home.size o) e) ∙ blank g.home.size)
     (happens g rest (from_home name i from mail g.flight rest goes took))))
     (λ q other. nothing refl refl refl refl refl refl)
 
-acts_called : (K : Name → ℕ → Type 0) (i : ℕ) (d : Name → List ℕ) (from : ℕ) (n : Node) (name : Name) (mail : Mail) (step : Remote → RemoteStep) → FromHome name from i → Local i d n
+acts_called : (K : Name → ℕ → Type 0) (i : ℕ) (from : ℕ) (n : Node) (name : Name) (mail : Mail) (step : Remote → RemoteStep) → FromHome name from i → Local i n
     → ((size : ℕ) → step (new_remote size) ≡ record { remote = new_remote size; posts = []; opened = false }) → ((r : Remote) → (step r).remote.here ≡ r.here) → ((r : Remote) → CopyFits r.copy r.size → (step r).remote.size ≡ r.size)
     → ((g : Region) (rest : List Flying) → Took (region.flies i mail) g.flight rest → Happens name.home g (at_remote i (step (g.remotes i)) rest g))
     → (o : Option Remote) → n.remotes name ≡ o
     → (q : Name) → let out = takes_call_back name step o n in Acts K q i (coming q from i (name_eq name q) mail) None n out.node out.posts
 unfolding after_remote
-acts_called K i d from n name mail step goes l blank stays sizes happens None e = acts_nowhere K i d from n name mail step goes l e blank happens
-acts_called K i d from n name mail step goes l blank stays sizes happens (Some r) e =
+acts_called K i from n name mail step goes l blank stays sizes happens None e = acts_nowhere K i from n name mail step goes l e blank happens
+acts_called K i from n name mail step goes l blank stays sizes happens (Some r) e =
     by_name name (λ b q. let out = after_remote name (step r) n in Acts K q i (coming q from i b mail) None n out.node out.posts)
-    (moved_here K name i _ None n _ r (step r) e (cond-true (name_eq name name) _ _ (name_self name)) refl l.fits.me goes.1 (stays r ∙ here_is i d n name r e l) (l.counts name) (sizes r (remote_bytes i d n name r e l.fits))
+    (moved_here K name i _ None n _ r (step r) e (cond-true (name_eq name name) _ _ (name_self name)) refl l.fits.me goes.1 (stays r ∙ here_is i n name r e l) (l.counts name) (sizes r (remote_bytes i n name r e l.fits))
     (λ g rest at_g sized took. side_event name.home i r step g rest g.array at_g (happens g rest (from_home name i from mail g.flight rest goes took))))
     (λ q other. moved_there K name q i n _ (step r).posts (cond-false (name_eq name q) _ _ other) refl refl other)
 
@@ -219,16 +219,16 @@ granted_count None = tt
 granted_count (Some true) = tt
 granted_count (Some false) = let few : 1 < 2 ^ 32 = omega arith in few
 
-acts_granted : (K : Name → ℕ → Type 0) (i : ℕ) (d : Name → List ℕ) (from : ℕ) (n : Node) (name : Name) (version : ℕ) (what : Granted) → FromHome name from i → Local i d n
+acts_granted : (K : Name → ℕ → Type 0) (i : ℕ) (from : ℕ) (n : Node) (name : Name) (version : ℕ) (what : Granted) → FromHome name from i → Local i n
     → Passes from (kind.Grant name version what) n → (o : Option Remote) → n.remotes name ≡ o
     → (q : Name) → let out = takes_grant name version what o n in Acts K q i (coming q from i (name_eq name q) (Grant version what)) None n out.node out.posts
 unfolding section_opens remote_takes_grant
-acts_granted K i d from n name version what goes l takes None e q =
+acts_granted K i from n name version what goes l takes None e q =
     absurd (no_grant what takes.0 (subst (λ o. grant_fits what (side takes.0 o) ≡ true) e takes.1))
-acts_granted K i d from n name version what goes l takes (Some r) e q =
+acts_granted K i from n name version what goes l takes (Some r) e q =
     let fits : grant_fits what r ≡ true = subst (λ o. grant_fits what (side takes.0 o) ≡ true) e takes.1 in
     let s : RemoteStep = record { remote = remote_takes_grant version what r; posts = []; opened = true } in
-    let closed : section_at name n.sections ≡ section.Closed = sym (here_is i d n name r e l) ∙ subst (λ o. (side takes.0 o).here ≡ section.Closed) e takes.2 in
+    let closed : section_at name n.sections ≡ section.Closed = sym (here_is i n name r e l) ∙ subst (λ o. (side takes.0 o).here ≡ section.Closed) e takes.2 in
     let after = noted_begun (asks_to_write r.asking) name (copy_bytes s.remote.copy) n.sections ∙ ap (λ x. begun (asks_to_write r.asking) x) closed in
     let here = granted_here what r fits ∙ sym after in
     acts_if K q i _ None n (grant_fits what r) _ _
@@ -240,12 +240,12 @@ acts_granted K i d from n name version what goes l takes (Some r) e q =
     (λ w. absurd (cc))
 
 -- a node learns the size of a region that it maps
-pub acts_info_told : (K : Name → ℕ → Type 0) (i : ℕ) (d : Name → List ℕ) (n : Node) (name : Name) (doomed : Bool) (t : Told) → (i == name.home) ≡ false → n.remotes name ≡ None → Local i d n → KnownTold K name t
+pub acts_info_told : (K : Name → ℕ → Type 0) (i : ℕ) (n : Node) (name : Name) (doomed : Bool) (t : Told) → (i == name.home) ≡ false → n.remotes name ≡ None → Local i n → KnownTold K name t
     → (q : Name) → Acts K q i None None n (after_info name doomed t n) []
-acts_info_told K i d n name doomed (told.Live size) other_home e l tells q =
+acts_info_told K i n name doomed (told.Live size) other_home e l tells q =
     by_name name (λ b q. Acts K q i None None n (after_info name doomed (told.Live size) n) [])
     (side_acts (λ z. new_remote size) [] (away_none n name i l.fits.me other_home) refl (λ z. ap (λ o. side z o) (cond-true (name_eq name name) _ _ (name_self name))) refl
-    (ap (λ o. expected None o) (cond-true (name_eq name name) (Some (new_remote size)) (n.remotes name) (name_self name)) ∙ sym (ap (λ o. expected None o) e) ∙ nowhere_closed i d n name other_home e l) (l.counts name)
+    (ap (λ o. expected None o) (cond-true (name_eq name name) (Some (new_remote size)) (n.remotes name) (name_self name)) ∙ sym (ap (λ o. expected None o) e) ∙ nowhere_closed i n name other_home e l) (l.counts name)
     (λ known x w. let same : new_remote size ≡ x = (let both : Some (new_remote size) ≡ Some x = sym (cond-true (name_eq name name) (Some (new_remote size)) (n.remotes name) (name_self name)) ∙ w in cc) in
     subst (λ z. K name z) (ap (λ (y : Remote). y.size) same) tells)
     (λ g rest at_g sized comes. appearing g rest (at_g ∙ ap (λ o. side g.home.size o) e) comes))
@@ -256,17 +256,17 @@ acts_info_told K i d n name doomed (told.Live size) other_home e l tells q =
     appearing g rest at_g same =
         subst (λ fs. Happens name.home g (record g { remotes = at_node g.remotes i (new_remote size); flight = fs })) (sym (append_nil rest ∙ same))
         (region.appears i size (eqb-false i name.home other_home) (subst (λ (x : Remote). x ≡ new_remote x.size) (sym at_g) refl))
-acts_info_told K i d n name doomed told.Unknown other_home e l tells q = nothing refl refl refl refl refl refl
-acts_info_told K i d n name doomed told.Deleted other_home e l tells q = nothing refl refl refl refl refl refl
+acts_info_told K i n name doomed told.Unknown other_home e l tells q = nothing refl refl refl refl refl refl
+acts_info_told K i n name doomed told.Deleted other_home e l tells q = nothing refl refl refl refl refl refl
 
-acts_info_is : (K : Name → ℕ → Type 0) (i : ℕ) (d : Name → List ℕ) (n : Node) (name : Name) (t : Told) (a : Activity) → n.activity ≡ a → Local i d n → KnownTold K name t
+acts_info_is : (K : Name → ℕ → Type 0) (i : ℕ) (n : Node) (name : Name) (t : Told) (a : Activity) → n.activity ≡ a → Local i n → KnownTold K name t
     → (q : Name) → let o = takes_info name t a n in Acts K q i None None n o.node o.posts
-acts_info_is K i d n name t Free e l tells q = nothing refl refl refl refl refl refl
-acts_info_is K i d n name t (Ready answer) e l tells q = nothing refl refl refl refl refl refl
-acts_info_is K i d n name t (Waiting (ForSection waited)) e l tells q = nothing refl refl refl refl refl refl
-acts_info_is K i d n name t (Waiting (ForDelete waited)) e l tells q = nothing refl refl refl refl refl refl
-acts_info_is K i d n name t (Waiting (ForRound round k)) e l tells q = nothing refl refl refl refl refl refl
-acts_info_is K i d n name t (Waiting (ForMap waited doomed)) e l tells q =
+acts_info_is K i n name t Free e l tells q = nothing refl refl refl refl refl refl
+acts_info_is K i n name t (Ready answer) e l tells q = nothing refl refl refl refl refl refl
+acts_info_is K i n name t (Waiting (ForSection waited)) e l tells q = nothing refl refl refl refl refl refl
+acts_info_is K i n name t (Waiting (ForDelete waited)) e l tells q = nothing refl refl refl refl refl refl
+acts_info_is K i n name t (Waiting (ForRound round k)) e l tells q = nothing refl refl refl refl refl refl
+acts_info_is K i n name t (Waiting (ForMap waited doomed)) e l tells q =
     acts_if K q i None None n (name_eq waited name) _ _ (λ w. mapping (same_name waited name w)) (λ w. nothing refl refl refl refl refl refl)
   where
     waits : WaitFits name (Waiting (ForMap waited doomed)) (is_mine n name) (n.maps name)
@@ -281,7 +281,7 @@ acts_info_is K i d n name t (Waiting (ForMap waited doomed)) e l tells q =
 
     mapping : waited ≡ name → Acts K q i None None n (after_info name doomed t n) []
     mapping same =
-        acts_info_told K i d n name doomed t (ne_eqb i name.home (λ w. eqb-false name.home n.me (waits same).1 (sym w ∙ sym l.fits.me))) (nowhere same (n.remotes name) refl) l tells q
+        acts_info_told K i n name doomed t (ne_eqb i name.home (λ w. eqb-false name.home n.me (waits same).1 (sym w ∙ sym l.fits.me))) (nowhere same (n.remotes name) refl) l tells q
 
 -- an ask for the size, a delete, and its answer
 acts_info_asked : (K : Name → ℕ → Type 0) (i from : ℕ) (n : Node) (name q : Name) → let o = takes_info_ask from name n in Acts K q i None None n o.node o.posts
@@ -308,9 +308,9 @@ acts_delete_is K i n name t (Waiting (ForDelete waited)) q = acts_if K q i None 
 acts_delete_is K i n name t (Waiting (ForRound round k)) q = nothing refl refl refl refl refl refl
 
 -- A purge. What isn't mapped has no section open, and nothing waits for one.
-pub left_unmapped : (i : ℕ) (d : Name → List ℕ) (n : Node) (name : Name) → n.maps name ≡ None → Local i d n → IsLeft i name n
-left_unmapped i d n name e l r at_r =
-    (away i d n name r at_r l.fits, here_is i d n name r at_r l ∙ unmapped_closed i d n name e l, either (asking_of i d n name r at_r l.fits), unmapped_closed i d n name e l)
+pub left_unmapped : (i : ℕ) (n : Node) (name : Name) → n.maps name ≡ None → Local i n → IsLeft i name n
+left_unmapped i n name e l r at_r =
+    (away i n name r at_r l.fits, here_is i n name r at_r l ∙ unmapped_closed i n name e l, either (asking_of i n name r at_r l.fits), unmapped_closed i n name e l)
   where
     either : AskingFits name (Some r) n.activity → r.asking ≡ None
     either (inl idle) = idle
@@ -318,14 +318,14 @@ left_unmapped i d n name e l r at_r =
         let mapped : WaitFits name (Waiting (ForSection name)) (is_mine n name) (n.maps name) = subst (λ a. WaitFits name a (is_mine n name) (n.maps name)) waits (l.fits.each name).waiting in
         absurd (subst (λ m. IsMapped m) e (mapped refl))
 
-acts_purged_over : (K : Name → ℕ → Type 0) (i : ℕ) (d : Name → List ℕ) (n : Node) (name : Name) (m : Option Mapping) → n.maps name ≡ m → Local i d n
+acts_purged_over : (K : Name → ℕ → Type 0) (i : ℕ) (n : Node) (name : Name) (m : Option Mapping) → n.maps name ≡ m → Local i n
     → (q : Name) → let o = purge_over name m n in Acts K q i None None n o.node o.posts
-acts_purged_over K i d n name (Some m) e l q = nothing refl refl refl refl refl refl
-acts_purged_over K i d n name None e l q = go (cached_size name n.cache)
+acts_purged_over K i n name (Some m) e l q = nothing refl refl refl refl refl refl
+acts_purged_over K i n name None e l q = go (cached_size name n.cache)
   where
     go : (size : Option ℕ) → let o = purge_over_cache name size n in Acts K q i None None n o.node o.posts
     go None = nothing refl refl refl refl refl refl
-    go (Some size) = acts_forgets K i n n.maps (cache_without name n.cache) name l.fits.me (left_unmapped i d n name e l) q
+    go (Some size) = acts_forgets K i n n.maps (cache_without name n.cache) name l.fits.me (left_unmapped i n name e l) q
 
 acts_purged_by : (K : Name → ℕ → Type 0) (i : ℕ) (n : Node) (name : Name) (s : Stage) (lifetime : Lifetime) (q : Name) → let o = ends_delete_by name s lifetime n in Acts K q i None None n o.node o.posts
 acts_purged_by K i n name stage.Unknown lifetime q = nothing refl refl refl refl refl refl
@@ -372,24 +372,24 @@ acts_result K i n round fold (Waiting (ForDelete waited)) q = nothing refl refl 
 acts_result K i n round fold (Waiting (ForRound waited k)) q = acts_if K q i None None n (waited == round) _ _ (λ w. nothing refl refl refl refl refl refl) (λ w. nothing refl refl refl refl refl refl)
 
 -- Any message that goes between the home and another node, where it is about copies, and passes the tests.
-pub acts_message : (K : Name → ℕ → Type 0) (i : ℕ) (d : Name → List ℕ) (from : ℕ) (k : Kind) (n : Node) → Goes from i k → Passes from k n → Tells K k → Local i d n
+pub acts_message : (K : Name → ℕ → Type 0) (i : ℕ) (from : ℕ) (k : Kind) (n : Node) → Goes from i k → Passes from k n → Tells K k → Local i n
     → (q : Name) → let o = node_handles from k n in Acts K q i (flying q (record { sender = from; addressee = i; kind = k })) None n o.node o.posts
 unfolding node_handles remote_takes_recall remote_takes_yield
-acts_message K i d from (kind.InfoAsk name) n goes passes tells l q = acts_info_asked K i from n name q
-acts_message K i d from (kind.InfoIs name t) n goes passes tells l q = acts_info_is K i d n name t n.activity refl l tells q
-acts_message K i d from (kind.Ask name write have) n goes passes tells l q = acts_asked K i d from n name write have goes passes l (home_of n name) refl q
-acts_message K i d from (kind.Grant name version what) n goes passes tells l q = acts_granted K i d from n name version what goes l passes (n.remotes name) refl q
-acts_message K i d from (kind.Recall name version) n goes passes tells l q =
-    acts_called K i d from n name (Recall version) (remote_takes_recall version) goes l (λ size. refl) (λ r. recalled_same version r) (λ r c. (recalled_goes version r c).size) (λ g rest took. region.recall_comes i version rest (eqb-false i name.home goes.1) took) (n.remotes name) refl q
-acts_message K i d from (kind.Return name version bytes) n goes passes tells l q = acts_returned K i d from n name version bytes goes passes l (home_of n name) refl q
-acts_message K i d from (kind.DeleteAsk name) n goes passes tells l q = acts_delete_asked K i from n name (lifetime_of n name).stage q
-acts_message K i d from (kind.DeleteIs name t) n goes passes tells l q = acts_delete_is K i n name t n.activity q
-acts_message K i d from (kind.Purge name) n goes passes tells l q =
+acts_message K i from (kind.InfoAsk name) n goes passes tells l q = acts_info_asked K i from n name q
+acts_message K i from (kind.InfoIs name t) n goes passes tells l q = acts_info_is K i n name t n.activity refl l tells q
+acts_message K i from (kind.Ask name write have) n goes passes tells l q = acts_asked K i from n name write have goes passes l (home_of n name) refl q
+acts_message K i from (kind.Grant name version what) n goes passes tells l q = acts_granted K i from n name version what goes l passes (n.remotes name) refl q
+acts_message K i from (kind.Recall name version) n goes passes tells l q =
+    acts_called K i from n name (Recall version) (remote_takes_recall version) goes l (λ size. refl) (λ r. recalled_same version r) (λ r c. (recalled_goes version r c).size) (λ g rest took. region.recall_comes i version rest (eqb-false i name.home goes.1) took) (n.remotes name) refl q
+acts_message K i from (kind.Return name version bytes) n goes passes tells l q = acts_returned K i from n name version bytes goes passes l (home_of n name) refl q
+acts_message K i from (kind.DeleteAsk name) n goes passes tells l q = acts_delete_asked K i from n name (lifetime_of n name).stage q
+acts_message K i from (kind.DeleteIs name t) n goes passes tells l q = acts_delete_is K i n name t n.activity q
+acts_message K i from (kind.Purge name) n goes passes tells l q =
     let o = purge_over name (n.maps name) n in
-    acts_sending K q i None None n o.node o.posts (message_to n from (kind.Purged name)) refl (acts_purged_over K i d n name (n.maps name) refl l q)
-acts_message K i d from (kind.Purged name) n goes passes tells l q = acts_purged K i from n name q
-acts_message K i d from (kind.Come round part) n goes passes tells l q = acts_come K i from n part q
-acts_message K i d from (kind.Result round fold) n goes passes tells l q = acts_result K i n round fold n.activity q
-acts_message K i d from (kind.Yield name version) n goes passes tells l q =
-    acts_called K i d from n name (Yield version) (remote_takes_yield version) goes l (λ size. refl) (λ r. yields_same version r) (λ r c. (yields_goes version r c).size) (λ g rest took. region.yield_comes i version rest (eqb-false i name.home goes.1) took) (n.remotes name) refl q
-acts_message K i d from (kind.Release name version bytes) n goes passes tells l q = acts_released K i d from n name version bytes goes passes l (home_of n name) refl q
+    acts_sending K q i None None n o.node o.posts (message_to n from (kind.Purged name)) refl (acts_purged_over K i n name (n.maps name) refl l q)
+acts_message K i from (kind.Purged name) n goes passes tells l q = acts_purged K i from n name q
+acts_message K i from (kind.Come round part) n goes passes tells l q = acts_come K i from n part q
+acts_message K i from (kind.Result round fold) n goes passes tells l q = acts_result K i n round fold n.activity q
+acts_message K i from (kind.Yield name version) n goes passes tells l q =
+    acts_called K i from n name (Yield version) (remote_takes_yield version) goes l (λ size. refl) (λ r. yields_same version r) (λ r c. (yields_goes version r c).size) (λ g rest took. region.yield_comes i version rest (eqb-false i name.home goes.1) took) (n.remotes name) refl q
+acts_message K i from (kind.Release name version bytes) n goes passes tells l q = acts_released K i from n name version bytes goes passes l (home_of n name) refl q

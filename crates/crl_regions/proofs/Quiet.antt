@@ -20,22 +20,22 @@ use Rattle.crl_regions.proofs.Whole.{Whole}
 mail_none : (n : ℕ) (f : Flying) → flown n None ≡ Some f → ⊥
 mail_none n f e = cc
 
-reaches : (w : World) (drafts : ℕ → Name → List ℕ) (arrays : Name → List ℕ) (us : List Under) (lost : List Piece) (q : Name) (m : Message) (k : Kind) → Whole w drafts arrays us lost → FairKind w.count (λ p. table_of p w) m.sender m.addressee k
+reaches : (w : World) (arrays : Name → List ℕ) (us : List Under) (lost : List Piece) (q : Name) (m : Message) (k : Kind) → Whole w arrays us lost → FairKind w.count (λ p. table_of p w) m.sender m.addressee k
     → (f : Flying) → flown (other_end q m) (mail_in q k) ≡ Some f → m.addressee < w.count
-reaches w drafts arrays us lost q m (kind.Ask name write have) x f g e = subst (λ a. a < w.count) f.0 (x.near name f.3.0 f.3.1).1
-reaches w drafts arrays us lost q m (kind.Return name version bytes) x f g e = subst (λ a. a < w.count) f.0 (x.near name f.3.0 f.3.1).1
-reaches w drafts arrays us lost q m (kind.Release name version bytes) x f g e = subst (λ a. a < w.count) f.0 (x.near name f.3.0 f.3.1).1
-reaches w drafts arrays us lost q m (kind.Grant name version granted) x f g e = f.2
-reaches w drafts arrays us lost q m (kind.Recall name version) x f g e = f.2
-reaches w drafts arrays us lost q m (kind.Yield name version) x f g e = f.2
-reaches w drafts arrays us lost q m (kind.InfoIs name t) x f g e = absurd (mail_none (other_end q m) g e)
-reaches w drafts arrays us lost q m (kind.InfoAsk name) x f g e = absurd (mail_none (other_end q m) g e)
-reaches w drafts arrays us lost q m (kind.DeleteAsk name) x f g e = absurd (mail_none (other_end q m) g e)
-reaches w drafts arrays us lost q m (kind.DeleteIs name t) x f g e = absurd (mail_none (other_end q m) g e)
-reaches w drafts arrays us lost q m (kind.Purge name) x f g e = absurd (mail_none (other_end q m) g e)
-reaches w drafts arrays us lost q m (kind.Purged name) x f g e = absurd (mail_none (other_end q m) g e)
-reaches w drafts arrays us lost q m (kind.Come round part) x f g e = absurd (mail_none (other_end q m) g e)
-reaches w drafts arrays us lost q m (kind.Result round fold) x f g e = absurd (mail_none (other_end q m) g e)
+reaches w arrays us lost q m (kind.Ask name write have) x f g e = subst (λ a. a < w.count) f.0 (x.near name f.3.0 f.3.1).1
+reaches w arrays us lost q m (kind.Return name version bytes) x f g e = subst (λ a. a < w.count) f.0 (x.near name f.3.0 f.3.1).1
+reaches w arrays us lost q m (kind.Release name version bytes) x f g e = subst (λ a. a < w.count) f.0 (x.near name f.3.0 f.3.1).1
+reaches w arrays us lost q m (kind.Grant name version granted) x f g e = f.2
+reaches w arrays us lost q m (kind.Recall name version) x f g e = f.2
+reaches w arrays us lost q m (kind.Yield name version) x f g e = f.2
+reaches w arrays us lost q m (kind.InfoIs name t) x f g e = absurd (mail_none (other_end q m) g e)
+reaches w arrays us lost q m (kind.InfoAsk name) x f g e = absurd (mail_none (other_end q m) g e)
+reaches w arrays us lost q m (kind.DeleteAsk name) x f g e = absurd (mail_none (other_end q m) g e)
+reaches w arrays us lost q m (kind.DeleteIs name t) x f g e = absurd (mail_none (other_end q m) g e)
+reaches w arrays us lost q m (kind.Purge name) x f g e = absurd (mail_none (other_end q m) g e)
+reaches w arrays us lost q m (kind.Purged name) x f g e = absurd (mail_none (other_end q m) g e)
+reaches w arrays us lost q m (kind.Come round part) x f g e = absurd (mail_none (other_end q m) g e)
+reaches w arrays us lost q m (kind.Result round fold) x f g e = absurd (mail_none (other_end q m) g e)
 
 -- what is said of all pieces is said of each message with one left
 all_took : {A : Type 0} (P : A → Type 0) {x : A} {xs ys : List A} → Took x xs ys → AllByRecursion P xs → P x × AllByRecursion P ys
@@ -72,20 +72,20 @@ past_under count [] h p = tt
 past_under count (u ∷ us) h p =
     let k = all_parts (Past count) (left_of u) (lefts us) p in (past_left count u.message (length u.cells) 0 u.cells k.0 h.0.1, past_under count us h.1 k.1)
 
-quiet_past : (w : World) (drafts : ℕ → Name → List ℕ) (arrays : Name → List ℕ) (us vs : List Under) (lost : List Piece) (q : Name) → Whole w drafts arrays us lost → AllFair w.count (λ p. table_of p w) (messages_of vs)
+quiet_past : (w : World) (arrays : Name → List ℕ) (us vs : List Under) (lost : List Piece) (q : Name) → Whole w arrays us lost → AllFair w.count (λ p. table_of p w) (messages_of vs)
     → AllByRecursion (λ (u : Under). w.count ≤ u.message.addressee) vs → find_all (flying q) (messages_of vs) ≡ []
-quiet_past w drafts arrays us [] lost q k f p = refl
-quiet_past w drafts arrays us (v ∷ vs) lost q k f p =
-    picked_none (flying q v.message) (find_all (flying q) (messages_of vs)) (none (flying q v.message) refl) ∙ quiet_past w drafts arrays us vs lost q k f.1 p.1
+quiet_past w arrays us [] lost q k f p = refl
+quiet_past w arrays us (v ∷ vs) lost q k f p =
+    picked_none (flying q v.message) (find_all (flying q) (messages_of vs)) (none (flying q v.message) refl) ∙ quiet_past w arrays us vs lost q k f.1 p.1
   where
     none : (o : Option Flying) → flying q v.message ≡ o → flying q v.message ≡ None
     none None e = e
-    none (Some g) e = absurd (let few = reaches w drafts arrays us lost q v.message v.message.kind k f.0 g e in let past = p.0 in omega arith)
+    none (Some g) e = absurd (let few = reaches w arrays us lost q v.message v.message.kind k f.0 g e in let past = p.0 in omega arith)
 
 -- no piece is in a box: no mail about copies is under way
-pub quiet : (w : World) (drafts : ℕ → Name → List ℕ) (arrays : Name → List ℕ) (us : List Under) (lost : List Piece) → Whole w drafts arrays us lost → pieces_in_boxes w ≡ [] → (q : Name) → find_all (flying q) (messages_of us) ≡ []
-quiet w drafts arrays us lost k none q =
-    quiet_past w drafts arrays us us lost q k k.fair
+pub quiet : (w : World) (arrays : Name → List ℕ) (us : List Under) (lost : List Piece) → Whole w arrays us lost → pieces_in_boxes w ≡ [] → (q : Name) → find_all (flying q) (messages_of us) ≡ []
+quiet w arrays us lost k none q =
+    quiet_past w arrays us us lost q k k.fair
     (past_under w.count us k.flies.each (all_moved (Past w.count) (subst (λ b. Moves (lefts us) (b ++ lost)) none k.flies.boxed) k.strays))
 
 -- and where nothing at all is under way, no piece is in a box

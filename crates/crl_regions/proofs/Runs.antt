@@ -20,7 +20,7 @@ use Rattle.crl_deeds.specs.Laws.{AreStatements, node_of}
 use Rattle.crl_protocol.specs.World.{World, new_world, pieces_in_boxes, boxes_from, handles_at, carries, step, is_enabled, IsRunFrom, world_after}
 use Rattle.crl_deeds.proofs.Fitting.{Fits}
 use Rattle.crl_deeds.proofs.Placing.{all_append}
-use Rattle.crl_deeds.proofs.Sound.{Sound, sound_start, sound_event}
+use Rattle.crl_deeds.proofs.Sound.{fits_start, fits_event}
 use Rattle.crl_coherence.specs.Region.{Run}
 use Rattle.crl_coherence.specs.Coherent.{IsCoherent}
 use Rattle.crl_coherence.proofs.Events.{runs_kept}
@@ -34,9 +34,9 @@ use Rattle.crl_regions.proofs.Quiet.{quiet}
 use Rattle.crl_regions.proofs.Steps.{Grows, all_grown}
 use Rattle.crl_regions.proofs.Events.{GoneOn, nothing_on, is_freed, call_on, collect_on, handle_on}
 
-carry_on : (w : World) (drafts later : ℕ → Name → List ℕ) (arrays : Name → List ℕ) (us : List Under) (lost : List Piece) (i place : ℕ) (e : Event) (t : Taken Piece) → i < w.count → take_out place (w.nodes i).outbox ≡ Some t → Whole w drafts arrays us lost
-    → ((j : ℕ) → Fits j ((carries i e (Some t) w).world.nodes j) (later j)) → GoneOn w (carries i e (Some t) w).world us later arrays arrays
-carry_on w drafts later arrays us lost i place e t few out k fits = record {
+carry_on : (w : World) (arrays : Name → List ℕ) (us : List Under) (lost : List Piece) (i place : ℕ) (e : Event) (t : Taken Piece) → i < w.count → take_out place (w.nodes i).outbox ≡ Some t → Whole w arrays us lost
+    → ((j : ℕ) → Fits j ((carries i e (Some t) w).world.nodes j)) → GoneOn w (carries i e (Some t) w).world us arrays arrays
+carry_on w arrays us lost i place e t few out k fits = record {
   under = us;
   lost = moves.0;
   whole = record {
@@ -80,44 +80,31 @@ carry_on w drafts later arrays us lost i place e t few out k fits = record {
 
 -- Any event that may come.
 abbrev pub Later : World → List Under → Event → (Name → List ℕ) → Type 0
-Later w us e arrays = (later : ℕ → Name → List ℕ) × GoneOn w (step e w).world us later arrays (λ q. array_after q e w (arrays q))
+Later w us e arrays = GoneOn w (step e w).world us arrays (λ q. array_after q e w (arrays q))
 
-abbrev running_at : World → (ℕ → Name → List ℕ) → Running
-running_at w drafts = record { world = w; actors = λ i. record { left = []; drafts = drafts i }; events = []; entries = [] }
+handled_on : (w : World) (arrays : Name → List ℕ) (us : List Under) (lost : List Piece) (i place : ℕ) (e : Event) (o : Option (Taken Piece)) → i < w.count → take_out place (w.nodes i).inbox ≡ o → Whole w arrays us lost
+    → ((j : ℕ) → Fits j ((handles_at i e o w).world.nodes j)) → GoneOn w (handles_at i e o w).world us arrays arrays
+handled_on w arrays us lost i place e None few out k fits = nothing_on w arrays us lost k
+handled_on w arrays us lost i place e (Some t) few out k fits = handle_on w arrays us lost i place e t few out k fits
 
-sound_at : (w : World) (drafts : ℕ → Name → List ℕ) (arrays : Name → List ℕ) (us : List Under) (lost : List Piece) → Whole w drafts arrays us lost → Sound (running_at w drafts)
-sound_at w drafts arrays us lost k = record { fits = k.fits; left = λ i. tt }
+carried_on : (w : World) (arrays : Name → List ℕ) (us : List Under) (lost : List Piece) (i place : ℕ) (e : Event) (o : Option (Taken Piece)) → i < w.count → take_out place (w.nodes i).outbox ≡ o → Whole w arrays us lost
+    → ((j : ℕ) → Fits j ((carries i e o w).world.nodes j)) → GoneOn w (carries i e o w).world us arrays arrays
+carried_on w arrays us lost i place e None few out k fits = nothing_on w arrays us lost k
+carried_on w arrays us lost i place e (Some t) few out k fits = carry_on w arrays us lost i place e t few out k fits
 
-abbrev drafts_after : World → (ℕ → Name → List ℕ) → Event → ℕ → Name → List ℕ
-drafts_after w drafts e j = ((goes_on (node_of e) e (running_at w drafts)).actors j).drafts
-
-handled_on : (w : World) (drafts later : ℕ → Name → List ℕ) (arrays : Name → List ℕ) (us : List Under) (lost : List Piece) (i place : ℕ) (e : Event) (o : Option (Taken Piece)) → i < w.count → take_out place (w.nodes i).inbox ≡ o → Whole w drafts arrays us lost
-    → ((j : ℕ) → Fits j ((handles_at i e o w).world.nodes j) (later j)) → (ds : ℕ → Name → List ℕ) × GoneOn w (handles_at i e o w).world us ds arrays arrays
-handled_on w drafts later arrays us lost i place e None few out k fits = (drafts, nothing_on w drafts arrays us lost k)
-handled_on w drafts later arrays us lost i place e (Some t) few out k fits = (later, handle_on w drafts later arrays us lost i place e t few out k fits)
-
-carried_on : (w : World) (drafts later : ℕ → Name → List ℕ) (arrays : Name → List ℕ) (us : List Under) (lost : List Piece) (i place : ℕ) (e : Event) (o : Option (Taken Piece)) → i < w.count → take_out place (w.nodes i).outbox ≡ o → Whole w drafts arrays us lost
-    → ((j : ℕ) → Fits j ((carries i e o w).world.nodes j) (later j)) → (ds : ℕ → Name → List ℕ) × GoneOn w (carries i e o w).world us ds arrays arrays
-carried_on w drafts later arrays us lost i place e None few out k fits = (drafts, nothing_on w drafts arrays us lost k)
-carried_on w drafts later arrays us lost i place e (Some t) few out k fits = (later, carry_on w drafts later arrays us lost i place e t few out k fits)
-
--- what the event leaves of each node
-fits_after : (w : World) (drafts : ℕ → Name → List ℕ) (arrays : Name → List ℕ) (us : List Under) (lost : List Piece) (e : Event) → is_enabled e w ≡ true → Whole w drafts arrays us lost → (j : ℕ) → Fits j ((step e w).world.nodes j) (drafts_after w drafts e j)
-fits_after w drafts arrays us lost e h k = (sound_event (running_at w drafts) e h (sound_at w drafts arrays us lost k)).fits
-
-pub event_on : (w : World) (drafts : ℕ → Name → List ℕ) (arrays : Name → List ℕ) (us : List Under) (lost : List Piece) (e : Event) → is_enabled e w ≡ true → Whole w drafts arrays us lost → Later w us e arrays
+pub event_on : (w : World) (arrays : Name → List ℕ) (us : List Under) (lost : List Piece) (e : Event) → is_enabled e w ≡ true → Whole w arrays us lost → Later w us e arrays
 unfolding step is_enabled
-event_on w drafts arrays us lost (event.Call i c) h k =
+event_on w arrays us lost (event.Call i c) h k =
     let parts = and_parts _ _ h in let more = and_parts _ _ parts.1 in
-    (drafts_after w drafts (event.Call i c), call_on w drafts _ arrays us lost i _ c (ltb-true i w.count parts.0) (is_freed (w.nodes i).activity more.0) more.1 k (fits_after w drafts arrays us lost (event.Call i c) h k))
-event_on w drafts arrays us lost (event.Collect i) h k =
-    let parts = and_parts _ _ h in (drafts_after w drafts (event.Collect i), collect_on w drafts _ arrays us lost i _ (ltb-true i w.count parts.0) k (fits_after w drafts arrays us lost (event.Collect i) h k))
-event_on w drafts arrays us lost (event.Handle i place) h k =
+    call_on w arrays us lost i _ c (ltb-true i w.count parts.0) (is_freed (w.nodes i).activity more.0) more.1 k (fits_event w (event.Call i c) h k.fits)
+event_on w arrays us lost (event.Collect i) h k =
+    let parts = and_parts _ _ h in collect_on w arrays us lost i _ (ltb-true i w.count parts.0) k (fits_event w (event.Collect i) h k.fits)
+event_on w arrays us lost (event.Handle i place) h k =
     let parts = and_parts _ _ h in
-    handled_on w drafts (drafts_after w drafts (event.Handle i place)) arrays us lost i place (event.Handle i place) (take_out place (w.nodes i).inbox) (ltb-true i w.count parts.0) refl k (fits_after w drafts arrays us lost (event.Handle i place) h k)
-event_on w drafts arrays us lost (event.Carry i place) h k =
+    handled_on w arrays us lost i place (event.Handle i place) (take_out place (w.nodes i).inbox) (ltb-true i w.count parts.0) refl k (fits_event w (event.Handle i place) h k.fits)
+event_on w arrays us lost (event.Carry i place) h k =
     let parts = and_parts _ _ h in
-    carried_on w drafts (drafts_after w drafts (event.Carry i place)) arrays us lost i place (event.Carry i place) (take_out place (w.nodes i).outbox) (ltb-true i w.count parts.0) refl k (fits_after w drafts arrays us lost (event.Carry i place) h k)
+    carried_on w arrays us lost i place (event.Carry i place) (take_out place (w.nodes i).outbox) (ltb-true i w.count parts.0) refl k (fits_event w (event.Carry i place) h k.fits)
 
 -- The start.
 no_table : (b c : Bool) (s : ℕ) → (if b then (if c then None else at {A = Home} (s - 1) []) else None) ≡ None
@@ -128,16 +115,13 @@ no_table false c s = refl
 nothing_there : (count capacity i : ℕ) (q : Name) → home_of (new_node count capacity i) q ≡ None
 nothing_there count capacity i q = no_table (q.home == i) (q.serial == 0) q.serial
 
-no_statements : AreStatements []
-no_statements = All-from_recursion _ [] tt
-
 nothing_boxed : (i k count capacity : ℕ) → boxes_from i k (new_node count capacity) ++ [] ≡ []
 nothing_boxed i zero count capacity = refl
 nothing_boxed i (suc k) count capacity = nothing_boxed (i + 1) k count capacity
 
-pub whole_start : (count capacity : ℕ) → Whole (new_world count capacity) (λ i q. []) (λ q. []) [] []
+pub whole_start : (count capacity : ℕ) → Whole (new_world count capacity) (λ q. []) [] []
 whole_start count capacity = record {
-  fits = (sound_start count capacity [] no_statements).fits;
+  fits = λ i. fits_start count capacity i;
   agrees = λ i q. ap (λ o. expected o None) (nothing_there count capacity i q);
   counts = λ i q. tt;
   housed = λ i. record { cached = λ q size c. absurd c; held = λ q r e m. absurd (cc); others = λ q size c. absurd c; once = tt };
@@ -152,17 +136,16 @@ whole_start count capacity = record {
 
 -- A run.
 pub record Ran (w v : World) (arrays : Name → List ℕ) : Type 0 where
-  pub drafts : ℕ → Name → List ℕ
   pub under : List Under
   pub lost : List Piece
-  pub whole : Whole v drafts arrays under lost
+  pub whole : Whole v arrays under lost
 
-pub run_on : (w : World) (drafts : ℕ → Name → List ℕ) (arrays : Name → List ℕ) (us : List Under) (lost : List Piece) (es : List Event) → IsRunFrom w es → Whole w drafts arrays us lost
+pub run_on : (w : World) (arrays : Name → List ℕ) (us : List Under) (lost : List Piece) (es : List Event) → IsRunFrom w es → Whole w arrays us lost
     → Ran w (world_after w es) (λ q. array_from q w es (arrays q))
-run_on w drafts arrays us lost [] h k = record { drafts = drafts; under = us; lost = lost; whole = k }
-run_on w drafts arrays us lost (e ∷ es) h k =
-    let g = event_on w drafts arrays us lost e h.0 k in
-    let r = run_on (step e w).world g.0 (λ q. array_after q e w (arrays q)) g.1.under g.1.lost es h.1 g.1.whole in record { drafts = r.drafts; under = r.under; lost = r.lost; whole = r.whole }
+run_on w arrays us lost [] h k = record { under = us; lost = lost; whole = k }
+run_on w arrays us lost (e ∷ es) h k =
+    let g = event_on w arrays us lost e h.0 k in
+    let r = run_on (step e w).world (λ q. array_after q e w (arrays q)) g.under g.lost es h.1 g.whole in record { under = r.under; lost = r.lost; whole = r.whole }
 
 as_view : (q : Name) (h : Home) (array : List ℕ) (messages : List Message) (w : World) → table_of q w ≡ Some h → sight q h w.nodes messages array ≡ view q array messages w
 as_view q h array messages w there = ap (λ o. sight q (table_or_blank o) w.nodes messages array) (sym there)
@@ -175,8 +158,8 @@ view_run : (q : Name) (h k : Home) (array left : List ℕ) (ms ns : List Message
 view_run q h k array left ms ns w v there after r =
     subst (λ y. Run q.home y (view q left ns v)) (as_view q h array ms w there) (subst (λ y. Run q.home (sight q h w.nodes ms array) y) (as_view q k left ns v after) r)
 
-under_way : (w : World) (drafts : ℕ → Name → List ℕ) (arrays : Name → List ℕ) (us : List Under) (lost : List Piece) → Whole w drafts arrays us lost → UnderWay w us
-under_way w drafts arrays us lost k = record { lost = lost; strays = k.strays; flies = k.flies }
+under_way : (w : World) (arrays : Name → List ℕ) (us : List Under) (lost : List Piece) → Whole w arrays us lost → UnderWay w us
+under_way w arrays us lost k = record { lost = lost; strays = k.strays; flies = k.flies }
 
 pub coherent_in_runs : (count capacity : ℕ) (es : List Event) → IsRunFrom (new_world count capacity) es
     → (us : List Under) × UnderWay (world_after (new_world count capacity) es) us × ((q : Name) (h : Home) → table_of q (world_after (new_world count capacity) es) ≡ Some h
@@ -184,8 +167,8 @@ pub coherent_in_runs : (count capacity : ℕ) (es : List Event) → IsRunFrom (n
     × (pieces_in_boxes (world_after (new_world count capacity) es) ≡ [] → (q : Name) → find_all (flying q) (messages_of us) ≡ [])
 coherent_in_runs count capacity es run =
     let start = new_world count capacity in
-    let k = run_on start (λ i p. []) (λ p. []) [] [] es run (whole_start count capacity) in
-    (k.under, under_way _ _ _ _ _ k.whole, λ q h there. view_coherent q h (array_from q start es []) (messages_of k.under) (world_after start es) there (k.whole.coherent q h there), λ none q. quiet _ _ _ k.under k.lost k.whole none q)
+    let k = run_on start (λ p. []) [] [] es run (whole_start count capacity) in
+    (k.under, under_way _ _ _ _ k.whole, λ q h there. view_coherent q h (array_from q start es []) (messages_of k.under) (world_after start es) there (k.whole.coherent q h there), λ none q. quiet _ _ k.under k.lost k.whole none q)
 
 pub events_in_runs : (count capacity : ℕ) (es : List Event) (e : Event) → IsRunFrom (new_world count capacity) es → is_enabled e (world_after (new_world count capacity) es) ≡ true
     → (us vs : List Under) × UnderWay (world_after (new_world count capacity) es) us × UnderWay (step e (world_after (new_world count capacity) es)).world vs
@@ -195,12 +178,12 @@ pub events_in_runs : (count capacity : ℕ) (es : List Event) (e : Event) → Is
 events_in_runs count capacity es e run may =
     let start = new_world count capacity in
     let w = world_after start es in
-    let k = run_on start (λ i p. []) (λ p. []) [] [] es run (whole_start count capacity) in
-    let d = (event_on w k.drafts (λ p. array_from p start es []) k.under k.lost e may k.whole).1 in (
+    let k = run_on start (λ p. []) [] [] es run (whole_start count capacity) in
+    let d = (event_on w (λ p. array_from p start es []) k.under k.lost e may k.whole) in (
       k.under,
       d.under,
-      under_way _ _ _ _ _ k.whole,
-      under_way _ _ _ _ _ d.whole,
+      under_way _ _ _ _ k.whole,
+      under_way _ _ _ _ d.whole,
       λ q h there.
           let g = d.ran q h there in
           (g.0, g.1, view_run q h g.0 (array_from q start es []) (array_after q e w (array_from q start es [])) (messages_of k.under) (messages_of d.under) w (step e w).world there g.1 g.2),
@@ -214,7 +197,7 @@ pub step_in_runs : (count capacity : ℕ) (es : List Event) (e : Event) (us : Li
 step_in_runs count capacity es e us lost run may strays flies fair coherent =
     let start = new_world count capacity in
     let w = world_after start es in
-    let k = run_on start (λ i p. []) (λ p. []) [] [] es run (whole_start count capacity) in
+    let k = run_on start (λ p. []) [] [] es run (whole_start count capacity) in
     let x = k.whole in
-    event_on w k.drafts (λ q. array_from q start es []) us lost e may
+    event_on w (λ q. array_from q start es []) us lost e may
     (record { fits = x.fits; agrees = x.agrees; counts = x.counts; housed = x.housed; near = x.near; sizes = x.sizes; inbox = x.inbox; fair = fair; strays = strays; flies = flies; coherent = coherent })

@@ -27,8 +27,8 @@ use Rattle.crl_regions.proofs.Acts.{FromNear, expected, CountFits, Comes, Acts, 
 
 -- What holds of node i: besides sizes and asks, the sections that it notes are those of its tables, and what it
 -- has of regions that aren't mapped is cached.
-pub record Local (i : ℕ) (d : Name → List ℕ) (n : Node) : Type 0 where
-  pub fits : Fits i n d
+pub record Local (i : ℕ) (n : Node) : Type 0 where
+  pub fits : Fits i n
   pub agrees : (q : Name) → expected (home_of n q) (n.remotes q) ≡ section_at q n.sections
   pub counts : (q : Name) → CountFits (section_at q n.sections)
   pub cached : (q : Name) (size : ℕ) → IsCached q size n.cache → n.maps q ≡ None
@@ -48,19 +48,19 @@ free_asks q r (inl none) = none
 free_asks q r (inr waits) = cc
 
 -- the home of a name of which there is a record elsewhere
-pub away : (i : ℕ) (d : Name → List ℕ) (n : Node) (name : Name) (r : Remote) → n.remotes name ≡ Some r → Fits i n d → (i == name.home) ≡ false
-away i d n name r e f =
-    let other = not_mine i d n name r e f in ne_eqb i name.home (λ w. eqb-false name.home n.me other (sym w ∙ sym f.me))
+pub away : (i : ℕ) (n : Node) (name : Name) (r : Remote) → n.remotes name ≡ Some r → Fits i n → (i == name.home) ≡ false
+away i n name r e f =
+    let other = not_mine i n name r e f in ne_eqb i name.home (λ w. eqb-false name.home n.me other (sym w ∙ sym f.me))
 
-pub no_table : (i : ℕ) (d : Name → List ℕ) (n : Node) (name : Name) (r : Remote) → n.remotes name ≡ Some r → Fits i n d → home_of n name ≡ None
-no_table i d n name r e f = cond-false (is_mine n name) _ _ (not_mine i d n name r e f)
+pub no_table : (i : ℕ) (n : Node) (name : Name) (r : Remote) → n.remotes name ≡ Some r → Fits i n → home_of n name ≡ None
+no_table i n name r e f = cond-false (is_mine n name) _ _ (not_mine i n name r e f)
 
 -- the table's own section
-pub mine_is : (i : ℕ) (d : Name → List ℕ) (n : Node) (name : Name) (h : Home) → home_of n name ≡ Some h → Local i d n → h.mine ≡ section_at name n.sections
-mine_is i d n name h e l = sym (ap (λ o. expected o (n.remotes name)) e) ∙ l.agrees name
+pub mine_is : (i : ℕ) (n : Node) (name : Name) (h : Home) → home_of n name ≡ Some h → Local i n → h.mine ≡ section_at name n.sections
+mine_is i n name h e l = sym (ap (λ o. expected o (n.remotes name)) e) ∙ l.agrees name
 
-pub here_is : (i : ℕ) (d : Name → List ℕ) (n : Node) (name : Name) (r : Remote) → n.remotes name ≡ Some r → Local i d n → r.here ≡ section_at name n.sections
-here_is i d n name r e l = sym (ap (λ o. expected o (n.remotes name)) (no_table i d n name r e l.fits) ∙ ap (λ o. expected None o) e) ∙ l.agrees name
+pub here_is : (i : ℕ) (n : Node) (name : Name) (r : Remote) → n.remotes name ≡ Some r → Local i n → r.here ≡ section_at name n.sections
+here_is i n name r e l = sym (ap (λ o. expected o (n.remotes name)) (no_table i n name r e l.fits) ∙ ap (λ o. expected None o) e) ∙ l.agrees name
 
 -- An event at the home, and at another node, over the region as it is.
 pub home_event : (me k : ℕ) (h : Home) (step : ℕ → Home → HomeStep) (g : Region) (rest : List Flying) (array : List ℕ) → me ≡ k → g.home ≡ h
@@ -109,16 +109,16 @@ count_begun false (section.Reading count) may = may
 count_begun false section.Writing may = tt
 
 -- The start of a section at the home.
-start_home : (K : Name → ℕ → Type 0) (i : ℕ) (d : Name → List ℕ) (n : Node) (write : Bool) (name : Name) (h : Home) → home_of (free n) name ≡ Some h → MayStart write (section_at name n.sections) → Local i d (free n)
+start_home : (K : Name → ℕ → Type 0) (i : ℕ) (n : Node) (write : Bool) (name : Name) (h : Home) → home_of (free n) name ≡ Some h → MayStart write (section_at name n.sections) → Local i (free n)
     → (q : Name) → let o = starts_at_home write name (home_starts n.me write h) (free n) in Acts K q i None None (free n) o.node o.posts
 unfolding section_opens
-start_home K i d n write name h e may l =
+start_home K i n write name h e may l =
     let f = l.fits in
-    let none = free_idle n.me name h (queue_of i d (free n) name h e f) in
+    let none = free_idle n.me name h (queue_of i (free n) name h e f) in
     let s = home_starts n.me write h in
-    let goes = starts_fit n.me write h (home_bytes i d (free n) name h e f) none in
+    let goes = starts_fit n.me write h (home_bytes i (free n) name h e f) none in
     let me : n.me ≡ name.home = eqb-true n.me name.home (home_is (free n) name h e) in
-    let mine = mine_is i d (free n) name h e l in
+    let mine = mine_is i (free n) name h e l in
     let open_now = home_begun n.me write h none in
     let happens : (g : Region) (rest : List Flying) → g.home ≡ h → Comes None g.flight rest → Happens name.home g (record (at_home s rest g) { array = g.array }) =
     λ g rest at_h comes. home_event n.me name.home h (λ k x. home_starts k write x) g rest g.array me at_h
@@ -137,15 +137,15 @@ start_home K i d n write name h e may l =
     (λ w. home_there K name q i (free n) _ h s e refl refl refl other))
 
 -- and at another node
-start_side : (K : Name → ℕ → Type 0) (i : ℕ) (d : Name → List ℕ) (n : Node) (write : Bool) (name : Name) (r : Remote) → n.remotes name ≡ Some r → MayStart write (section_at name n.sections) → Local i d (free n)
+start_side : (K : Name → ℕ → Type 0) (i : ℕ) (n : Node) (write : Bool) (name : Name) (r : Remote) → n.remotes name ≡ Some r → MayStart write (section_at name n.sections) → Local i (free n)
     → (q : Name) → let o = starts_elsewhere write name (remote_starts write r) (free n) in Acts K q i None None (free n) o.node o.posts
 unfolding section_opens
-start_side K i d n write name r e may l =
+start_side K i n write name r e may l =
     let f = l.fits in
-    let idle = free_asks name r (asking_of i d (free n) name r e f) in
+    let idle = free_asks name r (asking_of i (free n) name r e f) in
     let s = remote_starts write r in
-    let other_home = away i d (free n) name r e f in
-    let here = here_is i d (free n) name r e l in
+    let other_home = away i (free n) name r e f in
+    let here = here_is i (free n) name r e l in
     let open_now = side_begun write r in
     let put : (with_remote name (Some s.remote) (free n)).remotes name ≡ Some s.remote = cond-true (name_eq name name) _ _ (name_self name) in
     let happens : (g : Region) (rest : List Flying) → g.remotes i ≡ r → r.size ≡ g.home.size → Comes None g.flight rest → Happens name.home g (record (at_remote i s rest g) { array = g.array }) =
@@ -163,17 +163,17 @@ start_side K i d n write name r e may l =
     (λ w. moved_there K name q i (free n) _ s.posts (cond-false (name_eq name q) _ _ other) refl (noted_other write name q (copy_bytes s.remote.copy) n.sections other) other)
     (λ w. moved_there K name q i (free n) _ s.posts (cond-false (name_eq name q) _ _ other) refl refl other))
 
-pub acts_start : (K : Name → ℕ → Type 0) (i : ℕ) (d : Name → List ℕ) (n : Node) (write : Bool) (name : Name) → of_start write (section_at name n.sections) ≡ None → Local i d (free n)
+pub acts_start : (K : Name → ℕ → Type 0) (i : ℕ) (n : Node) (write : Bool) (name : Name) → of_start write (section_at name n.sections) ≡ None → Local i (free n)
     → (q : Name) → let o = starts write name (free n) in Acts K q i None None (free n) o.node o.posts
-acts_start K i d n write name v l = at_home_or (home_of (free n) name) refl
+acts_start K i n write name v l = at_home_or (home_of (free n) name) refl
   where
     may : MayStart write (section_at name n.sections)
     may = may_start write (section_at name n.sections) (l.counts name) v
 
     at_side_or : (o : Option Remote) → n.remotes name ≡ o → (q : Name) → let o = starts_over_remote write name o (free n) in Acts K q i None None (free n) o.node o.posts
     at_side_or None e q = nothing refl refl refl refl refl refl
-    at_side_or (Some r) e q = start_side K i d n write name r e may l q
+    at_side_or (Some r) e q = start_side K i n write name r e may l q
 
     at_home_or : (o : Option Home) → home_of (free n) name ≡ o → (q : Name) → let o = starts_over_home write name o (free n) in Acts K q i None None (free n) o.node o.posts
     at_home_or None e q = at_side_or (n.remotes name) refl q
-    at_home_or (Some h) e q = start_home K i d n write name h e may l q
+    at_home_or (Some h) e q = start_home K i n write name h e may l q

@@ -101,24 +101,24 @@ quiet_all count tables q [] none f = refl
 quiet_all count tables q (m ∷ ms) none f =
     picked_none (flying q m) (find_all (flying q) ms) (ap (λ o. flown (other_end q m) o) (quiet_kind count tables q m.sender m.addressee m.kind none f.0)) ∙ quiet_all count tables q ms none f.1
 
-pub nothing_flies : (w : World) (drafts : ℕ → Name → List ℕ) (arrays : Name → List ℕ) (us : List Under) (lost : List Piece) (q : Name) → Whole w drafts arrays us lost → table_of q w ≡ None → find_all (flying q) (messages_of us) ≡ []
-nothing_flies w drafts arrays us lost q k none = quiet_all w.count (λ p. table_of p w) q (messages_of us) none k.fair
+pub nothing_flies : (w : World) (arrays : Name → List ℕ) (us : List Under) (lost : List Piece) (q : Name) → Whole w arrays us lost → table_of q w ≡ None → find_all (flying q) (messages_of us) ≡ []
+nothing_flies w arrays us lost q k none = quiet_all w.count (λ p. table_of p w) q (messages_of us) none k.fair
 
 moves_nothing : {A : Type 0} {xs ys : List A} → Moves xs ys → xs ≡ [] → ys ≡ []
 moves_nothing still e = e
 moves_nothing (moved x rest a b m) e = absurd (took_nothing a e)
 
-no_side : (w : World) (drafts : ℕ → Name → List ℕ) (arrays : Name → List ℕ) (us : List Under) (lost : List Piece) (q : Name) (j : ℕ) → Whole w drafts arrays us lost → table_of q w ≡ None → (w.nodes j).remotes q ≡ None
-no_side w drafts arrays us lost q j k none = go ((w.nodes j).remotes q) refl
+no_side : (w : World) (arrays : Name → List ℕ) (us : List Under) (lost : List Piece) (q : Name) (j : ℕ) → Whole w arrays us lost → table_of q w ≡ None → (w.nodes j).remotes q ≡ None
+no_side w arrays us lost q j k none = go ((w.nodes j).remotes q) refl
   where
     go : (o : Option Remote) → (w.nodes j).remotes q ≡ o → (w.nodes j).remotes q ≡ None
     go None e = e
     go (Some r) e = absurd (let t = (k.sizes j q r e).1 in cc)
 
 -- The outcome o of node i, from n on, where the message that came is taken out of the inbox.
-pub record StepFits (w : World) (after : ℕ → Name → List ℕ) (i : ℕ) (e : Event) (inbox : List Piece) (parcels : PartsGathered) (us left : List Under) (lost : List Piece) (o : Outcome) (came : Name → Option Flying) (written : Name → Option (List ℕ)) : Type 0 where
+pub record StepFits (w : World) (i : ℕ) (e : Event) (inbox : List Piece) (parcels : PartsGathered) (us left : List Under) (lost : List Piece) (o : Outcome) (came : Name → Option Flying) (written : Name → Option (List ℕ)) : Type 0 where
   pub few : i < w.count
-  pub fits : (j : ℕ) → Fits j ((steps_node i e o w).world.nodes j) (after j)
+  pub fits : (j : ℕ) → Fits j ((steps_node i e o w).world.nodes j)
   pub acts : (q : Name) → Acts (λ p size. (h : Home) × (table_of p w ≡ Some h) × (h.size ≡ size)) q i (came q) (written q) (record (w.nodes i) { inbox = inbox; parcels = parcels }) o.node o.posts
   pub keeps : Keeps (record (w.nodes i) { inbox = inbox; parcels = parcels }) o.node
   pub rest : AllByRecursion (λ (p : Piece). p.message.addressee ≡ i) inbox
@@ -132,11 +132,11 @@ own_live : (b : Bool) (v : Seen) → OwnFits b v → LiveFits v.stage v.home
 own_live true v own = own.live
 own_live false v own = subst (λ s. LiveFits s v.home) (sym own.unknown) tt
 
-pub whole_stepped : (w : World) (drafts later : ℕ → Name → List ℕ) (arrays : Name → List ℕ) (i : ℕ) (e : Event) (inbox : List Piece) (parcels : PartsGathered) (us left : List Under) (lost : List Piece) (o : Outcome) (came : Name → Option Flying) (written : Name → Option (List ℕ))
-    → Whole w drafts arrays us lost → StepFits w later i e inbox parcels us left lost o came written
-    → Whole (steps_node i e o w).world later (λ q. bytes_after (written q) (arrays q)) (left ++ map posted o.posts) lost
+pub whole_stepped : (w : World) (arrays : Name → List ℕ) (i : ℕ) (e : Event) (inbox : List Piece) (parcels : PartsGathered) (us left : List Under) (lost : List Piece) (o : Outcome) (came : Name → Option Flying) (written : Name → Option (List ℕ))
+    → Whole w arrays us lost → StepFits w i e inbox parcels us left lost o came written
+    → Whole (steps_node i e o w).world (λ q. bytes_after (written q) (arrays q)) (left ++ map posted o.posts) lost
     × ((q : Name) (h : Home) → table_of q w ≡ Some h → Lifted q i (came q) w.nodes (steps_node i e o w).world.nodes (messages_of us) (messages_of (left ++ map posted o.posts)) h (arrays q) (bytes_after (written q) (arrays q)))
-whole_stepped w drafts later arrays i e inbox parcels us left lost o came written k x = (
+whole_stepped w arrays i e inbox parcels us left lost o came written k x = (
   record {
     fits = x.fits;
     agrees = of_node w.nodes i m (λ j n. (q : Name) → expected (home_of n q) (n.remotes q) ≡ section_at q n.sections) (λ q. agrees_now q (x.acts q)) (λ j other. k.agrees j);
@@ -226,10 +226,10 @@ whole_stepped w drafts later arrays i e inbox parcels us left lost o came writte
     sends = record {
       me = (k.fits i).me;
       few = x.few;
-      near = λ name h f. let t = table_at w drafts arrays us lost i name h k f in subst (λ y. Near y w.count h) (sym ((k.fits i).me ∙ t.0)) (k.near name h t.1).0;
-      home_there = λ name h f. grows name h (table_at w drafts arrays us lost i name h k f).1;
-      side_there = λ name r f. let s = k.sizes i name r f in let g = grows name s.0 s.1 in ((g.0, g.1), away i (drafts i) (w.nodes i) name r f (k.fits i));
-      live = λ name. own_live (is_mine (w.nodes i) name) (seen (w.nodes i) (drafts i) name) ((k.fits i).each name).own;
+      near = λ name h f. let t = table_at w arrays us lost i name h k f in subst (λ y. Near y w.count h) (sym ((k.fits i).me ∙ t.0)) (k.near name h t.1).0;
+      home_there = λ name h f. grows name h (table_at w arrays us lost i name h k f).1;
+      side_there = λ name r f. let s = k.sizes i name r f in let g = grows name s.0 s.1 in ((g.0, g.1), away i (w.nodes i) name r f (k.fits i));
+      live = λ name. own_live (is_mine (w.nodes i) name) (seen (w.nodes i) name) ((k.fits i).each name).own;
     }
 
     at_home : (q : Name) → (q.home == i) ≡ true → home_of n q ≡ None → table_of q w ≡ None
@@ -241,7 +241,7 @@ whole_stepped w drafts later arrays i e inbox parcels us left lost o came writte
     agrees_now q (side_acts next ms none f a p here count s happens) = ap (λ y. expected y (m.remotes q)) (f ∙ none) ∙ here
     agrees_now q (absent a b f g r p s) = ap (λ y. expected y (m.remotes q)) (g ∙ sym f) ∙ ap (λ y. expected (home_of n q) y) r ∙ k.agrees i q ∙ sym s
     agrees_now q (made size a b here f g r p s) =
-        ap (λ y. expected y (m.remotes q)) g ∙ sym (ap (λ y. expected y (n.remotes q)) f ∙ ap (λ y. expected None y) (no_side w drafts arrays us lost q i k (at_home q here f))) ∙ k.agrees i q ∙ sym s
+        ap (λ y. expected y (m.remotes q)) g ∙ sym (ap (λ y. expected y (n.remotes q)) f ∙ ap (λ y. expected None y) (no_side w arrays us lost q i k (at_home q here f))) ∙ k.agrees i q ∙ sym s
 
     counts_now : (q : Name) → Acts K q i (came q) (written q) n o.node o.posts → CountFits (section_at q m.sections)
     counts_now q (nothing a b f r p s) = subst (λ y. CountFits y) (sym s) (k.counts i q)
@@ -299,10 +299,10 @@ whole_stepped w drafts later arrays i e inbox parcels us left lost o came writte
     new_region : (q : Name) (h : Home) (new : New q h) → table_of q w ≡ None → created n.nodes new.0 (λ j. new.0) ≡ sight q h v.nodes (messages_of now) (bytes_after (written q) (arrays q))
     new_region q h new none =
         let sides : (j : ℕ) → new_remote new.0 ≡ side h.size ((v.nodes j).remotes q) =
-        λ j. sym (ap (λ y. side h.size y) (of_node w.nodes i m (λ l y. y.remotes q ≡ None) (new.5 ∙ no_side w drafts arrays us lost q i k none) (λ l other. no_side w drafts arrays us lost q l k none) j) ∙ ap (λ (y : Home). new_remote y.size) new.1) in
+        λ j. sym (ap (λ y. side h.size y) (of_node w.nodes i m (λ l y. y.remotes q ≡ None) (new.5 ∙ no_side w arrays us lost q i k none) (λ l other. no_side w arrays us lost q l k none) j) ∙ ap (λ (y : Home). new_remote y.size) new.1) in
         let empty : [] ≡ find_all (flying q) (messages_of now) =
         sym (moves_nothing (moves q) (ap (λ l. find_all (flying q) (messages_of left) ++ l) new.6 ∙ append_nil _
-        ∙ subst (λ c. Comes c (find_all (flying q) (messages_of us)) (find_all (flying q) (messages_of left))) new.3 (x.comes q) ∙ nothing_flies w drafts arrays us lost q k none)) in
+        ∙ subst (λ c. Comes c (find_all (flying q) (messages_of us)) (find_all (flying q) (messages_of left))) new.3 (x.comes q) ∙ nothing_flies w arrays us lost q k none)) in
         let bytes : replicate new.0 0 ≡ bytes_after (written q) (arrays q) = sym (ap (λ y. bytes_after y (arrays q)) new.4) in
         λ t. record { home = sym new.1 t; remotes = λ j. sides j t; flight = empty t; array = bytes t }
 

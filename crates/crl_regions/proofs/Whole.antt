@@ -35,9 +35,9 @@ use Rattle.crl_regions.proofs.Kept.{Housed}
 use Rattle.crl_regions.proofs.Fair.{FairKind, Fair, AllFair}
 use Rattle.crl_regions.proofs.Messages.{Passes}
 
--- us is what is under way; pieces that went to no node of the world are lost. The drafts are those of the nodes' actors, and the arrays the bytes of each region in the single machine.
-pub record Whole (w : World) (drafts : ℕ → Name → List ℕ) (arrays : Name → List ℕ) (us : List Under) (lost : List Piece) : Type 0 where
-  pub fits : (i : ℕ) → Fits i (w.nodes i) (drafts i)
+-- us is what is under way; pieces that went to no node of the world are lost. The arrays are the bytes of each region in the single machine.
+pub record Whole (w : World) (arrays : Name → List ℕ) (us : List Under) (lost : List Piece) : Type 0 where
+  pub fits : (i : ℕ) → Fits i (w.nodes i)
   pub agrees : (i : ℕ) (q : Name) → expected (home_of (w.nodes i) q) ((w.nodes i).remotes q) ≡ section_at q (w.nodes i).sections
   pub counts : (i : ℕ) (q : Name) → CountFits (section_at q (w.nodes i).sections)
   pub housed : (i : ℕ) → Housed (w.nodes i)
@@ -49,8 +49,8 @@ pub record Whole (w : World) (drafts : ℕ → Name → List ℕ) (arrays : Name
   pub flies : IsFlight us (pieces_in_boxes w ++ lost) (λ i. (w.nodes i).parcels)
   pub coherent : (q : Name) (h : Home) → table_of q w ≡ Some h → IsCoherent q.home (sight q h w.nodes (messages_of us) (arrays q))
 
-pub local : (w : World) (drafts : ℕ → Name → List ℕ) (arrays : Name → List ℕ) (us : List Under) (lost : List Piece) (i : ℕ) → Whole w drafts arrays us lost → Local i (drafts i) (w.nodes i)
-local w drafts arrays us lost i k = record {
+pub local : (w : World) (arrays : Name → List ℕ) (us : List Under) (lost : List Piece) (i : ℕ) → Whole w arrays us lost → Local i (w.nodes i)
+local w arrays us lost i k = record {
   fits = k.fits i;
   agrees = k.agrees i;
   counts = k.counts i;
@@ -59,8 +59,8 @@ local w drafts arrays us lost i k = record {
 }
 
 -- a table at a node is the region's
-pub table_at : (w : World) (drafts : ℕ → Name → List ℕ) (arrays : Name → List ℕ) (us : List Under) (lost : List Piece) (i : ℕ) (name : Name) (h : Home) → Whole w drafts arrays us lost → home_of (w.nodes i) name ≡ Some h → (i ≡ name.home) × (table_of name w ≡ Some h)
-table_at w drafts arrays us lost i name h k e =
+pub table_at : (w : World) (arrays : Name → List ℕ) (us : List Under) (lost : List Piece) (i : ℕ) (name : Name) (h : Home) → Whole w arrays us lost → home_of (w.nodes i) name ≡ Some h → (i ≡ name.home) × (table_of name w ≡ Some h)
+table_at w arrays us lost i name h k e =
     let same : i ≡ name.home = sym (k.fits i).me ∙ eqb-true (w.nodes i).me name.home (home_is (w.nodes i) name h e) in (same, subst (λ j. home_of (w.nodes j) name ≡ Some h) same e)
 
 -- Mail under way is under way in the region.
@@ -90,9 +90,9 @@ side_asks : (size : ℕ) (o : Option Remote) (q : Name) (a : Activity) → Askin
 side_asks size None q a f = inl refl
 side_asks size (Some r) q a f = f
 
-asks_or_waits : (w : World) (drafts : ℕ → Name → List ℕ) (arrays : Name → List ℕ) (us : List Under) (lost : List Piece) (q : Name) (h : Home) (n : ℕ) → Whole w drafts arrays us lost → table_of q w ≡ Some h → n ≢ q.home
+asks_or_waits : (w : World) (arrays : Name → List ℕ) (us : List Under) (lost : List Piece) (q : Name) (h : Home) (n : ℕ) → Whole w arrays us lost → table_of q w ≡ Some h → n ≢ q.home
     → let p = pair_of h.listed h.queue (λ j. side h.size ((w.nodes j).remotes q)) (find_all (flying q) (messages_of us)) n in (p.pending ≡ []) ⊎ ((w.nodes n).activity ≡ Waiting (ForSection q))
-asks_or_waits w drafts arrays us lost q h n k there other =
+asks_or_waits w arrays us lost q h n k there other =
     let p = pair_of h.listed h.queue (λ j. side h.size ((w.nodes j).remotes q)) (find_all (flying q) (messages_of us)) n in
     elim (side_asks h.size ((w.nodes n).remotes q) q (w.nodes n).activity ((k.fits n).each q).asking) [
       | inl none ↦ inl (idle_place p.remote.asking p.pending p.grants ((k.coherent q h there).loose.pairs n other).ask none)
@@ -109,18 +109,18 @@ serial_at : {A : Type 0} (s : ℕ) (xs : List (Option A)) → at_serial (s + 1) 
 serial_at s xs =
     let e : s + 1 - 1 ≡ s = omega arith in cond-false (s + 1 == 0) None (at (s + 1 - 1) xs) (ne_eqb (s + 1) 0 (λ w. omega arith)) ∙ ap (λ m. at m xs) e
 
-pub none_queued : (w : World) (drafts : ℕ → Name → List ℕ) (arrays : Name → List ℕ) (us : List Under) (lost : List Piece) (i : ℕ) (name : Name) (h : Home) (n : ℕ) (write : Bool) (have : ℕ) (rest : List Flying) → Whole w drafts arrays us lost → table_of name w ≡ Some h → name.home ≡ i → n ≢ name.home
+pub none_queued : (w : World) (arrays : Name → List ℕ) (us : List Under) (lost : List Piece) (i : ℕ) (name : Name) (h : Home) (n : ℕ) (write : Bool) (have : ℕ) (rest : List Flying) → Whole w arrays us lost → table_of name w ≡ Some h → name.home ≡ i → n ≢ name.home
     → Took (flies n (Ask write have)) (find_all (flying name) (messages_of us)) rest → is_queued_in n (w.nodes i).homes ≡ false
-none_queued w drafts arrays us lost i name h n write have rest k there at_i other took = queued_in n (w.nodes i).homes each
+none_queued w arrays us lost i name h n write have rest k there at_i other took = queued_in n (w.nodes i).homes each
   where
     waits : (w.nodes n).activity ≡ Waiting (ForSection name)
-    waits = elim (asks_or_waits w drafts arrays us lost name h n k there other) [
+    waits = elim (asks_or_waits w arrays us lost name h n k there other) [
       | inl none ↦ absurd (took_nothing (took_some (of_node n (asked_in n)) took (record { node = n; write = write; have = have }) (grind arith)) (left_none _ _ none).1)
       | inr a ↦ a
     ]
 
     each : (s : ℕ) (g : Home) → at s (w.nodes i).homes ≡ Some g → is_queued n g.queue ≡ false
-    each s g e = elim (asks_or_waits w drafts arrays us lost q g n k at_q (λ x. other (x ∙ sym at_i))) [
+    each s g e = elim (asks_or_waits w arrays us lost q g n k at_q (λ x. other (x ∙ sym at_i))) [
       | inl none ↦ queued_none n g.queue (left_none _ _ none).0
       | inr a ↦ (let same : name ≡ q = (let both : Waiting (ForSection name) ≡ Waiting (ForSection q) = sym waits ∙ a in cc) in
           let table : h ≡ g = (let both : Some h ≡ Some g = sym there ∙ subst (λ x. table_of x w ≡ Some g) (sym same) at_q in cc) in
@@ -141,9 +141,9 @@ section_idle (section.Reading count) (Some c) w f = absurd f
 section_idle section.Writing None w f = absurd f
 section_idle section.Writing (Some c) w f = absurd f
 
-pub passes : (w : World) (drafts : ℕ → Name → List ℕ) (arrays : Name → List ℕ) (us : List Under) (lost : List Piece) (i : ℕ) (m : Message) (inbox : List Piece) (parcels : PartsGathered) (rest : List Message) → Whole w drafts arrays us lost → m.addressee ≡ i → Fair w.count (λ q. table_of q w) m
+pub passes : (w : World) (arrays : Name → List ℕ) (us : List Under) (lost : List Piece) (i : ℕ) (m : Message) (inbox : List Piece) (parcels : PartsGathered) (rest : List Message) → Whole w arrays us lost → m.addressee ≡ i → Fair w.count (λ q. table_of q w) m
     → Took m (messages_of us) rest → Passes m.sender m.kind (record (w.nodes i) { inbox = inbox; parcels = parcels })
-passes w drafts arrays us lost i m inbox parcels rest k to fair took = go m.kind refl fair
+passes w arrays us lost i m inbox parcels rest k to fair took = go m.kind refl fair
   where
     n : Node
     n = record (w.nodes i) { inbox = inbox; parcels = parcels }
@@ -153,13 +153,13 @@ passes w drafts arrays us lost i m inbox parcels rest k to fair took = go m.kind
 
     table : (name : Name) (h g : Home) → table_of name w ≡ Some h → home_of n name ≡ Some g → (n.me ≡ name.home) × (h ≡ g)
     table name h g there e =
-        let t = table_at w drafts arrays us lost i name g k e in ((k.fits i).me ∙ t.0, (let both : Some h ≡ Some g = sym there ∙ t.1 in cc))
+        let t = table_at w arrays us lost i name g k e in ((k.fits i).me ∙ t.0, (let both : Some h ≡ Some g = sym there ∙ t.1 in cc))
 
     go : (x : Kind) → m.kind ≡ x → FairKind w.count (λ q. table_of q w) m.sender m.addressee x → Passes m.sender x n
     go (kind.Ask name write have) e f =
         let h = f.3.0 in let there = f.3.1 in let other = eqb-false m.sender name.home f.1 in
         let t = to_home_took name m (Ask write have) (messages_of us) rest e f.1 took in (
-          none_queued w drafts arrays us lost i name h m.sender write have _ k there (f.0 ∙ to) other t,
+          none_queued w arrays us lost i name h m.sender write have _ k there (f.0 ∙ to) other t,
           λ g x o. absurd (let u = table name h g there x in
               asked_quiet name.home (region name h) (record { node = m.sender; write = write; have = have }) (k.coherent name h there) other
               (subst (λ (y : Home). (home_takes_ask name.home (record { node = m.sender; write = write; have = have }) y).opened ≡ true) (sym u.1)
