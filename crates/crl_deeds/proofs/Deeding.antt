@@ -21,11 +21,11 @@ use Rattle.crl_protocol.specs.Gathering.{all_parts, after_parts, gathers}
 use Rattle.crl_protocol.specs.Sections.{section_at, bytes_at}
 use Rattle.crl_protocol.specs.Node.{Node, Done, Refused, Outcome, only, COUNT_LIMIT, serials_used, is_mine, home_of, lifetime_of, with_mapping, map_count, entry_of, section_opens}
 use Rattle.crl_protocol.specs.Sectioning.{with_entry_first, forgets_over, forgets, starts_over_remote, starts_over_home, starts, after_home_end, after_remote, closes, ends_over_remote, ends_over_home, flushes_remote}
-use Rattle.crl_protocol.specs.Verdict.{refuse_if, of_open, of_start, of_mapped, of_cached, of_map, of_delete, of_part, verdict, refuses_call}
+use Rattle.crl_protocol.specs.Verdict.{refuse_if, of_open, of_start, of_end, of_mapped, of_cached, of_map, of_delete, of_part, verdict, refuses_call}
 use Rattle.crl_protocol.specs.Calls.{deletes_own, deletes, maps_cached, maps_over, forgets_evicted, unmaps_over, after_own_part, comes, takes_call, call_or_refuse, node_calls}
 use Rattle.crl_deeds.proofs.Fitting.{same_name}
 use Rattle.crl_deeds.proofs.Calling.{none_of, live_by, mapped_by}
-use Rattle.crl_deeds.specs.Deeds.{Cause, Calls, parting, forgotten, StartsCall, to_read, to_write, EndsCall, a_read, a_write, Idles, Deed, copies, lives, rounds, notes, refuses, idles, home_opens, home_waits, side_opens, side_waits, home_ends, side_ends, side_flushes, ends_nowhere, flushes_own, flushes_nowhere}
+use Rattle.crl_deeds.specs.Deeds.{Cause, Calls, parting, forgotten, CanStart, CanEnd, CanFlush, StartsCall, to_read, to_write, EndsCall, a_read, a_write, Idles, Deed, copies, lives, rounds, notes, refuses, idles, home_opens, home_waits, side_opens, side_waits, home_ends, side_ends, side_flushes, ends_nowhere, flushes_own, flushes_nowhere}
 use Rattle.crl_deeds.specs.Deeds as deed
 use Rattle.crl_deeds.specs.Deeds.{with_parts, next_round}
 
@@ -150,7 +150,7 @@ nowhere : (n : Node) (c : Call) (write : Bool) (name : Name) → StartsCall c wr
 nowhere n c write name (to_read q) e f = (e, f)
 nowhere n c write name (to_write q) e f = (e, f)
 
-start_deed : (n : Node) (c : Call) (write : Bool) (name : Name) → StartsCall c write name → of_start write (section_at name n.sections) ≡ None → Deed n (Calls c) (starts write name n)
+start_deed : (n : Node) (c : Call) (write : Bool) (name : Name) → StartsCall c write name → CanStart n write name → Deed n (Calls c) (starts write name n)
 unfolding section_opens
 start_deed n c write name is v = go (home_of n name) refl
   where
@@ -177,7 +177,7 @@ end_deed n c name w ends lowers is = go (home_of n name) refl
     go (Some h) e = copies (home_ends c name w ends lowers h is e)
 
 -- a flush
-flush_deed : (n : Node) (name : Name) → is_closed (section_at name n.sections) ≡ true → Deed n (Calls (call.Flush name)) (with_entry_first (what.Flush name) (if is_mine n name then only n Done else flushes_remote name (n.remotes name) n))
+flush_deed : (n : Node) (name : Name) → CanFlush n name → Deed n (Calls (call.Flush name)) (with_entry_first (what.Flush name) (if is_mine n name then only n Done else flushes_remote name (n.remotes name) n))
 unfolding after_remote
 flush_deed n name closed =
     cond_both (is_mine n name) _ _ (λ o. Deed n (Calls (call.Flush name)) (with_entry_first (what.Flush name) o)) (λ mine. notes (flushes_own name mine closed)) (λ other. there (n.remotes name) other refl)
@@ -198,6 +198,12 @@ come_deed n part v =
     gathered None first e = rounds (deed.comes_home part first v e)
     gathered (Some ps) first e = rounds (deed.comes_last part ps first v e)
 
+can_start : (n : Node) (write : Bool) (name : Name) → (refuse_if (map_count (n.maps name) == 0) NotMapped ≡ None) × (of_start write (section_at name n.sections) ≡ None) → CanStart n write name
+can_start n write name v = record { mapped = not_refused _ _ v.0; section = v.1 }
+
+can_end : (n : Node) (write : Bool) (name : Name) → (refuse_if (map_count (n.maps name) == 0) NotMapped ≡ None) × (of_end write (section_at name n.sections) ≡ None) → CanEnd n write name
+can_end n write name v = record { mapped = not_refused _ _ v.0; section = v.1 }
+
 -- any call
 taken_deed : (n : Node) (c : Call) → verdict n c ≡ None → Deed n (Calls c) (takes_call c n)
 unfolding verdict takes_call
@@ -209,13 +215,13 @@ taken_deed n (call.Unmap name) v =
     let m = mapped_by (n.maps name) parts.0 in
     subst (λ o. Deed n (Calls (call.Unmap name)) (with_entry_first (what.Unmap name) (unmaps_over name o n))) (sym m.1)
     (unmap_deed n name m.0 m.1 (not_refused _ _ (subst (λ x. refuse_if (map_count x == 0) NotMapped ≡ None) m.1 parts.0)) (closed_by n name parts.1))
-taken_deed n (call.StartRead name) v = start_deed n (call.StartRead name) false name (to_read name) (none_of _ _ v).1
-taken_deed n (call.EndRead name) v = end_deed n (call.EndRead name) name _ _ _ (a_read name (none_of _ _ v).1)
-taken_deed n (call.StartWrite name) v = start_deed n (call.StartWrite name) true name (to_write name) (none_of _ _ v).1
-taken_deed n (call.EndWrite name after) v = end_deed n (call.EndWrite name after) name _ _ _ (a_write name after (none_of _ _ v).1)
+taken_deed n (call.StartRead name) v = start_deed n (call.StartRead name) false name (to_read name) (can_start n false name (none_of _ _ v))
+taken_deed n (call.EndRead name) v = end_deed n (call.EndRead name) name _ _ _ (a_read name (can_end n false name (none_of _ _ v)))
+taken_deed n (call.StartWrite name) v = start_deed n (call.StartWrite name) true name (to_write name) (can_start n true name (none_of _ _ v))
+taken_deed n (call.EndWrite name after) v = end_deed n (call.EndWrite name after) name _ _ _ (a_write name after (can_end n true name (none_of _ _ v)))
 taken_deed n (call.Put name offset len) v = idles tt
 taken_deed n (call.Add name offset) v = idles tt
-taken_deed n (call.Flush name) v = flush_deed n name (closed_by n name (none_of _ _ v).1)
+taken_deed n (call.Flush name) v = let parts = none_of _ _ v in flush_deed n name (record { mapped = not_refused _ _ parts.0; closed = closed_by n name parts.1 })
 taken_deed n (call.Come part) v = come_deed n part v
 
 pub call_deed : (n : Node) (c : Call) → Deed n (Calls c) (node_calls c n)

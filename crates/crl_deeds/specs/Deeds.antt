@@ -31,7 +31,7 @@ use Rattle.crl_protocol.specs.Remote.{Remote, RemoteStep, new_remote, remote_sta
 use Rattle.crl_protocol.specs.Lifetimes.{Mapping, new_mapping, cached_size, cache_without, cache_with, members}
 use Rattle.crl_protocol.specs.Gathering.{Gathering, no_parts, all_parts, awaits}
 use Rattle.crl_protocol.specs.Sections.{section_at, bytes_at, section_begins, is_writing}
-use Rattle.crl_protocol.specs.Node.{Node, Mapped, Done, Refused, Wait, ForSection, ForMap, ForDelete, ForRound, Free, Waiting, Outcome, only, COUNT_LIMIT, serials_used, next_name, is_mine, is_real, home_of, lifetime_of, with_home, with_lifetime, with_remote, with_mapping, message_to, letter_messages, mail_messages, entry_of, SectionOpening, section_opening}
+use Rattle.crl_protocol.specs.Node.{Node, Mapped, Done, Refused, Wait, ForSection, ForMap, ForDelete, ForRound, Free, Waiting, Outcome, only, COUNT_LIMIT, serials_used, next_name, is_mine, is_real, home_of, lifetime_of, with_home, with_lifetime, with_remote, with_mapping, map_count, message_to, letter_messages, mail_messages, entry_of, SectionOpening, section_opening}
 use Rattle.crl_protocol.specs.Sectioning.{waits, opens_now, copy_bytes, closes}
 use Rattle.crl_protocol.specs.Verdict.{of_create, of_part, of_start, of_end, word_of, place_of, verdict}
 use Rattle.crl_protocol.specs.Calls.{creates, purges, maps_in, size_of, result_of, answer_of, results}
@@ -59,14 +59,27 @@ parting n name (Some r) = mail_messages n name (remote_flushes r).posts
 abbrev pub forgotten : Name → Node → Node
 forgotten name n = with_remote name None n
 
+-- What a node finds of a region whose section starts or ends, or that it flushes: it is mapped, and its section lets it.
+pub record CanStart (n : Node) (write : Bool) (name : Name) : Type 0 where
+  pub mapped : (map_count (n.maps name) == 0) ≡ false
+  pub section : of_start write (section_at name n.sections) ≡ None
+
+pub record CanEnd (n : Node) (write : Bool) (name : Name) : Type 0 where
+  pub mapped : (map_count (n.maps name) == 0) ≡ false
+  pub section : of_end write (section_at name n.sections) ≡ None
+
+pub record CanFlush (n : Node) (name : Name) : Type 0 where
+  pub mapped : (map_count (n.maps name) == 0) ≡ false
+  pub closed : is_closed (section_at name n.sections) ≡ true
+
 -- The calls and messages that step a region's table at its home, and a node's side elsewhere.
 pub data StartsCall : Call → Bool → Name → Type 0 where
   to_read : (name : Name) → StartsCall (call.StartRead name) false name
   to_write : (name : Name) → StartsCall (call.StartWrite name) true name
 
 pub data EndsCall (bytes : List ℕ) (n : Node) : Call → Name → What → (Home → HomeStep) → (Remote → RemoteStep) → Type 0 where
-  a_read : (name : Name) → of_end false (section_at name n.sections) ≡ None → EndsCall bytes n (call.EndRead name) name (what.Read name bytes) (home_ends_read n.me) remote_ends_read
-  a_write : (name : Name) (after : List ℕ) → of_end true (section_at name n.sections) ≡ None → EndsCall bytes n (call.EndWrite name after) name (what.Write name bytes after) (home_ends_write n.me after) (remote_ends_write after)
+  a_read : (name : Name) → CanEnd n false name → EndsCall bytes n (call.EndRead name) name (what.Read name bytes) (home_ends_read n.me) remote_ends_read
+  a_write : (name : Name) (after : List ℕ) → CanEnd n true name → EndsCall bytes n (call.EndWrite name after) name (what.Write name bytes after) (home_ends_write n.me after) (remote_ends_write after)
 
 pub data Serves (n : Node) (h : Home) : ℕ → Kind → Name → HomeStep → Type 0 where
   ask_comes : (from : ℕ) (name : Name) (write : Bool) (have : ℕ) → is_queued_in from n.homes ≡ false
@@ -82,23 +95,23 @@ pub data CallsBack (r : Remote) : Kind → Name → RemoteStep → Type 0 where
 
 -- Deeds over the copies of a region: at its home, and at the side of another node.
 pub data Copies (n : Node) : Cause → Outcome → Type 0 where
-  home_opens : (c : Call) (write : Bool) (name : Name) (h : Home) → StartsCall c write name → home_of n name ≡ Some h → of_start write (section_at name n.sections) ≡ None
+  home_opens : (c : Call) (write : Bool) (name : Name) (h : Home) → StartsCall c write name → home_of n name ≡ Some h → CanStart n write name
       → (home_starts n.me write h).opened ≡ true
       → Copies n (Calls c) (let s = home_starts n.me write h in opens_now (opened_at write name s.home.bytes (with_home name s.home n)) (letter_messages n name s.posts))
-  home_waits : (c : Call) (write : Bool) (name : Name) (h : Home) → StartsCall c write name → home_of n name ≡ Some h → of_start write (section_at name n.sections) ≡ None
+  home_waits : (c : Call) (write : Bool) (name : Name) (h : Home) → StartsCall c write name → home_of n name ≡ Some h → CanStart n write name
       → (home_starts n.me write h).opened ≡ false
       → Copies n (Calls c) (let s = home_starts n.me write h in waits (with_home name s.home n) (ForSection name) (letter_messages n name s.posts))
-  side_opens : (c : Call) (write : Bool) (name : Name) (r : Remote) → StartsCall c write name → home_of n name ≡ None → n.remotes name ≡ Some r → of_start write (section_at name n.sections) ≡ None
+  side_opens : (c : Call) (write : Bool) (name : Name) (r : Remote) → StartsCall c write name → home_of n name ≡ None → n.remotes name ≡ Some r → CanStart n write name
       → (remote_starts write r).opened ≡ true
       → Copies n (Calls c) (let s = remote_starts write r in opens_now (opened_at write name (copy_bytes s.remote.copy) (with_remote name (Some s.remote) n)) (mail_messages n name s.posts))
-  side_waits : (c : Call) (write : Bool) (name : Name) (r : Remote) → StartsCall c write name → home_of n name ≡ None → n.remotes name ≡ Some r → of_start write (section_at name n.sections) ≡ None
+  side_waits : (c : Call) (write : Bool) (name : Name) (r : Remote) → StartsCall c write name → home_of n name ≡ None → n.remotes name ≡ Some r → CanStart n write name
       → (remote_starts write r).opened ≡ false
       → Copies n (Calls c) (let s = remote_starts write r in waits (with_remote name (Some s.remote) n) (ForSection name) (mail_messages n name s.posts))
   home_ends : (c : Call) (name : Name) (w : What) (ends : Home → HomeStep) (lowers : Remote → RemoteStep) (h : Home) → EndsCall (bytes_at name n.sections) n c name w ends lowers → home_of n name ≡ Some h
       → Copies n (Calls c) (record { node = with_home name (ends h).home (closes name n); answer = Done; entries = entry_of n.me w ∷ []; posts = letter_messages n name (ends h).posts })
   side_ends : (c : Call) (name : Name) (w : What) (ends : Home → HomeStep) (lowers : Remote → RemoteStep) (r : Remote) → EndsCall (bytes_at name n.sections) n c name w ends lowers → home_of n name ≡ None → n.remotes name ≡ Some r
       → Copies n (Calls c) (record { node = with_remote name (Some (lowers r).remote) (closes name n); answer = Done; entries = entry_of n.me w ∷ []; posts = mail_messages n name (lowers r).posts })
-  side_flushes : (name : Name) (r : Remote) → is_mine n name ≡ false → n.remotes name ≡ Some r → is_closed (section_at name n.sections) ≡ true
+  side_flushes : (name : Name) (r : Remote) → is_mine n name ≡ false → n.remotes name ≡ Some r → CanFlush n name
       → Copies n (Calls (call.Flush name)) (record { node = with_remote name (Some (remote_flushes r).remote) n; answer = Done; entries = entry_of n.me (what.Flush name) ∷ []; posts = mail_messages n name (remote_flushes r).posts })
   home_serves : (from : ℕ) (k : Kind) (name : Name) (h : Home) (s : HomeStep) → Serves n h from k name s → home_of n name ≡ Some h → s.opened ≡ false
       → Copies n (Hears from k) (record { node = with_home name s.home n; answer = Done; entries = []; posts = letter_messages n name s.posts })
@@ -276,8 +289,8 @@ Idles (Hears from (kind.Release name version bytes)) n = (h : Home) → home_of 
 -- A call about nothing here that still leaves its entry: an end without a copy, and a flush.
 pub data Notes (n : Node) : Call → What → Node → Type 0 where
   ends_nowhere : (c : Call) (name : Name) (w : What) (ends : Home → HomeStep) (lowers : Remote → RemoteStep) → EndsCall (bytes_at name n.sections) n c name w ends lowers → IsNowhere n name → Notes n c w (closes name n)
-  flushes_own : (name : Name) → is_mine n name ≡ true → is_closed (section_at name n.sections) ≡ true → Notes n (call.Flush name) (what.Flush name) n
-  flushes_nowhere : (name : Name) → is_mine n name ≡ false → n.remotes name ≡ None → is_closed (section_at name n.sections) ≡ true → Notes n (call.Flush name) (what.Flush name) n
+  flushes_own : (name : Name) → is_mine n name ≡ true → CanFlush n name → Notes n (call.Flush name) (what.Flush name) n
+  flushes_nowhere : (name : Name) → is_mine n name ≡ false → n.remotes name ≡ None → CanFlush n name → Notes n (call.Flush name) (what.Flush name) n
 
 pub data Deed (n : Node) : Cause → Outcome → Type 0 where
   copies : {cause : Cause} {o : Outcome} → Copies n cause o → Deed n cause o
