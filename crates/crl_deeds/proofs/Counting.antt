@@ -21,46 +21,12 @@ use Rattle.crl_protocol.specs.Calls.{creates, results_from}
 use Rattle.crl_protocol.specs.Handlers.{purges_waiting}
 use Rattle.crl_protocol.specs.Parcels.{with_load}
 use Rattle.crl_protocol.specs.World.{new_world, world_of, IsRun}
+pub use Rattle.crl_deeds.specs.Counts.{Counts, WaitsAway, PlainKind, Plain, GoingFew, Counted}
 use Rattle.crl_deeds.proofs.Fitting.{by_name}
 use Rattle.crl_deeds.proofs.Tabling.{lifetime_put}
 use Rattle.crl_deeds.proofs.Placing.{all_append}
 use Rattle.crl_deeds.specs.Deeds.{Cause, parting, Copies, Lives, Rounds, Notes, Deed, copies, lives, rounds, notes, home_opens, home_waits, side_opens, side_waits, home_ends, side_ends, side_flushes, home_serves, home_serves_own, grant_comes, side_called, made, maps_more, maps_own, maps_cached, map_asks, map_told, map_refused, map_comes, map_denied, unmaps_one, unmaps_own, unmaps_doomed, unmaps_keeping, unmaps_evicting, deletes_alone, deletes_own, delete_asks, deletes_alone_for, deletes_for, delete_refused, delete_comes, dooms, drops, warns, counts_off, ends_own, ends_for, comes_away, comes_last, part_comes, part_last, part_last_idle, flushes_own}
 use Rattle.crl_deeds.proofs.Turning.{Came, Local, Held, lives_frame, held_run}
-
-abbrev pub Counts : Bool → Option Mapping → Type 0
-Counts mine None = Unit {0}
-Counts mine (Some m) = (1 ≤ m.count) × (m.count < 2 ^ 32) × (mine ≡ true → m.doomed ≡ false)
-
-abbrev pub WaitsAway : ℕ → Activity → Type 0
-WaitsAway me (Waiting (ForMap q purged)) = (q.home == me) ≡ false
-WaitsAway me _ = Unit {0}
-
--- a home isn't told of its own regions, nor asks for them; what isn't about copies goes to a node of the world
-abbrev pub PlainKind : ℕ → ℕ → ℕ → Kind → Type 0
-PlainKind count from to (kind.InfoAsk name) = ((name.home == from) ≡ false) × (to < count)
-PlainKind count from to (kind.InfoIs name t) = to < count
-PlainKind count from to (kind.DeleteAsk name) = to < count
-PlainKind count from to (kind.DeleteIs name t) = to < count
-PlainKind count from to (kind.Purge name) = ((name.home == to) ≡ false) × (to < count)
-PlainKind count from to (kind.Purged name) = to < count
-PlainKind count from to (kind.Come round part) = to < count
-PlainKind count from to (kind.Result round fold) = to < count
-PlainKind count from to _ = Unit {0}
-
-abbrev pub Plain : ℕ → Message → Type 0
-Plain count m = (m.sender < count) × PlainKind count m.sender m.addressee m.kind
-
-abbrev pub GoingFew : ℕ → Stage → Type 0
-GoingFew count (stage.Going deleter) = deleter < count
-GoingFew count _ = Unit {0}
-
-pub record Counted (count i : ℕ) (n : Node) : Type 0 where
-  pub me : n.me ≡ i
-  pub few : n.nodes ≡ count
-  pub maps : (q : Name) → Counts (is_mine n q) (n.maps q)
-  pub waits : WaitsAway n.me n.activity
-  pub asked : (q : Name) → (lifetime_of n q).asked n.me ≡ false
-  pub deleters : (q : Name) → GoingFew count (lifetime_of n q).stage
 
 -- Maps.
 counts_put : (n : Node) (name : Name) (o : Option Mapping) → ((q : Name) → Counts (is_mine n q) (n.maps q)) → Counts (is_mine n name) o → (q : Name) → Counts (is_mine n q) (at_name n.maps name o q)

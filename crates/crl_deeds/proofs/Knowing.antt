@@ -24,12 +24,10 @@ use Rattle.crl_deeds.proofs.Counting.{Counted, PlainKind, Plain, counted_local, 
 use Rattle.crl_deeds.specs.Deeds.{FreeIf, Cause, Calls, Hears, Copies, Lives, Rounds, Notes, Idles, Deed, copies, lives, rounds, notes, refuses, idles, home_opens, home_waits, home_ends, home_serves, home_serves_own, made, used_up, map_told, deletes_alone, deletes_own, deletes_alone_for, deletes_for, counts_off, ends_own, ends_for, comes_away, flushes_own}
 use Rattle.crl_protocol.specs.Home.{new_home}
 use Rattle.crl_deeds.proofs.Turning.{Local}
+pub use Rattle.crl_deeds.specs.Counts.{NoneYet, Known}
+pub use Rattle.crl_deeds.specs.Tokens.{Life}
 use Rattle.crl_deeds.proofs.Totals.{on_piece, weigh_took, sum, sum_part, load, Tokens, Balance, Balanced, token_turn}
 use Rattle.crl_deeds.proofs.Spans.{Span, part_same, keyed_none, came, span_copies, span_rounds, span_notes}
-
--- No lifetime stands past the serials that were used.
-abbrev pub NoneYet : Node → Type 0
-NoneYet n = (s : ℕ) → serials_used n < s → (n.lifetimes s).stage ≡ stage.Unknown
 
 length_end : {A : Type 0} (xs : List A) (x : A) → length (xs ++ x ∷ []) ≡ length xs + 1
 length_end [] x = refl
@@ -105,12 +103,6 @@ none_local count = record {
   parts = λ m part h. tt;
 }
 
--- What is known of every world of a run.
-pub record Known (w : World) : Type 0 where
-  pub fits : (i : ℕ) → Fits i (w.nodes i)
-  pub held : Held (Counted w.count) (Plain w.count) w
-  pub none : Held (λ i n. NoneYet n) (λ m. Unit {0}) w
-
 pub known_step : (w : World) (e : Event) → is_enabled e w ≡ true → Known w → Known (step e w).world
 known_step w e h x =
     let t = turn_of w e h in
@@ -130,14 +122,6 @@ known_start count capacity = record {
 pub known_run : (w : World) (es : List Event) → IsRunFrom w es → Known w → Known (world_after w es)
 known_run w [] r x = x
 known_run w (e ∷ es) r x = known_run (step e w).world es r.1 (known_step w e r.0 x)
-
--- The tokens of one lifetime: of what node i waits for.
-pub record Life (i : ℕ) (f : Message → ℕ) (g : Node → ℕ) (waits : Activity → ℕ) : Type 0 where
-  pub tokens : Tokens f g waits
-  pub span : Span f g waits
-  pub lives : (j : ℕ) (n : Node) (cause : Cause) (o : Outcome) → Lives n cause o → Fits j n → NoneYet n → FreeIf cause n → Balance f g waits i n (came f n.me cause) o
-  pub idle : (n : Node) (cause : Cause) (a : Activity) → Idles cause n → (n.me ≡ i → a ≡ n.activity) → came f n.me cause ≤ waits a → came f n.me cause ≡ 0
-  pub near : (count from to : ℕ) (k : Kind) → i < count → PlainKind count from to k → (f (record { sender = from; addressee = to; kind = k }) ≡ 0) ⊎ (to < count)
 
 life_deed : (i : ℕ) (f : Message → ℕ) (g : Node → ℕ) (waits : Activity → ℕ) → Life i f g waits → (j : ℕ) (n : Node) (cause : Cause) (o : Outcome) (a : Activity) → Deed n cause o → Fits j n → NoneYet n → Came Leaves n.me cause → FreeIf cause n
     → (n.me ≡ i → a ≡ n.activity) → came f n.me cause ≤ waits a → Balance f g waits i n (came f n.me cause) o

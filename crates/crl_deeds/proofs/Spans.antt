@@ -22,21 +22,8 @@ use Rattle.crl_deeds.proofs.Fitting.{IsAway, Leaves, Fits}
 use Rattle.crl_deeds.proofs.Opens.{own_waits, grant_waits}
 use Rattle.crl_deeds.proofs.Turning.{Came}
 use Rattle.crl_deeds.specs.Deeds.{FreeIf, Cause, Calls, Hears, parting, Copies, Rounds, Notes, home_opens, home_waits, side_opens, side_waits, home_ends, side_ends, side_flushes, home_serves, home_serves_own, grant_comes, side_called, Serves, ask_comes, copy_returns, copy_lowers, CallsBack, wholly, to_share, comes_away, comes_home, comes_last, part_comes, part_last, part_last_idle, result_comes, ends_nowhere}
+pub use Rattle.crl_deeds.specs.Tokens.{NoMail, Span, came}
 use Rattle.crl_deeds.proofs.Totals.{weigh, weighs, waited, none_to, Balance}
-
-abbrev pub NoMail : (Message → ℕ) → Type 0
-NoMail f = (from to : ℕ) (name : Name) (m : Mail) → f (record { sender = from; addressee = to; kind = kind_about name m }) ≡ 0
-
-pub record Span (f : Message → ℕ) (g : Node → ℕ) (waits : Activity → ℕ) : Type 0 where
-  pub mail : NoMail f
-  pub comes : (from to round : ℕ) (part : Part) → f (record { sender = from; addressee = to; kind = kind.Come round part }) ≡ 0
-  pub results : (from to round : ℕ) (fold : Fold) → f (record { sender = from; addressee = to; kind = kind.Result round fold }) ≡ 0
-  pub purges : (from to : ℕ) (name : Name) → f (record { sender = from; addressee = to; kind = kind.Purge name }) ≡ 0
-  pub kept : (n m : Node) → m.me ≡ n.me → m.lifetimes ≡ n.lifetimes → g m ≡ g n
-  pub section : (name : Name) → waits (Waiting (ForSection name)) ≡ 0
-  pub round : (k : ℕ) (c : CallKind) → waits (Waiting (ForRound k c)) ≡ 0
-  pub free : waits Free ≡ 0
-  pub ready : (answer : Answer) → waits (Ready answer) ≡ 0
 
 -- Only messages without bytes have a weight, and each of them is one piece.
 pub parts_none : (f : Message → ℕ) (m : Message) → ((part : List ℕ) → f (record m { kind = with_load part m.kind }) ≡ 0) → (n k : ℕ) (cells : List Cell) → weighs f (left_from (piece_of m n) k cells) ≡ 0
@@ -106,11 +93,6 @@ serves_none f g waits s n h to from k name x (copy_lowers y q version bytes e) =
 back_none : (f : Message → ℕ) (g : Node → ℕ) (waits : Activity → ℕ) → Span f g waits → (r : Remote) (to from : ℕ) (k : Kind) (name : Name) (x : RemoteStep) → CallsBack r k name x → f (record { sender = from; addressee = to; kind = k }) ≡ 0
 back_none f g waits s r to from k name x (wholly q version) = s.mail from to q (Recall version)
 back_none f g waits s r to from k name x (to_share q version) = s.mail from to q (Yield version)
-
--- what came, as it weighs
-abbrev pub came : (Message → ℕ) → ℕ → Cause → ℕ
-came f me (Calls c) = 0
-came f me (Hears from k) = f (record { sender = from; addressee = me; kind = k })
 
 -- nothing sent and the activity as before, or nothing waited for on either side
 pub even : (s x y v : ℕ) → s ≡ 0 → x ≡ y → (s + x) + v ≡ (0 + y) + v

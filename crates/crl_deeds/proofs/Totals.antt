@@ -1,5 +1,4 @@
--- Sums over all nodes, and tokens: messages and entries of tables that stand for what a node waits for. They are counted
--- in the boxes, so a message that has a weight is one piece.
+-- Sums over all nodes, and tokens.
 use Rattle.std.proofs.Common.{◌≡◌, ℕ, zero, suc, ◌+◌, ◌≤◌, ◌<◌, ◌==◌, Bool, true, false, Some, List, [], ◌∷◌, ◌++◌, if◌then◌else◌, refl, ap, sym, ◌∙◌, arith}
 use Rattle.std.proofs.lemmas.Bool.{cond-true, cond-false, eqb-true, eqb-false, ne_eqb, cases_lt}
 use Rattle.std.proofs.Math.Logic.{◌⊎◌, inl, inr}
@@ -12,15 +11,8 @@ use Rattle.crl_protocol.specs.Places.{Took, here, there}
 use Rattle.crl_protocol.specs.Node.{Node, new_node, Recorded, Note, Answer, Done, Activity, Free, Ready, Outcome, only}
 use Rattle.crl_protocol.specs.World.{World, WorldStep, new_world, boxes_from, pieces_in_boxes, note, put_in, commits, steps_node, carries}
 use Rattle.crl_deeds.specs.Deeds.{Calls, Hears, Deed}
+pub use Rattle.crl_deeds.specs.Tokens.{sum_from, sum, weigh, on_piece, weighs, Whole, load, waited, Tokens, Balance, Balanced}
 use Rattle.crl_deeds.proofs.Turning.{Frame, Turn, calls, hears, gathers, answers, carriage, rests, deed_frame, each_at}
-
--- A sum over nodes, where one of them changes.
-abbrev pub sum_from : (Node → ℕ) → ℕ → ℕ → (ℕ → Node) → ℕ
-sum_from load i zero nodes = 0
-sum_from load i (suc k) nodes = load (nodes i) + sum_from load (i + 1) k nodes
-
-abbrev pub sum : (Node → ℕ) → World → ℕ
-sum load w = sum_from load 0 w.count w.nodes
 
 at_other : (nodes : ℕ → Node) (n : Node) (i j : ℕ) → (j ≡ i → ⊥) → at_node nodes j n i ≡ nodes i
 at_other nodes n i j h = cond-false (j == i) _ _ (ne_eqb j i h)
@@ -75,11 +67,6 @@ sum_new_from load i (suc k) count capacity h = let t = sum_new_from load (i + 1)
 pub sum_new : (load : Node → ℕ) (count capacity : ℕ) → ((j : ℕ) → load (new_node count capacity j) ≡ 0) → sum load (new_world count capacity) ≡ 0
 sum_new load count capacity h = sum_new_from load 0 count count capacity h
 
--- Weights of messages.
-abbrev pub weigh : {A : Type 0} → (A → ℕ) → List A → ℕ
-weigh f [] = 0
-weigh f (m ∷ ms) = f m + weigh f ms
-
 pub weigh_append : {A : Type 0} (f : A → ℕ) (xs ys : List A) → weigh f (xs ++ ys) ≡ weigh f xs + weigh f ys
 weigh_append f [] ys = omega arith
 weigh_append f (x ∷ xs) ys = let h = weigh_append f xs ys in omega arith
@@ -88,49 +75,12 @@ pub weigh_took : {A : Type 0} (f : A → ℕ) {m : A} {xs rest : List A} → Too
 weigh_took f here = refl
 weigh_took f (there t) = let h = weigh_took f t in omega arith
 
--- those of pieces
-abbrev pub on_piece : (Message → ℕ) → Piece → ℕ
-on_piece f p = f p.message
-
-abbrev pub weighs : (Message → ℕ) → List Piece → ℕ
-weighs f ps = weigh (on_piece f) ps
-
-abbrev pub Whole : (Message → ℕ) → Type 0
-Whole f = (m : Message) → weighs f (pieces_of m) ≡ f m
-
 pub weighs_posted : (f : Message → ℕ) → Whole f → (ms : List Message) → weighs f (pieces_in ms) ≡ weigh f ms
 weighs_posted f h [] = refl
 weighs_posted f h (m ∷ ms) =
     let rest = weighs_posted f h ms in
     let one = h m in
     let both = weigh_append (on_piece f) (pieces_of m) (pieces_in ms) in omega arith
-
--- The tokens of what node i waits for: messages weigh f, tables g, and an activity wants so many.
-abbrev pub load : (Message → ℕ) → (Node → ℕ) → Node → ℕ
-load f g n = weighs f n.inbox + weighs f n.outbox + g n
-
-abbrev pub waited : (Activity → ℕ) → ℕ → Node → ℕ
-waited waits i n = if n.me == i then waits n.activity else 0
-
-pub record Tokens (f : Message → ℕ) (g : Node → ℕ) (waits : Activity → ℕ) : Type 0 where
-  pub whole : Whole f
-  pub blind : (n : Node) (inbox outbox : List Piece) (parcels : PartsGathered) (records : List Recorded) (notes : List Note) (posted : ℕ) → g (record n { inbox = inbox; outbox = outbox; parcels = parcels; records = records; notes = notes; posted = posted }) ≡ g n
-  pub answered : (n : Node) → g (record n { activity = Free }) ≡ g n
-  pub free : waits Free ≡ 0
-  pub ready : (answer : Answer) → waits (Ready answer) ≡ 0
-
--- an outcome, with what came: tokens sent and kept are those that came and were kept, by what it waits for
-abbrev pub Balance : (Message → ℕ) → (Node → ℕ) → (Activity → ℕ) → ℕ → Node → ℕ → Outcome → Type 0
-Balance f g waits i n came o = (weigh f o.posts + g o.node) + waited waits i n ≡ (came + g n) + waited waits i o.node
-
-pub record Balanced (f : Message → ℕ) (g : Node → ℕ) (waits : Activity → ℕ) (i : ℕ) (w : World) : Type 0 where
-  pub me : (j : ℕ) → (w.nodes j).me ≡ j
-  pub calls : (j : ℕ) (c : Call) (o : Outcome) → j < w.count → (w.nodes j).activity ≡ Free → Deed (w.nodes j) (Calls c) o → Balance f g waits i (w.nodes j) 0 o
-  pub hears : (j : ℕ) (p : Piece) (rest : List Piece) (parcels : PartsGathered) (part : List ℕ) (o : Outcome) → j < w.count → Took p (w.nodes j).inbox rest
-      → Deed (record (w.nodes j) { inbox = rest; parcels = parcels }) (Hears p.message.sender (with_load part p.message.kind)) o
-      → Balance f g waits i (record (w.nodes j) { inbox = rest; parcels = parcels }) (f p.message) o
-  pub gathers : (p : Piece) (key : Key) → key_of p.message ≡ Some key → f p.message ≡ 0
-  pub carriage : (j : ℕ) (p : Piece) (rest : List Piece) → j < w.count → Took p (w.nodes j).outbox rest → (f p.message ≡ 0) ⊎ (p.message.addressee < w.count)
 
 pub none_to : (b : Bool) (z : ℕ) → (if b then z else z) ≡ z
 none_to true z = refl

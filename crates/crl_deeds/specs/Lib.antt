@@ -2,3 +2,5 @@ pub mod Deeds
 pub mod Laws
 pub mod Turns
 pub mod NodeFacts
+pub mod Counts
+pub mod Tokens
