@@ -17,6 +17,7 @@ pub mod Hearing
 pub mod Informing
 pub mod Keeping
 pub mod Knowing
+pub mod Laws
 pub mod Mapping
 pub mod Obeying
 pub mod Opening

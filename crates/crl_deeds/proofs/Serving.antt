@@ -11,16 +11,9 @@ use Rattle.crl_protocol.specs.Places.{at}
 use Rattle.crl_protocol.specs.Mail.{Mail, Ask, Letter}
 use Rattle.crl_protocol.specs.Home.{Home, HomeStep, is_servable, is_to_mark, recall_or_yield, recalls_and_yields, open_own, grant_next, grant_for, opens_own_section, posts_first, serve, with_marks, home_takes_ask, bytes_after, return_fits, bytes_fit, home_takes_return, is_to_lower, home_takes_release, release_fits, own_ask, is_empty, is_reading, home_starts, home_ends_read, home_ends_write, one_section_less}
 use Rattle.crl_protocol.specs.Remote.{Copy, Remote, RemoteStep, remote_starts, starts_over, notes_due, is_newer, overtakes, recall_in, recall_over, remote_takes_recall, yield_in, yield_over, remote_takes_yield, leaves_over, lowers_over, is_closed, remote_ends_read, with_written, remote_ends_write, flushes_over, remote_flushes, gives_back, lowers, sends_nothing}
+pub use Rattle.crl_deeds.specs.TableFacts.{NoAsk, NoAsks, HomeGoes, HomeStarts, RemoteGoes, RemoteStarts}
 use Rattle.crl_deeds.proofs.Fitting.{NoOwn, OneOwn, CopyFits}
 use Rattle.crl_deeds.proofs.Placing.{all_append}
-
--- mail that is no ask
-abbrev pub NoAsk : Mail → Type 0
-NoAsk (Ask write have) = ⊥
-NoAsk _ = Unit {0}
-
-abbrev pub NoAsks : List Letter → Type 0
-NoAsks posts = AllByRecursion (λ (l : Letter). NoAsk l.mail) posts
 
 pub no_is_one : (me : ℕ) (queue : List Asked) → NoOwn me queue → OneOwn me queue
 no_is_one me [] h = tt
@@ -84,15 +77,6 @@ serves me h (ask ∷ queue) =
     (serves me (open_own h ask) queue) (serves me (grant_next h ask) queue)
 
 -- An event at the home that isn't the start of one of its own sections.
-pub record HomeGoes (me : ℕ) (h : Home) (s : HomeStep) : Type 0 where
-  pub size : s.home.size ≡ h.size
-  pub bytes : length s.home.bytes ≡ h.size
-  pub mail : NoAsks s.posts
-  pub none : NoOwn me h.queue → NoOwn me s.home.queue
-  pub silent : NoOwn me h.queue → s.opened ≡ false
-  pub one : OneOwn me h.queue → OneOwn me s.home.queue
-  pub after : OneOwn me h.queue → s.opened ≡ true → NoOwn me s.home.queue
-
 goes : (me : ℕ) (h g : Home) (queue : List Asked) → g.size ≡ h.size → length g.bytes ≡ h.size → (NoOwn me h.queue → NoOwn me queue)
     → (OneOwn me h.queue → OneOwn me queue) → HomeGoes me h (serve me g queue)
 goes me h g queue e b none one =
@@ -156,13 +140,6 @@ unfolding home_ends_write
 write_goes me bytes h b = goes me h _ h.queue refl b (λ w. w) (λ w. w)
 
 -- The start of an own section, where no own ask waits.
-pub record HomeStarts (me : ℕ) (h : Home) (s : HomeStep) : Type 0 where
-  pub size : s.home.size ≡ h.size
-  pub bytes : length s.home.bytes ≡ h.size
-  pub mail : NoAsks s.posts
-  pub one : OneOwn me s.home.queue
-  pub after : s.opened ≡ true → NoOwn me s.home.queue
-
 pub starts_fit : (me : ℕ) (write : Bool) (h : Home) → length h.bytes ≡ h.size → NoOwn me h.queue → HomeStarts me h (home_starts me write h)
 unfolding home_starts
 starts_fit me write h b none =
@@ -175,11 +152,6 @@ starts_fit me write h b none =
     (λ w. record { size = queued.size; bytes = ap (λ xs. length xs) queued.bytes ∙ b; mail = queued.mail; one = queued.one last; after = λ o. queued.after last o }))
 
 -- An event at another node's side that isn't the start of a section.
-pub record RemoteGoes (r : Remote) (s : RemoteStep) : Type 0 where
-  pub size : s.remote.size ≡ r.size
-  pub bytes : CopyFits s.remote.copy r.size
-  pub asking : s.remote.asking ≡ r.asking
-
 still : (r : Remote) → CopyFits r.copy r.size → RemoteGoes r (sends_nothing r)
 still r f = record { size = refl; bytes = f; asking = refl }
 
@@ -266,12 +238,6 @@ unfolding remote_flushes
 flushes_goes r f = flush_over r.copy r f
 
 -- The start of a section at another node's side: it opens over the copy, or the node asks.
-pub record RemoteStarts (r : Remote) (s : RemoteStep) : Type 0 where
-  pub size : s.remote.size ≡ r.size
-  pub copy : s.remote.copy ≡ r.copy
-  pub asking : s.opened ≡ true → s.remote.asking ≡ r.asking
-  pub bytes : s.opened ≡ true → (c : Copy) × (r.copy ≡ Some c)
-
 start_over : (write : Bool) (copy : Option Copy) (r : Remote) → r.copy ≡ copy → RemoteStarts r (starts_over write copy r)
 start_over write None r e = record { size = refl; copy = refl; asking = λ w. cc; bytes = λ w. cc }
 start_over false (Some copy) r e = record { size = refl; copy = refl; asking = λ w. refl; bytes = λ w. (copy, e) }

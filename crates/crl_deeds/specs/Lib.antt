@@ -4,3 +4,4 @@ pub mod Turns
 pub mod NodeFacts
 pub mod Counts
 pub mod Tokens
+pub mod TableFacts

@@ -17,7 +17,7 @@ use Rattle.crl_protocol.specs.Home.{Home}
 use Rattle.crl_protocol.specs.Remote.{Copy, Remote, is_closed}
 use Rattle.crl_protocol.specs.Lifetimes.{Mapping, Cached}
 use Rattle.crl_protocol.specs.Sections.{OpenSection}
-use Rattle.crl_protocol.specs.Node.{Node, Activity, Waiting, ForSection, ForMap, ForDelete, is_mine, home_of, lifetime_of}
+use Rattle.crl_protocol.specs.Node.{Node, Activity, Free, Waiting, ForSection, ForMap, ForDelete, is_mine, home_of, lifetime_of}
 
 -- what a node has of one name
 pub record Seen : Type 0 where
@@ -165,3 +165,7 @@ pub record Fits (i : ℕ) (n : Node) : Type 0 where
   pub fresh : FreshFits n.activity n.cache
   pub inbox : AllByRecursion (ComesIn n.me) n.inbox
   pub outbox : AllByRecursion (λ (p : Piece). Leaves p.message) n.outbox
+
+-- the node while it makes a call
+abbrev pub free : Node → Node
+free n = record n { activity = Free }

@@ -13,7 +13,10 @@ use Rattle.crl_model.specs.declared.message.Kind.TheVariants as kind
 use Rattle.crl_protocol.specs.Mail.{Mail, kind_about}
 use Rattle.crl_protocol.specs.Parcels.{Piece, with_load, pieces_of, Key, key_of, PartsGathered}
 use Rattle.crl_protocol.specs.Places.{Took}
-use Rattle.crl_protocol.specs.Node.{Node, Recorded, Note, Answer, Activity, Free, Waiting, Ready, ForSection, ForRound, Outcome}
+use Rattle.crl_model.specs.declared.stage.Stage.{Stage}
+use Rattle.crl_model.specs.declared.stage.Stage.TheVariants as stage
+use Rattle.crl_model.specs.Names.{name_eq}
+use Rattle.crl_protocol.specs.Node.{Node, Recorded, Note, Answer, Activity, Free, Waiting, Ready, ForSection, ForMap, ForDelete, ForRound, Outcome, lifetime_of}
 use Rattle.crl_protocol.specs.World.{World}
 use Rattle.crl_deeds.specs.Deeds.{FreeIf, Cause, Calls, Hears, Lives, Idles, Deed}
 use Rattle.crl_deeds.specs.NodeFacts.{Fits}
@@ -95,3 +98,39 @@ pub record Life (i : ℕ) (f : Message → ℕ) (g : Node → ℕ) (waits : Acti
   pub lives : (j : ℕ) (n : Node) (cause : Cause) (o : Outcome) → Lives n cause o → Fits j n → NoneYet n → FreeIf cause n → Balance f g waits i n (came f n.me cause) o
   pub idle : (n : Node) (cause : Cause) (a : Activity) → Idles cause n → (n.me ≡ i → a ≡ n.activity) → came f n.me cause ≤ waits a → came f n.me cause ≡ 0
   pub near : (count from to : ℕ) (k : Kind) → i < count → PlainKind count from to k → (f (record { sender = from; addressee = to; kind = k }) ≡ 0) ⊎ (to < count)
+
+-- What stands for a map that node i waits for: an ask of its own, or the answer to it.
+abbrev pub of_name : Name → Name → ℕ
+of_name name r = if name_eq name r then 1 else 0
+
+abbrev pub map_token_kind : ℕ → Name → ℕ → ℕ → Kind → ℕ
+map_token_kind i r from to (kind.InfoAsk name) = if from == i then of_name name r else 0
+map_token_kind i r from to (kind.InfoIs name t) = if to == i then of_name name r else 0
+map_token_kind i r from to _ = 0
+
+abbrev pub map_token : ℕ → Name → Message → ℕ
+map_token i r m = map_token_kind i r m.sender m.addressee m.kind
+
+abbrev pub waits_map : Name → Activity → ℕ
+waits_map r (Waiting (ForMap p purged)) = of_name p r
+waits_map r _ = 0
+
+-- What stands for a delete that node i waits for: an ask of its own, the answer to it, or the home that deletes for it.
+abbrev pub delete_token_kind : ℕ → Name → ℕ → ℕ → Kind → ℕ
+delete_token_kind i r from to (kind.DeleteAsk name) = if from == i then of_name name r else 0
+delete_token_kind i r from to (kind.DeleteIs name t) = if to == i then of_name name r else 0
+delete_token_kind i r from to _ = 0
+
+abbrev pub delete_token : ℕ → Name → Message → ℕ
+delete_token i r m = delete_token_kind i r m.sender m.addressee m.kind
+
+abbrev pub waits_delete : Name → Activity → ℕ
+waits_delete r (Waiting (ForDelete p)) = of_name p r
+waits_delete r _ = 0
+
+abbrev pub deletes_for_node : ℕ → Stage → ℕ
+deletes_for_node i (stage.Going deleter) = if deleter == i then 1 else 0
+deletes_for_node i _ = 0
+
+abbrev pub deleting : ℕ → Name → Node → ℕ
+deleting i r n = deletes_for_node i (lifetime_of n r).stage

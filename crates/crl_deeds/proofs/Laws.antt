@@ -1,0 +1,28 @@
+-- What the crates above may cite of the proofs here.
+-- That a node does deeds, and a world turns; what a deed leaves alone; what holds of each node and message by itself.
+pub use Rattle.crl_deeds.proofs.Deeding.{call_deed}
+pub use Rattle.crl_deeds.proofs.Hearing.{message_deed}
+pub use Rattle.crl_deeds.proofs.Turning.{turn_of, turn_count, deed_frame, lives_frame, took_at, all_took, each_at, held_turn, held_run}
+-- What holds of every node in every run.
+pub use Rattle.crl_deeds.proofs.Sound.{fits_start, fits_event, fits_run, away_load}
+pub use Rattle.crl_deeds.proofs.Outcomes.{here_of, here_if, there_if, not_mine, home_bytes, remote_bytes, queue_of, asking_of, mapped_home, mapped_remote}
+pub use Rattle.crl_deeds.proofs.Opens.{own_waits, grant_waits, serves_goes}
+pub use Rattle.crl_deeds.proofs.Mapping.{going_own}
+-- Counts, and all that is known of a world.
+pub use Rattle.crl_deeds.proofs.Counting.{mappings_are_counted, counted_local, counted_start}
+pub use Rattle.crl_deeds.proofs.Knowing.{none_local, known_start, known_step, known_run, life_run}
+-- Sums, weights and tokens.
+pub use Rattle.crl_deeds.proofs.Totals.{sum_with, sum_part, sum_new, weigh_append, weigh_took, weighs_posted, boxed_sum, none_to, token_turn}
+pub use Rattle.crl_deeds.proofs.Spans.{whole_of, keyed_none, part_same, parts_none, no_wait, no_wait_as, even, shut, parting_none, mails_none, purges_none, span_copies, span_rounds, span_notes}
+pub use Rattle.crl_deeds.proofs.Mapping.{who_maps_has_one}
+pub use Rattle.crl_deeds.proofs.Erasing.{who_deletes_has_one}
+-- What the steps of tables leave.
+pub use Rattle.crl_deeds.proofs.Serving.{asked_goes, returned_goes, released_goes, read_goes, write_goes, starts_fit, recalled_goes, yields_goes, read_ends, write_ends, flushes_goes}
+-- Tables by name, lists, and verdicts.
+pub use Rattle.crl_deeds.proofs.Fitting.{same_name, name_self, other_name, by_name, by_test}
+pub use Rattle.crl_deeds.proofs.Tabling.{home_put, home_end, home_next, home_none, lifetime_put}
+pub use Rattle.crl_deeds.proofs.Outcomes.{is_cached, not_cached, kept_dropped, kept_more}
+pub use Rattle.crl_deeds.proofs.Placing.{all_append}
+pub use Rattle.crl_deeds.proofs.Growing.{append_nil}
+pub use Rattle.crl_deeds.proofs.Calling.{none_of}
+pub use Rattle.crl_deeds.proofs.Entering.{open_size}
