@@ -7,8 +7,8 @@ use Rattle.crl_model.specs.declared.message.Kind.TheVariants as kind
 use Rattle.crl_pieces.specs.Pieces.{cut, Cell, parts_of, left_from}
 use Rattle.crl_protocol.specs.Parcels.{Piece, grant_with, return_with, load_of, piece_of, PartsGathered}
 use Rattle.crl_protocol.specs.Mail.{Grant, Return, Release}
-use Rattle.crl_deeds.proofs.Totals.{weigh, weigh_append, weigh_took, on_piece, weighs}
-use Rattle.crl_deeds.proofs.Spans.{NoMail, parts_none, part_same}
+use Rattle.crl_deeds.specs.Tokens.{weigh, on_piece, weighs, NoMail}
+use Rattle.crl_deeds.proofs.Laws.{weigh_append, weigh_took, parts_none, part_same}
 use Rattle.crl_flight.specs.Flight.{Moves, still, moved, Under, left_of, lefts, IsUnder, IsFlight, messages_of}
 
 weigh_moved : {A : Type 0} (f : A → ℕ) {xs ys : List A} → Moves xs ys → weigh f xs ≡ weigh f ys

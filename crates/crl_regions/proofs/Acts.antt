@@ -12,8 +12,8 @@ use Rattle.crl_protocol.specs.Home.{Home, HomeStep, new_home, bytes_after}
 use Rattle.crl_protocol.specs.Remote.{Remote, RemoteStep, new_remote, remote_flushes}
 use Rattle.crl_protocol.specs.Sections.{section_at}
 use Rattle.crl_protocol.specs.Node.{Node, Outcome, at_serial, is_mine, home_of, with_home, message_to, letter_messages, mail_messages}
-use Rattle.crl_deeds.proofs.Fitting.{name_self, SizeIs}
-use Rattle.crl_deeds.proofs.Tabling.{home_put}
+use Rattle.crl_deeds.specs.NodeFacts.{SizeIs}
+use Rattle.crl_deeds.proofs.Laws.{name_self, home_put}
 use Rattle.crl_coherence.specs.Region.{Flying, Region, Happens, sent, sent_by, at_home, at_remote}
 use Rattle.crl_coherence.proofs.Lists.{picked_none, picked_some, more_none}
 use Rattle.crl_regions.proofs.Near.{Near}

@@ -8,7 +8,8 @@ use Rattle.crl_model.specs.declared.directory.Section.TheVariants as section
 use Rattle.crl_model.specs.declared.call.Call.{Call}
 use Rattle.crl_model.specs.declared.call.Call.TheVariants as call
 use Rattle.crl_model.specs.declared.call.Refusal.{Refusal}
-use Rattle.crl_deeds.proofs.Tabling.{home_none}
+use Rattle.crl_deeds.specs.NodeFacts.{AskingFits, WaitFits, IsCached, FreshFits}
+use Rattle.crl_deeds.proofs.Laws.{home_none, same_name, asking_of}
 use Rattle.crl_model.specs.declared.message.Told.TheVariants as told
 use Rattle.crl_model.specs.declared.message.Kind.TheVariants as kind
 use Rattle.crl_model.specs.Names.{name_eq}
@@ -17,8 +18,6 @@ use Rattle.crl_protocol.specs.Lifetimes.{members}
 use Rattle.crl_protocol.specs.Sections.{section_at}
 use Rattle.crl_protocol.specs.Node.{Node, ForMap, Free, Waiting, Outcome, at_serial, is_mine, home_of, lifetime_of, message_to}
 use Rattle.crl_protocol.specs.Verdict.{verdict}
-use Rattle.crl_deeds.proofs.Fitting.{same_name, AskingFits, WaitFits, IsCached, FreshFits}
-use Rattle.crl_deeds.proofs.Outcomes.{asking_of}
 use Rattle.crl_deeds.specs.Deeds.{FreeIf, Cause, Calls, Hears, parting, forgotten, Lives, Rounds, made, used_up, map_comes, unmaps_doomed, unmaps_evicting, deletes_own, deletes_for, drops, comes_last, part_last, part_last_idle}
 use Rattle.crl_protocol.specs.Calls.{creates}
 use Rattle.crl_regions.specs.View.{left_in}

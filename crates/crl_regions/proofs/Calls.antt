@@ -24,11 +24,8 @@ use Rattle.crl_protocol.specs.Sectioning.{forgets_over, forgets}
 use Rattle.crl_protocol.specs.Verdict.{of_open, verdict, uses_serial, refuses_call}
 use Rattle.crl_protocol.specs.Calls.{creates, deletes_own, deletes, is_gone, maps_over, maps_cached, unmaps_over, forgets_evicted, results_from, after_own_part, comes, takes_call, call_or_refuse, node_calls}
 use Rattle.crl_protocol.specs.World.{is_call}
-use Rattle.crl_deeds.proofs.Fitting.{by_name, name_self, RecordFits, IsCached}
-use Rattle.crl_deeds.proofs.Tabling.{home_end, home_next, home_none}
-use Rattle.crl_deeds.proofs.Opening.{free}
-use Rattle.crl_deeds.proofs.Outcomes.{asking_of}
-use Rattle.crl_deeds.proofs.Calling.{none_of}
+use Rattle.crl_deeds.specs.NodeFacts.{RecordFits, IsCached, free}
+use Rattle.crl_deeds.proofs.Laws.{by_name, name_self, home_end, home_next, home_none, asking_of, none_of}
 use Rattle.crl_regions.specs.View.{flying, left_if, left_in}
 use Rattle.crl_regions.proofs.Acts.{Acts, nothing, made, acts_if}
 use Rattle.crl_regions.proofs.Sections.{Local, free_asks, away, here_is, closed_of, acts_start}

@@ -11,11 +11,8 @@ use Rattle.crl_protocol.specs.Sectioning.{after_remote, after_home_end, closes, 
 use Rattle.crl_protocol.specs.Sections.{Sections, section_at, section_ends, bytes_at, is_writing}
 use Rattle.crl_protocol.specs.Lifetimes.{Mapping}
 use Rattle.crl_protocol.specs.Verdict.{of_end, of_open}
-use Rattle.crl_deeds.proofs.Fitting.{by_name, name_self, NoOwn, Fits}
-use Rattle.crl_deeds.proofs.Opening.{free}
-use Rattle.crl_deeds.proofs.Outcomes.{home_bytes, remote_bytes, queue_of, asking_of, mapped_home, mapped_remote}
-use Rattle.crl_deeds.proofs.Serving.{read_goes, write_goes, read_ends, write_ends, flushes_goes}
-use Rattle.crl_deeds.proofs.Entering.{open_size}
+use Rattle.crl_deeds.specs.NodeFacts.{NoOwn, Fits, free}
+use Rattle.crl_deeds.proofs.Laws.{by_name, name_self, home_bytes, remote_bytes, queue_of, asking_of, mapped_home, mapped_remote, read_goes, write_goes, read_ends, write_ends, flushes_goes, open_size}
 use Rattle.crl_coherence.specs.Region as region
 use Rattle.crl_coherence.specs.Region.{Flying, Region, Happens, at_home, at_remote, IsIdle}
 use Rattle.crl_regions.specs.View.{left_if}

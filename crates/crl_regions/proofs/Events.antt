@@ -20,8 +20,9 @@ use Rattle.crl_protocol.specs.Verdict.{verdict}
 use Rattle.crl_protocol.specs.Calls.{node_calls}
 use Rattle.crl_protocol.specs.Handlers.{node_handles}
 use Rattle.crl_protocol.specs.World.{World, boxes_from, pieces_in_boxes, collects, steps_node, is_free, is_call}
-use Rattle.crl_deeds.proofs.Fitting as fitting
-use Rattle.crl_deeds.proofs.Fitting.{same_name, seen, OwnFits, Fits}
+use Rattle.crl_deeds.specs.NodeFacts.{seen, OwnFits, Fits}
+use Rattle.crl_deeds.proofs.Laws.{same_name}
+use Rattle.crl_deeds.specs.NodeFacts as fitting
 use Rattle.crl_pieces.specs.Pieces.{is_missing, is_complete, joined}
 use Rattle.crl_protocol.specs.Parcels.{Piece, PartsGathered, Key, key_eq, key_in, key_of, load_of, with_load, slots_or, at_key, fits_size}
 use Rattle.crl_protocol.specs.Receiving.{size_for, slots_with, gathers_piece, receives_part, receives_as, receives}

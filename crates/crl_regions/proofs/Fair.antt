@@ -33,8 +33,8 @@ use Rattle.crl_protocol.specs.Verdict.{verdict, refuses_call}
 use Rattle.crl_protocol.specs.Calls.{size_of, is_gone, maps_over, maps_cached, unmaps_over, forgets_evicted, after_own_part, results_from, takes_call, call_or_refuse, node_calls}
 use Rattle.crl_protocol.specs.Handlers.{told_by_stage, takes_info, is_queued_in, takes_ask, takes_return, takes_release, takes_grant, takes_call_back, takes_delete_ask, takes_delete_told, purge_over_cache, purge_over, ends_delete_by, after_part_of, takes_result, node_handles}
 use Rattle.crl_protocol.specs.World.{collects}
-use Rattle.crl_deeds.proofs.Fitting.{LiveFits}
-use Rattle.crl_deeds.proofs.Placing.{all_append}
+use Rattle.crl_deeds.specs.NodeFacts.{LiveFits}
+use Rattle.crl_deeds.proofs.Laws.{all_append}
 use Rattle.crl_regions.proofs.Near.{OfHome, ToOther, Near, NearServed, near_asked, near_returned, near_released, near_starts, near_read, near_write}
 use Rattle.crl_regions.proofs.Acts.{home_is}
 

@@ -12,8 +12,8 @@ use Rattle.crl_model.specs.declared.message.Kind.{Kind}
 use Rattle.crl_protocol.specs.Home.{Home, HomeStep}
 use Rattle.crl_protocol.specs.Remote.{Remote, RemoteStep, starts_over, remote_starts, remote_takes_recall, remote_takes_yield, remote_flushes}
 use Rattle.crl_protocol.specs.Node.{Node, Outcome, home_of}
-use Rattle.crl_deeds.proofs.Fitting.{LiveFits}
-use Rattle.crl_deeds.proofs.Placing.{all_append}
+use Rattle.crl_deeds.specs.NodeFacts.{LiveFits}
+use Rattle.crl_deeds.proofs.Laws.{all_append}
 use Rattle.crl_deeds.specs.Deeds.{Cause, Calls, Hears, parting, EndsCall, a_read, a_write, Serves, ask_comes, copy_returns, copy_lowers, CallsBack, wholly, to_share, Copies, Lives, Rounds, Deed, copies, lives, rounds, Unfit, never, home_opens, home_waits, side_opens, side_waits, home_ends, side_ends, side_flushes, home_serves, home_serves_own, grant_comes, side_called, map_asks, map_told, map_refused, unmaps_doomed, unmaps_evicting, deletes_own, delete_asks, deletes_alone_for, deletes_for, delete_refused, dooms, drops, warns, ends_for, comes_away, comes_last, part_last, part_last_idle}
 use Rattle.crl_regions.proofs.Near.{Near, NearServed, near_asked, near_returned, near_released, near_starts, near_read, near_write}
 use Rattle.crl_regions.proofs.Fair.{SizedTold, FairKind, Fair, AllFair, Sends, home_fair, side_fair, Posts, start_posts, recall_posts, yield_posts, read_posts, write_posts, flush_posts, purges_fair, results_fair, told_sized, Sent}

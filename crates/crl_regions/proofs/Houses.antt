@@ -5,8 +5,8 @@ use Rattle.crl_model.specs.declared.name.Name.{Name}
 use Rattle.crl_model.specs.Names.{name_eq, at_name}
 use Rattle.crl_protocol.specs.Remote.{Remote}
 use Rattle.crl_protocol.specs.Lifetimes.{Mapping, Cached, CacheStep, push_out, cache_with, cache_without}
-use Rattle.crl_deeds.proofs.Fitting.{by_name, same_name, name_self, other_name, IsCached}
-use Rattle.crl_deeds.proofs.Outcomes.{kept_dropped, kept_more}
+use Rattle.crl_deeds.specs.NodeFacts.{IsCached}
+use Rattle.crl_deeds.proofs.Laws.{by_name, same_name, name_self, other_name, kept_dropped, kept_more}
 
 -- no name stands in the cache twice
 abbrev pub Once : List Cached → Type 0

@@ -26,7 +26,8 @@ use Rattle.crl_protocol.specs.Verdict.{verdict, refuses_call}
 use Rattle.crl_protocol.specs.Calls.{is_gone, maps_over, maps_cached, unmaps_over, forgets_evicted, after_own_part, takes_call, call_or_refuse, node_calls}
 use Rattle.crl_protocol.specs.Handlers.{after_info, takes_info, is_queued_in, takes_ask, takes_return, takes_release, takes_grant, takes_call_back, takes_delete_ask, takes_delete_told, purge_over_cache, purge_over, ends_delete_by, own_result, after_part_of, takes_result, node_handles}
 use Rattle.crl_protocol.specs.World.{collects}
-use Rattle.crl_deeds.proofs.Fitting.{IsCached, FreshFits, same_name}
+use Rattle.crl_deeds.specs.NodeFacts.{IsCached, FreshFits}
+use Rattle.crl_deeds.proofs.Laws.{same_name}
 use Rattle.crl_regions.proofs.Houses.{Houses, HousesBut, LeftBut, but_none, but_forgotten, houses_some, houses_more, houses_own, houses_new, houses_cached, but_dropped, but_unmapped, kept_left}
 
 abbrev pub Housed : Node → Type 0

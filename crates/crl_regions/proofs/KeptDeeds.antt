@@ -4,7 +4,7 @@ use Rattle.crl_model.specs.declared.name.Name.{Name}
 use Rattle.crl_model.specs.declared.call.Call.{Call}
 use Rattle.crl_model.specs.declared.entry.What.{What}
 use Rattle.crl_protocol.specs.Node.{Node, Outcome, is_mine}
-use Rattle.crl_deeds.proofs.Fitting.{FreshFits}
+use Rattle.crl_deeds.specs.NodeFacts.{FreshFits}
 use Rattle.crl_deeds.specs.Deeds.{Cause, Copies, Lives, Rounds, Notes, Deed, copies, lives, rounds, notes, side_opens, side_waits, side_ends, side_flushes, grant_comes, side_called, maps_more, maps_own, maps_cached, map_comes, unmaps_one, unmaps_own, unmaps_doomed, unmaps_keeping, unmaps_evicting, dooms, drops, comes_away, flushes_own}
 use Rattle.crl_regions.proofs.Houses.{LeftBut, but_none, but_forgotten, houses_some, houses_more, houses_own, houses_new, houses_cached, but_dropped, but_unmapped, kept_left}
 use Rattle.crl_regions.proofs.Kept.{Housed}

@@ -8,8 +8,8 @@ use Rattle.crl_protocol.specs.Places.{find_all}
 use Rattle.crl_protocol.specs.Home.{Home, bytes_after}
 use Rattle.crl_protocol.specs.Remote.{Remote}
 use Rattle.crl_protocol.specs.Node.{Node, home_of}
-use Rattle.crl_deeds.proofs.Fitting.{SizeIs}
-use Rattle.crl_deeds.proofs.Growing.{append_nil}
+use Rattle.crl_deeds.specs.NodeFacts.{SizeIs}
+use Rattle.crl_deeds.proofs.Laws.{append_nil}
 use Rattle.crl_coherence.specs.Region.{Flying, Region, Happens, elsewhere, Run, next}
 use Rattle.crl_coherence.proofs.Lists.{same_or}
 use Rattle.crl_regions.specs.View.{flying, side, sight}

@@ -29,10 +29,8 @@ use Rattle.crl_protocol.specs.Sections.{section_at, section_begins, is_writing}
 use Rattle.crl_protocol.specs.Sectioning.{copy_bytes, after_serve, after_remote}
 use Rattle.crl_protocol.specs.Calls.{is_gone}
 use Rattle.crl_protocol.specs.Handlers.{takes_info_ask, after_info, takes_info, is_queued_in, takes_ask, takes_return, takes_release, opens_with_grant, takes_grant, takes_call_back, begins_delete, takes_delete_ask, takes_delete_told, purge_over_cache, purge_over, ends_delete_by, takes_purged, own_result, after_part_of, takes_part, takes_result, node_handles}
-use Rattle.crl_deeds.proofs.Fitting.{by_name, name_self, same_name, AskingFits, IsMapped, FreshFits, WaitFits, IsCached, CopyFits}
-use Rattle.crl_deeds.proofs.Growing.{append_nil}
-use Rattle.crl_deeds.proofs.Outcomes.{asking_of, home_bytes, remote_bytes}
-use Rattle.crl_deeds.proofs.Serving.{asked_goes, returned_goes, released_goes, recalled_goes, yields_goes}
+use Rattle.crl_deeds.specs.NodeFacts.{AskingFits, IsMapped, FreshFits, WaitFits, IsCached, CopyFits}
+use Rattle.crl_deeds.proofs.Laws.{by_name, name_self, same_name, append_nil, asking_of, home_bytes, remote_bytes, asked_goes, returned_goes, released_goes, recalled_goes, yields_goes}
 use Rattle.crl_coherence.specs.Region as region
 use Rattle.crl_coherence.specs.Region.{Flying, Region, Happens, at_home, at_remote}
 use Rattle.crl_regions.specs.View.{if_about, flown, flying, side}

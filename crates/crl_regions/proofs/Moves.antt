@@ -4,7 +4,7 @@ use Rattle.crl_protocol.specs.Parcels.{Piece}
 use Rattle.crl_protocol.specs.Places.{find_all, Took, here, there, Taken, behind, take_out}
 use Rattle.crl_protocol.specs.Node.{Node}
 use Rattle.crl_protocol.specs.World.{boxes_from}
-use Rattle.crl_deeds.proofs.Growing.{append_nil}
+use Rattle.crl_deeds.proofs.Laws.{append_nil}
 use Rattle.crl_flight.specs.Flight.{Moves, still, moved}
 use Rattle.crl_coherence.specs.Region.{Flying, Region, carry, Run, done, next}
 use Rattle.crl_coherence.proofs.Lists.{took_some, took_none}

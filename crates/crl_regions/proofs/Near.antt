@@ -7,7 +7,7 @@ use Rattle.crl_model.specs.declared.directory.Listing.{Listing}
 use Rattle.crl_protocol.specs.Places.{at, put}
 use Rattle.crl_protocol.specs.Mail.{Mail, Grant, Recall, Yield, Letter}
 use Rattle.crl_protocol.specs.Home.{Home, HomeStep, new_home, is_servable, is_to_mark, recalls_and_yields, open_own, grant_next, grant_for, opens_own_section, posts_first, serve, with_marks, home_takes_ask, home_takes_return, is_to_lower, shared_listing, home_takes_release, own_ask, is_empty, is_reading, home_starts, home_ends_read, home_ends_write}
-use Rattle.crl_deeds.proofs.Placing.{all_append}
+use Rattle.crl_deeds.proofs.Laws.{all_append}
 use Rattle.crl_coherence.proofs.Lists.{at-put_same, at-put_other, same_or}
 
 -- a node of the world other than the home

@@ -10,7 +10,8 @@ use Rattle.crl_protocol.specs.Home.{Home, HomeStep, is_servable, lets_open, open
 use Rattle.crl_protocol.specs.Places.{at}
 use Rattle.crl_protocol.specs.Remote.{Copy, Remote, RemoteStep, remote_starts, starts_over, notes_due, is_newer, overtakes, recall_in, recall_over, remote_takes_recall, yield_in, yield_over, remote_takes_yield, leaves_over, lowers_over, is_closed, remote_ends_read, remote_ends_write, flushes_over, remote_flushes}
 use Rattle.crl_protocol.specs.Sections.{OpenSection, Sections, section_of, section_at, begins_to_read, section_begins, ends_over, section_ends}
-use Rattle.crl_deeds.proofs.Fitting.{NoOwn, name_self}
+use Rattle.crl_deeds.specs.NodeFacts.{NoOwn}
+use Rattle.crl_deeds.proofs.Laws.{name_self}
 
 -- a section begins beside those that are open
 abbrev pub begun : Bool → Section → Section

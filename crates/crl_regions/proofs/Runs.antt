@@ -18,9 +18,8 @@ use Rattle.crl_protocol.specs.Node.{new_node, home_of}
 use Rattle.crl_protocol.specs.Chosen.{Running, goes_on}
 use Rattle.crl_deeds.specs.Laws.{AreStatements, node_of}
 use Rattle.crl_protocol.specs.World.{World, new_world, pieces_in_boxes, boxes_from, handles_at, carries, step, is_enabled, IsRunFrom, world_after}
-use Rattle.crl_deeds.proofs.Fitting.{Fits}
-use Rattle.crl_deeds.proofs.Placing.{all_append}
-use Rattle.crl_deeds.proofs.Sound.{fits_start, fits_event}
+use Rattle.crl_deeds.specs.NodeFacts.{Fits}
+use Rattle.crl_deeds.proofs.Laws.{all_append, fits_start, fits_event}
 use Rattle.crl_coherence.specs.Region.{Run}
 use Rattle.crl_coherence.specs.Coherent.{IsCoherent}
 use Rattle.crl_coherence.proofs.Events.{runs_kept}

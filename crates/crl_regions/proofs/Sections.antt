@@ -14,11 +14,10 @@ use Rattle.crl_protocol.specs.Node.{Node, Free, COUNT_LIMIT, is_mine, home_of, w
 use Rattle.crl_protocol.specs.Sectioning.{copy_bytes, starts_at_home, starts_elsewhere, starts_over_remote, starts_over_home, starts}
 use Rattle.crl_protocol.specs.Sections.{section_at}
 use Rattle.crl_protocol.specs.Verdict.{of_start, of_end, of_open}
-use Rattle.crl_deeds.proofs.Fitting.{by_name, name_self, NoOwn, QueueFits, AskingFits, IsCached, Fits}
-use Rattle.crl_deeds.proofs.Opening.{free}
-use Rattle.crl_deeds.proofs.Outcomes.{home_bytes, queue_of, asking_of, not_mine}
+use Rattle.crl_deeds.specs.NodeFacts.{NoOwn, QueueFits, AskingFits, IsCached, Fits, free}
+use Rattle.crl_deeds.specs.TableFacts.{HomeGoes, HomeStarts}
+use Rattle.crl_deeds.proofs.Laws.{by_name, name_self, home_bytes, queue_of, asking_of, not_mine, read_goes, write_goes, starts_fit}
 use Rattle.crl_deeds.proofs.Serving as serving
-use Rattle.crl_deeds.proofs.Serving.{HomeGoes, read_goes, write_goes, HomeStarts, starts_fit}
 use Rattle.crl_coherence.specs.Region as region
 use Rattle.crl_coherence.specs.Region.{Flying, Region, Happens, at_home, at_remote, IsIdle, MayStart}
 use Rattle.crl_regions.proofs.Opened.{begun, home_begun, side_begun, noted_begun, noted_other}

@@ -17,9 +17,8 @@ use Rattle.crl_protocol.specs.Remote.{Remote, new_remote}
 use Rattle.crl_protocol.specs.Sections.{section_at}
 use Rattle.crl_protocol.specs.Node.{Node, Outcome, is_mine, home_of}
 use Rattle.crl_protocol.specs.World.{World, boxes_from, pieces_in_boxes, commits, steps_node}
-use Rattle.crl_deeds.proofs.Fitting.{same_name, Seen, seen, LiveFits, OwnFits, SizeIs, Fits}
-use Rattle.crl_deeds.proofs.Growing.{append_nil}
-use Rattle.crl_deeds.proofs.Placing.{all_append}
+use Rattle.crl_deeds.specs.NodeFacts.{Seen, seen, LiveFits, OwnFits, SizeIs, Fits}
+use Rattle.crl_deeds.proofs.Laws.{same_name, append_nil, all_append}
 use Rattle.crl_protocol.specs.Parcels.{Piece, Key, PartsGathered, pieces_in}
 use Rattle.crl_flight.specs.Flight.{Under, posted, IsFlight, messages_of}
 use Rattle.crl_flight.proofs.Orders.{moves_then, moves_before}

@@ -17,7 +17,7 @@ use Rattle.crl_protocol.specs.Sections.{section_at}
 use Rattle.crl_protocol.specs.Node.{Node, Activity, Waiting, ForSection, at_serial, home_of}
 use Rattle.crl_protocol.specs.Handlers.{is_queued, is_queued_in}
 use Rattle.crl_protocol.specs.World.{World, pieces_in_boxes}
-use Rattle.crl_deeds.proofs.Fitting.{AskingFits, Fits}
+use Rattle.crl_deeds.specs.NodeFacts.{AskingFits, Fits}
 use Rattle.crl_protocol.specs.Parcels.{Piece, PartsGathered}
 use Rattle.crl_flight.specs.Flight.{Under, IsFlight, messages_of}
 use Rattle.crl_coherence.specs.Region.{Flying, Region, flies}
