@@ -26,3 +26,5 @@ pub use Rattle.crl_deeds.proofs.Placing.{all_append}
 pub use Rattle.crl_deeds.proofs.Growing.{append_nil}
 pub use Rattle.crl_deeds.proofs.Calling.{none_of}
 pub use Rattle.crl_deeds.proofs.Entering.{open_size}
+-- Where entries are decided.
+pub use Rattle.crl_deeds.proofs.Decided.{decided_by_call, decided_by_message, decided}

@@ -1,13 +1,11 @@
 pub mod Allowing
-pub mod Answering
 pub mod Bounding
 pub mod Calling
 pub mod Counting
 pub mod Deeding
-pub mod Deciding
+pub mod Decided
 pub mod Enabling
 pub mod Entering
-pub mod Entried
 pub mod Erasing
 pub mod Fitting
 pub mod Following

@@ -5,3 +5,4 @@ pub mod NodeFacts
 pub mod Counts
 pub mod Tokens
 pub mod TableFacts
+pub mod Entries

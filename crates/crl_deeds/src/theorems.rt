@@ -1,13 +1,19 @@
 //! Laws of the definitions.
 ghost use Rattle.std.specs.Prelude.{◌≡◌, ◌≤◌, ◌^◌, ℕ, List, [], ◌∷◌, ◌++◌, Bool, true, false, None};
-ghost use Rattle.std.specs.List.{All};
+ghost use Rattle.crl_model.specs.declared.call.Call.{Call};
+ghost use Rattle.crl_model.specs.declared.message.Kind.{Kind};
 ghost use Rattle.crl_model.specs.declared.event.Event.{Event};
 ghost use Rattle.crl_model.specs.declared.event.Event.TheVariants as event;
 ghost use Rattle.crl_model.specs.declared.statement.Statement.{Statement};
 ghost use Rattle.crl_protocol.specs.Places.{take_out};
 ghost use Rattle.crl_protocol.specs.World.{World, step, is_enabled, IsRun, world_of, account};
 ghost use Rattle.crl_protocol.specs.Chosen.{Running, running, turns_from};
-ghost use Rattle.crl_deeds.specs.Laws.{touches, IsDecided, Follows, AreStatements};
+ghost use Rattle.crl_protocol.specs.Node.{Node};
+ghost use Rattle.crl_protocol.specs.Calls.{node_calls};
+ghost use Rattle.crl_protocol.specs.Handlers.{node_handles};
+ghost use Rattle.crl_deeds.specs.Deeds.{Calls, Hears};
+ghost use Rattle.crl_deeds.specs.Entries.{entries_of, entries_at};
+ghost use Rattle.crl_deeds.specs.Laws.{touches, Follows, AreStatements};
 
 /// An event changes only the nodes that it touches.
 pub fn events_touch_few()
@@ -22,11 +28,19 @@ pub fn events_are_enabled()
     ensures run { (count capacity : ℕ) (before : List Event) (e : Event) (behind : List Event) → IsRun count capacity (before ++ e ∷ behind) → is_enabled e (world_of count capacity before) ≡ true }
 {}
 
-/// An account grows with each event by the entries that are decided there, and by no other.
+/// The entries of a call, of a message with all its bytes and of an event are those of the table, and no others: by
+/// what the node knows then. So a refusal has the place and the reason of the node's verdict or of the region's stage,
+/// and the answer to a purge ends the delete of the node that deletes.
 pub fn entries_are_decided()
-    ensures grows { (count capacity : ℕ) (run : List Event) (e : Event) → account count capacity (run ++ e ∷ []) ≡ account count capacity run ++ (step e (world_of count capacity run)).entries }
+    ensures calls { (n : Node) (c : Call) → (node_calls c n).entries ≡ entries_of n (Calls c) }
+    ensures messages { (n : Node) (from : ℕ) (k : Kind) → (node_handles from k n).entries ≡ entries_of n (Hears from k) }
+    ensures events { (e : Event) (w : World) → (step e w).entries ≡ entries_at e w }
+{}
+
+/// An account grows with each event by the entries of that event.
+pub fn accounts_grow()
+    ensures account { (count capacity : ℕ) (run : List Event) (e : Event) → account count capacity (run ++ e ∷ []) ≡ account count capacity run ++ entries_at e (world_of count capacity run) }
     ensures world { (count capacity : ℕ) (run : List Event) (e : Event) → world_of count capacity (run ++ e ∷ []) ≡ (step e (world_of count capacity run)).world }
-    ensures decided { (e : Event) (w : World) → All (IsDecided e w) (step e w).entries }
 {}
 
 /// What a script and an order choose is a run, with its world and its account. It has at most an event for
