@@ -1,10 +1,13 @@
 -- What isn't there can't happen, and each event of a run may come after those before it.
-use Rattle.std.proofs.Common.{◌≡◌, ℕ, zero, suc, nat_lt, true, false, None, Some, Option, List, [], ◌∷◌, ◌++◌, length, refl, arith}
-use Rattle.std.proofs.lemmas.Bool.{and_right, le-ltb, ltb-false}
+use Rattle.std.proofs.Common.{◌≡◌, ℕ, zero, suc, nat_lt, ◌&&◌, Bool, true, false, None, Some, Option, List, [], ◌∷◌, ◌++◌, length, refl, ap, sym, ◌∙◌, arith}
+use Rattle.std.proofs.lemmas.Bool.{and_right, le-ltb, ltb-false, eq-eqb, or_left}
 use Rattle.crl_model.specs.declared.event.Event.{Event}
 use Rattle.crl_model.specs.declared.event.Event.TheVariants as event
 use Rattle.crl_protocol.specs.Places.{Taken, behind, take_out}
-use Rattle.crl_protocol.specs.World.{World, step, is_enabled, IsRunFrom, world_after}
+use Rattle.crl_protocol.specs.Node.{Node}
+use Rattle.crl_protocol.specs.Verdict.{verdict}
+use Rattle.crl_protocol.specs.World.{World, step, is_free, is_ready, is_call, is_enabled, IsRunFrom, world_after}
+use Rattle.crl_deeds.specs.Laws.{touches, node_of}
 
 none_behind : {A : Type 0} (x : A) (t : Option (Taken A)) → behind x t ≡ None → t ≡ None
 none_behind x None h = refl
@@ -28,3 +31,27 @@ no_carry i place w h = and_right (nat_lt i w.count) (nat_lt place (length (w.nod
 pub enabled_behind : (w : World) (before : List Event) (e : Event) (behind : List Event) → IsRunFrom w (before ++ e ∷ behind) → is_enabled e (world_after w before) ≡ true
 enabled_behind w [] e behind h = h.0
 enabled_behind w (x ∷ before) e behind h = enabled_behind (step x w).world before e behind h.1
+
+-- Whether an event may come is seen at the nodes that it touches.
+abbrev is_enabled_at : Event → ℕ → Node → Bool
+is_enabled_at (event.Call i c) count n = nat_lt i count && (is_free n.activity && is_call n c (verdict n c))
+is_enabled_at (event.Collect i) count n = nat_lt i count && is_ready n.activity
+is_enabled_at (event.Handle i place) count n = nat_lt i count && nat_lt place (length n.inbox)
+is_enabled_at (event.Carry i place) count n = nat_lt i count && nat_lt place (length n.outbox)
+
+at_its_node : (e : Event) (w : World) → is_enabled e w ≡ is_enabled_at e w.count (w.nodes (node_of e))
+unfolding is_enabled
+at_its_node (event.Call i c) w = refl
+at_its_node (event.Collect i) w = refl
+at_its_node (event.Handle i place) w = refl
+at_its_node (event.Carry i place) w = refl
+
+touches_own : (e : Event) (w : World) → touches e w (node_of e) ≡ true
+touches_own (event.Call i c) w = eq-eqb i i refl
+touches_own (event.Collect i) w = eq-eqb i i refl
+touches_own (event.Handle i place) w = eq-eqb i i refl
+touches_own (event.Carry i place) w = or_left _ _ (eq-eqb i i refl)
+
+pub enabled_by_few : (e : Event) (v w : World) → v.count ≡ w.count → ((m : ℕ) → touches e w m ≡ true → v.nodes m ≡ w.nodes m) → is_enabled e v ≡ is_enabled e w
+enabled_by_few e v w count same =
+    at_its_node e v ∙ ap (λ k. is_enabled_at e k (v.nodes (node_of e))) count ∙ ap (is_enabled_at e w.count) (same (node_of e) (touches_own e w)) ∙ sym (at_its_node e w)

@@ -20,6 +20,11 @@ pub fn events_touch_few()
     ensures { (e : Event) (w : World) (m : ℕ) → touches e w m ≡ false → (step e w).world.nodes m ≡ w.nodes m }
 {}
 
+/// Whether an event may come is seen at the nodes that it touches.
+pub fn enabled_looks_at_few()
+    ensures { (e : Event) (v w : World) → v.count ≡ w.count → ((m : ℕ) → touches e w m ≡ true → v.nodes m ≡ w.nodes m) → is_enabled e v ≡ is_enabled e w }
+{}
+
 /// What isn't there can't happen: without a message at the place there is no event of it, and each event of a
 /// run may come after those before it.
 pub fn events_are_enabled()
