@@ -2,6 +2,7 @@ pub mod Blocked
 pub mod Caches
 pub mod Copies
 pub mod Deletes
+pub mod Lines
 pub mod Refusals
 pub mod Rounds
 pub mod Upgrades

@@ -1,13 +1,13 @@
 //! Worked runs, which the definitions compute: of each a script, an order of steps and the report.
 ghost use Rattle.crl_protocol.specs.Chosen.{always_first};
-ghost use Rattle.crl_protocol.specs.Worked.Words.{Gives};
+ghost use Rattle.crl_protocol.specs.Worked.Words.{Gives, TwoAreTold};
 ghost use Rattle.crl_protocol.specs.Worked.Copies.{write_elsewhere_script, write_elsewhere_report, nested_reads_script, nested_reads_report, nested_reads_order, early_recall_script, early_recall_report, early_recall_order, stale_recall_script, stale_recall_report, stale_recall_order, recall_before_map_script, recall_before_map_report, recall_before_map_order, ask_before_return_script, ask_before_return_report, ask_before_return_order, flush_then_read_script, flush_then_read_report, flush_then_read_order};
 ghost use Rattle.crl_protocol.specs.Worked.Upgrades.{two_upgrades_script, two_upgrades_report, downgrade_script, downgrade_report, return_before_release_script, return_before_release_report, return_before_release_order};
 ghost use Rattle.crl_protocol.specs.Worked.Caches.{eviction_script, eviction_report, no_cache_script, no_cache_report, roomy_cache_script, roomy_cache_report};
-ghost use Rattle.crl_protocol.specs.Worked.Deletes.{delete_of_cached_script, delete_of_cached_report, delete_of_mapped_script, delete_of_mapped_report, purge_before_answer_script, purge_before_answer_report, purge_before_answer_order, delete_before_map_script, delete_before_map_report, delete_by_another_script, delete_by_another_report};
+ghost use Rattle.crl_protocol.specs.Worked.Deletes.{delete_of_cached_script, delete_of_cached_report, delete_of_mapped_script, delete_of_mapped_report, purge_before_answer_script, purge_before_answer_report, purge_before_answer_order, delete_before_map_script, delete_before_map_report, delete_by_another_script, delete_by_another_report, delete_among_three_script, delete_among_three_report};
 ghost use Rattle.crl_protocol.specs.Worked.Rounds.{map_before_create_script, map_before_create_report, map_before_create_order, barrier_then_read_script, barrier_then_read_report, mixed_kinds_script, mixed_kinds_report, broadcast_script, broadcast_report, additions_script, additions_report};
-ghost use Rattle.crl_protocol.specs.Worked.Refusals.{section_rules_script, section_rules_report, names_and_sizes_script, names_and_sizes_report};
-ghost use Rattle.crl_protocol.specs.Worked.Blocked.{reader_blocks_script, reader_blocks_report, absent_node_script, absent_node_report, each_other_script, each_other_report};
+ghost use Rattle.crl_protocol.specs.Worked.Refusals.{section_rules_script, section_rules_report, names_and_sizes_script, names_and_sizes_report, unreal_names_script, unreal_names_report};
+ghost use Rattle.crl_protocol.specs.Worked.Blocked.{reader_blocks_script, reader_blocks_report, absent_node_script, absent_node_report, each_other_script, each_other_report, two_readers_block_script, two_readers_block_report};
 
 /// Copies that go back and forth, with messages that overtake each other.
 pub fn copies()
@@ -41,6 +41,7 @@ pub fn deletes()
     ensures purge_before_answer { Gives 2 16 purge_before_answer_script purge_before_answer_order purge_before_answer_report }
     ensures delete_before_map { Gives 2 16 delete_before_map_script always_first delete_before_map_report }
     ensures delete_by_another { Gives 2 16 delete_by_another_script always_first delete_by_another_report }
+    ensures delete_among_three { Gives 3 16 delete_among_three_script always_first delete_among_three_report }
 {}
 
 /// Maps, rounds and changes.
@@ -56,6 +57,7 @@ pub fn rounds()
 pub fn refusals()
     ensures section_rules { Gives 1 16 section_rules_script always_first section_rules_report }
     ensures names_and_sizes { Gives 1 16 names_and_sizes_script always_first names_and_sizes_report }
+    ensures unreal_names { Gives 2 16 unreal_names_script always_first unreal_names_report }
 {}
 
 /// Runs that end with nodes that wait.
@@ -63,4 +65,11 @@ pub fn blocked()
     ensures reader_blocks { Gives 2 16 reader_blocks_script always_first reader_blocks_report }
     ensures absent_node { Gives 2 16 absent_node_script always_first absent_node_report }
     ensures each_other { Gives 2 16 each_other_script always_first each_other_report }
+    ensures two_readers_block { Gives 3 16 two_readers_block_script always_first two_readers_block_report }
+{}
+
+/// Of a run in which a node maps, deletes and unmaps a region of another home: each node's lines in the account are
+/// those of its calls with their answers, in order.
+pub fn lines()
+    ensures { TwoAreTold delete_by_another_script always_first 24 }
 {}

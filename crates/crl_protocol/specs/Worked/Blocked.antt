@@ -79,3 +79,27 @@ each_other_report = record {
   events = 45;
   messages = 12;
 }
+
+-- Two readers block a writer: the least of them is named.
+abbrev pub two_readers_block_script : List (List Statement)
+two_readers_block_script =
+    (create 1 ∷ map r0_1 ∷ read r0_1 ∷ [])
+    ∷ (map r0_1 ∷ read r0_1 ∷ [])
+    ∷ (map r0_1 ∷ write r0_1 ∷ [])
+    ∷ []
+
+abbrev pub two_readers_block_report : Reported
+two_readers_block_report = record {
+  entries =
+      by 0 (what.Create r0_1 1)
+      ∷ by 0 (what.Map r0_1 1)
+      ∷ by 0 (what.StartRead r0_1)
+      ∷ by 1 (what.Map r0_1 1)
+      ∷ by 1 (what.StartRead r0_1)
+      ∷ by 2 (what.Map r0_1 1)
+      ∷ [];
+  regions = [];
+  blocked = blocked.Region 2 r0_1 0 ∷ [];
+  events = 26;
+  messages = 8;
+}

@@ -157,3 +157,32 @@ delete_by_another_report = record {
   events = 24;
   messages = 8;
 }
+
+-- A region that two other nodes map is deleted: each of them is told, and the delete waits for both.
+abbrev pub delete_among_three_script : List (List Statement)
+delete_among_three_script =
+    (create 1 ∷ barrier ∷ delete r0_1 ∷ [])
+    ∷ (map r0_1 ∷ barrier ∷ [])
+    ∷ (map r0_1 ∷ barrier ∷ [])
+    ∷ []
+
+abbrev pub delete_among_three_report : Reported
+delete_among_three_report = record {
+  entries =
+      by 0 (what.Create r0_1 1)
+      ∷ by 0 (what.Come part.Barrier)
+      ∷ by 1 (what.Map r0_1 1)
+      ∷ by 1 (what.Come part.Barrier)
+      ∷ by 2 (what.Map r0_1 1)
+      ∷ by 2 (what.Come part.Barrier)
+      ∷ by 0 (what.Came 1 fold.Barrier)
+      ∷ by 0 (what.Deleting r0_1)
+      ∷ by 1 (what.Came 1 fold.Barrier)
+      ∷ by 2 (what.Came 1 fold.Barrier)
+      ∷ by 0 (what.Deleted r0_1)
+      ∷ [];
+  regions = [];
+  blocked = [];
+  events = 37;
+  messages = 12;
+}

@@ -6,7 +6,7 @@ use Rattle.crl_model.specs.declared.call.CallKind.TheVariants as word
 use Rattle.crl_model.specs.declared.call.Refusal.TheVariants as refusal
 use Rattle.crl_model.specs.declared.statement.Statement.{Statement}
 use Rattle.crl_protocol.specs.Ends.{Reported}
-use Rattle.crl_protocol.specs.Worked.Words.{r0_1, r0_2, create, map, unmap, endread, write, endwrite, change, by, holds}
+use Rattle.crl_protocol.specs.Worked.Words.{r0_0, r0_1, r0_2, r5_1, create, delete, map, unmap, endread, write, endwrite, change, by, holds}
 
 -- Calls that are refused for the sections that are open, or are not.
 abbrev pub section_rules_script : List (List Statement)
@@ -55,5 +55,26 @@ names_and_sizes_report = record {
   regions = holds r0_2 (0 ∷ []) ∷ [];
   blocked = [];
   events = 5;
+  messages = 0;
+}
+
+-- Names that no create gives: of a home that is no node, and of serial 0. They are refused at once.
+abbrev pub unreal_names_script : List (List Statement)
+unreal_names_script =
+    []
+    ∷ (map r5_1 ∷ map r0_0 ∷ delete r5_1 ∷ delete r0_0 ∷ [])
+    ∷ []
+
+abbrev pub unreal_names_report : Reported
+unreal_names_report = record {
+  entries =
+      by 1 (what.Refused word.Map (Region r5_1) refusal.Unknown)
+      ∷ by 1 (what.Refused word.Map (Region r0_0) refusal.Unknown)
+      ∷ by 1 (what.Refused word.Delete (Region r5_1) refusal.Unknown)
+      ∷ by 1 (what.Refused word.Delete (Region r0_0) refusal.Unknown)
+      ∷ [];
+  regions = [];
+  blocked = [];
+  events = 4;
   messages = 0;
 }

@@ -7,7 +7,9 @@ use Rattle.crl_model.specs.declared.entry.Entry.{Entry}
 use Rattle.crl_model.specs.declared.entry.What.{What}
 use Rattle.crl_model.specs.declared.statement.Statement.{Statement}
 use Rattle.crl_model.specs.declared.statement.Statement.TheVariants as statement
-use Rattle.crl_protocol.specs.Chosen.{Running, IsChosen}
+use Rattle.crl_protocol.specs.World.{new_world}
+use Rattle.crl_protocol.specs.Chosen.{Running, running, turns_from, IsChosen}
+use Rattle.crl_protocol.specs.Talk.{talk, AreLinesOf, lines_of_node}
 use Rattle.crl_protocol.specs.Ends.{FinalRegion, Reported, report}
 
 -- the regions of the worked runs
@@ -16,6 +18,13 @@ r0_1 = record { home = 0; serial = 1 }
 
 abbrev pub r0_2 : Name
 r0_2 = record { home = 0; serial = 2 }
+
+-- names that no create gives, where there are no more than five nodes
+abbrev pub r0_0 : Name
+r0_0 = record { home = 0; serial = 0 }
+
+abbrev pub r5_1 : Name
+r5_1 = record { home = 5; serial = 1 }
 
 -- the statements of scripts
 abbrev pub create : ℕ → Statement
@@ -75,3 +84,14 @@ pub record Gives (count capacity : ℕ) (blocks : List (List Statement)) (words 
   pub end : Running
   pub chosen : IsChosen count capacity blocks words end
   pub reported : report end ≡ expected
+
+-- After so many turns of such a run of two nodes, each node's lines in the account are those of its calls with their answers.
+abbrev pub run_of_two : List (List Statement) → (ℕ → ℕ) → ℕ → Running
+run_of_two blocks words turns = turns_from words 1 turns (running 2 16 blocks)
+
+abbrev pub IsTold : ℕ → Running → Type 0
+IsTold n end = AreLinesOf n (talk n (new_world 2 16) end.events) (lines_of_node n end.entries)
+
+pub record TwoAreTold (blocks : List (List Statement)) (words : ℕ → ℕ) (turns : ℕ) : Type 0 where
+  pub first : IsTold 0 (run_of_two blocks words turns)
+  pub second : IsTold 1 (run_of_two blocks words turns)
