@@ -36,7 +36,7 @@ pub not_refused : (b : Bool) (why : Refusal) → refuse_if b why ≡ None → b 
 not_refused true why e = cc
 not_refused false why e = refl
 
-not_not : (b : Bool) → not b ≡ false → b ≡ true
+pub not_not : (b : Bool) → not b ≡ false → b ≡ true
 not_not true e = refl
 not_not false e = cc
 

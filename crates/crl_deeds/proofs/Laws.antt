@@ -26,5 +26,7 @@ pub use Rattle.crl_deeds.proofs.Placing.{all_append}
 pub use Rattle.crl_deeds.proofs.Growing.{append_nil}
 pub use Rattle.crl_deeds.proofs.Calling.{none_of}
 pub use Rattle.crl_deeds.proofs.Entering.{open_size}
+-- What a node finds of a call that it takes or refuses.
+pub use Rattle.crl_deeds.proofs.Verdicts.{refused_for, is_mapped_by, write_starts_closed, read_starts_below, read_ends_open, write_ends_open, create_fits, send_fits}
 -- Where entries are decided.
 pub use Rattle.crl_deeds.proofs.Decided.{decided_by_call, decided_by_message, decided}

@@ -30,4 +30,5 @@ pub mod Tabling
 pub mod Totals
 pub mod Touching
 pub mod Turning
+pub mod Verdicts
 pub mod Wording

@@ -6,3 +6,4 @@ pub mod Counts
 pub mod Tokens
 pub mod TableFacts
 pub mod Entries
+pub mod Refusals

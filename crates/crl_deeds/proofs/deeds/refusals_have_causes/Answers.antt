@@ -1,0 +1,5 @@
+use Rattle.crl_deeds.proofs.Verdicts.{refused_for}
+use Rattle.crl_deeds.proofs.deeds.refusals_have_causes.Goals as goal
+
+pub returns : goal.returns
+returns c = refused_for
