@@ -4,7 +4,9 @@ pub use Rattle.crl_deeds.proofs.Deeding.{call_deed}
 pub use Rattle.crl_deeds.proofs.Hearing.{message_deed}
 pub use Rattle.crl_deeds.proofs.Turning.{turn_of, turn_count, deed_frame, lives_frame, took_at, all_took, each_at, held_turn, held_run}
 -- What holds of every node in every run.
-pub use Rattle.crl_deeds.proofs.Sound.{fits_start, fits_event, fits_run, away_load}
+pub use Rattle.crl_deeds.proofs.Sound.{fits_start, fits_event, fits_run, fits_in_runs, away_load}
+pub use Rattle.crl_deeds.proofs.Kept.{kept_turn, kept_run}
+pub use Rattle.crl_deeds.proofs.OpenReads.{sections_kept, sections_fit}
 pub use Rattle.crl_deeds.proofs.Outcomes.{here_of, here_if, there_if, not_mine, home_bytes, remote_bytes, queue_of, asking_of, mapped_home, mapped_remote}
 pub use Rattle.crl_deeds.proofs.Opens.{own_waits, grant_waits, serves_goes}
 pub use Rattle.crl_deeds.proofs.Mapping.{going_own}

@@ -14,6 +14,7 @@ pub mod Handling
 pub mod Hearing
 pub mod Informing
 pub mod Keeping
+pub mod Kept
 pub mod Knowing
 pub mod Laws
 pub mod Mapping
@@ -22,6 +23,7 @@ pub mod Opening
 pub mod Opens
 pub mod Outcomes
 pub mod Placing
+pub mod OpenReads
 pub mod Serving
 pub mod Sound
 pub mod Drafts

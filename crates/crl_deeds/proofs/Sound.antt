@@ -18,7 +18,7 @@ use Rattle.crl_protocol.specs.Home.{Home}
 use Rattle.crl_protocol.specs.Lifetimes.{no_lifetime}
 use Rattle.crl_protocol.specs.Node.{Node, new_node, Activity, Free, Waiting, Ready, Outcome}
 use Rattle.crl_protocol.specs.Calls.{node_calls}
-use Rattle.crl_protocol.specs.World.{World, commits, steps_node, collects, handles_at, put_in, carries, note, step, is_enabled, is_free, IsRunFrom, world_after}
+use Rattle.crl_protocol.specs.World.{World, commits, steps_node, collects, handles_at, put_in, carries, note, step, is_enabled, is_free, IsRunFrom, world_after, IsRun, new_world, world_of}
 use Rattle.crl_deeds.specs.NodeFacts.{seen, OwnFits, Holds, Comes, Leaves, IsAway, Fits}
 use Rattle.crl_deeds.proofs.Placing.{all_append}
 use Rattle.crl_deeds.proofs.Keeping.{fits_turn}
@@ -209,3 +209,6 @@ fits_event w (event.Carry i place) h s = fits_carried w i place _ (take_out plac
 pub fits_run : (w : World) (es : List Event) → IsRunFrom w es → AllFit w → AllFit (world_after w es)
 fits_run w [] r s = s
 fits_run w (e ∷ es) r s = fits_run (step e w).world es r.1 (fits_event w e r.0 s)
+
+pub fits_in_runs : (count capacity : ℕ) (run : List Event) → IsRun count capacity run → (i : ℕ) → Fits i ((world_of count capacity run).nodes i)
+fits_in_runs count capacity run r = fits_run (new_world count capacity) run r.enabled (λ i. fits_start count capacity i)

@@ -1,6 +1,6 @@
 -- What is known of a node and its messages by counting: each map count is at least 1 and fits, and what isn't about
 -- copies goes to a node of the world.
-use Rattle.std.specs.Prelude.{◌≡◌, ℕ, ◌^◌, ◌≤◌, ◌<◌, ◌==◌, Bool, true, false}
+use Rattle.std.specs.Prelude.{◌≡◌, ℕ, ◌+◌, ◌^◌, ◌≤◌, ◌<◌, ◌==◌, Bool, true, false}
 use Rattle.std.specs.declared.option.Option.{Option}
 use Rattle.std.specs.declared.option.Option.TheVariants.{None, Some}
 use Rattle.crl_model.specs.declared.name.Name.{Name}
@@ -9,8 +9,11 @@ use Rattle.crl_model.specs.declared.stage.Stage.TheVariants as stage
 use Rattle.crl_model.specs.declared.message.Message.{Message}
 use Rattle.crl_model.specs.declared.message.Kind.{Kind}
 use Rattle.crl_model.specs.declared.message.Kind.TheVariants as kind
+use Rattle.crl_model.specs.declared.directory.Section.{Section}
+use Rattle.crl_model.specs.declared.directory.Section.TheVariants as section
+use Rattle.crl_protocol.specs.Sections.{Sections, section_at, count_of, is_writing}
 use Rattle.crl_protocol.specs.Lifetimes.{Mapping}
-use Rattle.crl_protocol.specs.Node.{Node, Activity, Waiting, ForMap, is_mine, lifetime_of, serials_used}
+use Rattle.crl_protocol.specs.Node.{Node, Activity, Waiting, ForSection, ForMap, is_mine, lifetime_of, serials_used}
 use Rattle.crl_protocol.specs.World.{World}
 use Rattle.crl_deeds.specs.NodeFacts.{Fits}
 use Rattle.crl_deeds.specs.Turns.{Held}
@@ -59,3 +62,17 @@ pub record Known (w : World) : Type 0 where
   pub fits : (i : ℕ) → Fits i (w.nodes i)
   pub held : Held (Counted w.count) (Plain w.count) w
   pub none : Held (λ i n. NoneYet n) (λ m. Unit {0}) w
+
+-- Read sections inside each other are counted. Where a node waits for a section, none is open to write, and one more fits.
+abbrev pub FitsReads : Section → Type 0
+FitsReads section.Closed = Unit {0}
+FitsReads (section.Reading count) = (1 ≤ count) × (count < 2 ^ 32)
+FitsReads section.Writing = Unit {0}
+
+abbrev pub AwaitsSection : Activity → Sections → Type 0
+AwaitsSection (Waiting (ForSection q)) s = (is_writing (section_at q s) ≡ false) × (count_of (section_at q s) + 1 < 2 ^ 32)
+AwaitsSection _ s = Unit {0}
+
+pub record SectionsFit (n : Node) : Type 0 where
+  pub each : (q : Name) → FitsReads (section_at q n.sections)
+  pub waiting : AwaitsSection n.activity n.sections

@@ -11,7 +11,8 @@ use Rattle.crl_protocol.specs.Places.{Took}
 use Rattle.crl_protocol.specs.Node.{Node, Recorded, Note, Answer, Done, Free, Ready, Outcome, only}
 use Rattle.crl_protocol.specs.Verdict.{verdict}
 use Rattle.crl_protocol.specs.World.{World, WorldStep, is_call, carries, steps_node, stays}
-use Rattle.crl_deeds.specs.Deeds.{Cause, Calls, Hears, Deed}
+use Rattle.crl_deeds.specs.Deeds.{FreeIf, Cause, Calls, Hears, Deed}
+use Rattle.crl_deeds.specs.NodeFacts.{Leaves, Fits}
 
 -- A call of a free node; a piece that comes, which makes a message whole or is only kept; an answer that is taken; and a
 -- piece that is carried. Each has the event as it is noted.
@@ -66,3 +67,9 @@ pub record HeldAt (P : ℕ → Node → Type 0) (Q : Message → Type 0) (i : �
 abbrev pub Held : (ℕ → Node → Type 0) → (Message → Type 0) → World → Type 0
 Held P Q w = (i : ℕ) → HeldAt P Q i (w.nodes i)
 
+-- What holds of each node by itself, where a deed is known to be of a node that fits.
+pub record Kept (P : Node → Type 0) : Type 0 where
+  pub deed : (j : ℕ) (n : Node) (cause : Cause) (o : Outcome) → Deed n cause o → Fits j n → Came Leaves n.me cause → FreeIf cause n → P n → P o.node
+  pub boxes : (n : Node) (inbox outbox : List Piece) (parcels : PartsGathered) (records : List Recorded) (notes : List Note) (posted : ℕ) → P n
+      → P (record n { inbox = inbox; outbox = outbox; parcels = parcels; records = records; notes = notes; posted = posted })
+  pub answered : (n : Node) (answer : Answer) → n.activity ≡ Ready answer → P n → P (record n { activity = Free })

@@ -3,4 +3,5 @@
 #![tactic(auto)]
 
 pub mod deeds;
+pub mod facts;
 pub mod theorems;

@@ -1,0 +1,5 @@
+use Rattle.crl_deeds.proofs.Counting.{mappings_are_counted}
+use Rattle.crl_deeds.proofs.facts.mappings_are_counted.Goals as goal
+
+pub returns : goal.returns
+returns c = mappings_are_counted

@@ -1,0 +1,5 @@
+use Rattle.crl_deeds.proofs.OpenReads.{sections_fit}
+use Rattle.crl_deeds.proofs.facts.reads_are_counted.Goals as goal
+
+pub returns : goal.returns
+returns c = sections_fit
