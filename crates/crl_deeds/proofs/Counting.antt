@@ -25,7 +25,8 @@ pub use Rattle.crl_deeds.specs.Counts.{Counts, WaitsAway, PlainKind, Plain, Goin
 use Rattle.crl_deeds.proofs.Fitting.{by_name}
 use Rattle.crl_deeds.proofs.Tabling.{lifetime_put}
 use Rattle.crl_deeds.proofs.Placing.{all_append}
-use Rattle.crl_deeds.specs.Deeds.{Cause, parting, Copies, Lives, Rounds, Notes, Deed, copies, lives, rounds, notes, home_opens, home_waits, side_opens, side_waits, home_ends, side_ends, side_flushes, home_serves, home_serves_own, grant_comes, side_called, made, maps_more, maps_own, maps_cached, map_asks, map_told, map_refused, map_comes, map_denied, unmaps_one, unmaps_own, unmaps_doomed, unmaps_keeping, unmaps_evicting, deletes_alone, deletes_own, delete_asks, deletes_alone_for, deletes_for, delete_refused, delete_comes, dooms, drops, warns, counts_off, ends_own, ends_for, comes_away, comes_last, part_comes, part_last, part_last_idle, flushes_own}
+use Rattle.crl_deeds.specs.Deeds.{Cause, parting, Copies, Lives, Rounds, Notes, Deed}
+use Rattle.crl_deeds.specs.Deeds as deed
 use Rattle.crl_deeds.proofs.Turning.{Came, Local, Held, lives_frame, held_run}
 
 -- Maps.
@@ -49,18 +50,18 @@ away_quiet mine doomed e f = cc
 
 counts_lives : (count : ℕ) (n : Node) (cause : Cause) (o : Outcome) → Lives n cause o → Came (Plain count) n.me cause → WaitsAway n.me n.activity → ((q : Name) → Counts (is_mine n q) (n.maps q))
     → (q : Name) → Counts (is_mine o.node q) (o.node.maps q)
-counts_lives count n cause o (maps_more name m e few mine other) f w h =
+counts_lives count n cause o (deed.maps_more name m e few mine other) f w h =
     let k = there_is n name m h e in counts_put n name _ h (omega arith, more_fits m.count k.1 few, k.2)
-counts_lives count n cause o (maps_own name e mine live) f w h = counts_put n name _ h (one_fits _ _ (λ e. refl))
-counts_lives count n cause o (maps_cached name size e other c) f w h = counts_put n name _ h (one_fits _ _ (λ e. refl))
-counts_lives count n cause o (map_comes from name purged size e) f w h = counts_put n name _ h (one_fits _ _ (away_quiet _ _ (subst (λ a. WaitsAway n.me a) e w)))
-counts_lives count n cause o (unmaps_one name m e some more closed) f w h =
+counts_lives count n cause o (deed.maps_own name e mine live) f w h = counts_put n name _ h (one_fits _ _ (λ e. refl))
+counts_lives count n cause o (deed.maps_cached name size e other c) f w h = counts_put n name _ h (one_fits _ _ (λ e. refl))
+counts_lives count n cause o (deed.map_comes from name purged size e) f w h = counts_put n name _ h (one_fits _ _ (away_quiet _ _ (subst (λ a. WaitsAway n.me a) e w)))
+counts_lives count n cause o (deed.unmaps_one name m e some more closed) f w h =
     let k = there_is n name m h e in counts_put n name _ h (less_fits m.count k.0 more, (let c = k.1 in omega arith), k.2)
-counts_lives count n cause o (unmaps_own name m e one mine closed) f w h = counts_put n name None h tt
-counts_lives count n cause o (unmaps_doomed name m e one other doomed closed) f w h = counts_put n name None h tt
-counts_lives count n cause o (unmaps_keeping name m e one other sound closed kept) f w h = counts_put n name None h tt
-counts_lives count n cause o (unmaps_evicting name m old e one other sound closed kept) f w h = counts_put n name None h tt
-counts_lives count n cause o (dooms from name m e) f w h = let k = there_is n name m h e in counts_put n name _ h (k.0, k.1, away_quiet _ _ f.1.0)
+counts_lives count n cause o (deed.unmaps_own name m e one mine closed) f w h = counts_put n name None h tt
+counts_lives count n cause o (deed.unmaps_doomed name m e one other doomed closed) f w h = counts_put n name None h tt
+counts_lives count n cause o (deed.unmaps_keeping name m e one other sound closed kept) f w h = counts_put n name None h tt
+counts_lives count n cause o (deed.unmaps_evicting name m old e one other sound closed kept) f w h = counts_put n name None h tt
+counts_lives count n cause o (deed.dooms from name m e) f w h = let k = there_is n name m h e in counts_put n name _ h (k.0, k.1, away_quiet _ _ f.1.0)
 counts_lives count n cause o _ f w h = h
 
 -- What it waits for.
@@ -69,27 +70,27 @@ waits_warned me name (Waiting (ForMap p purged)) h = h
 waits_warned me name _ h = h
 
 waits_lives : (count : ℕ) (n : Node) (cause : Cause) (o : Outcome) → Lives n cause o → WaitsAway n.me n.activity → WaitsAway o.node.me o.node.activity
-waits_lives count n cause o (map_asks name e other c real) w = other
-waits_lives count n cause o (map_comes from name purged size e) w = tt
-waits_lives count n cause o (map_denied from name purged s why t d u e) w = tt
-waits_lives count n cause o (deletes_own name m ms mine live e) w = tt
-waits_lives count n cause o (delete_asks name other real) w = tt
-waits_lives count n cause o (delete_comes from name d e) w = tt
-waits_lives count n cause o (warns from name e c) w = waits_warned n.me name n.activity w
-waits_lives count n cause o (ends_own from name mine e missing last) w = tt
+waits_lives count n cause o (deed.map_asks name e other c real) w = other
+waits_lives count n cause o (deed.map_comes from name purged size e) w = tt
+waits_lives count n cause o (deed.map_denied from name purged s why t d u e) w = tt
+waits_lives count n cause o (deed.deletes_own name m ms mine live e) w = tt
+waits_lives count n cause o (deed.delete_asks name other real) w = tt
+waits_lives count n cause o (deed.delete_comes from name d e) w = tt
+waits_lives count n cause o (deed.warns from name e c) w = waits_warned n.me name n.activity w
+waits_lives count n cause o (deed.ends_own from name mine e missing last) w = tt
 waits_lives count n cause o _ w = w
 
 waits_copies : (n : Node) (cause : Cause) (o : Outcome) → Copies n cause o → WaitsAway n.me n.activity → WaitsAway o.node.me o.node.activity
-waits_copies n cause o (home_waits c write name h is e v x) w = tt
-waits_copies n cause o (side_waits c write name r is e f v x) w = tt
-waits_copies n cause o (home_serves_own from k name h s is e x) w = tt
-waits_copies n cause o (grant_comes from name version g r e t) w = tt
+waits_copies n cause o (deed.home_waits c write name h is e v x) w = tt
+waits_copies n cause o (deed.side_waits c write name r is e f v x) w = tt
+waits_copies n cause o (deed.home_serves_own from k name h s is e x) w = tt
+waits_copies n cause o (deed.grant_comes from name version g r e t) w = tt
 waits_copies n cause o _ w = w
 
 waits_rounds : (n : Node) (cause : Cause) (o : Outcome) → Rounds n cause o → WaitsAway n.me n.activity → WaitsAway o.node.me o.node.activity
-waits_rounds n cause o (comes_last part parts first fits all) w = w
-waits_rounds n cause o (part_comes from round part a all) w = w
-waits_rounds n cause o (part_last_idle from round part parts idle a all) w = w
+waits_rounds n cause o (deed.comes_last part parts first fits all) w = w
+waits_rounds n cause o (deed.part_comes from round part a all) w = w
+waits_rounds n cause o (deed.part_last_idle from round part parts idle a all) w = w
 waits_rounds n cause o _ w = tt
 
 -- Who asked.
@@ -108,16 +109,16 @@ other_of : (a b c : ℕ) → (a == b) ≡ false → (a == c) ≡ true → (b == 
 other_of a b c e f = ne_eqb b c (λ w. eqb-false a b e (eqb-true a c f ∙ sym w))
 
 asked_lives : (count : ℕ) (n : Node) (cause : Cause) (o : Outcome) → Lives n cause o → Came (Plain count) n.me cause → NotAsked n → NotAsked o.node
-asked_lives count n cause o (made size e) f h = asked_made n size h
-asked_lives count n cause o (map_told from name mine live) f h =
+asked_lives count n cause o (deed.made size e) f h = asked_made n size h
+asked_lives count n cause o (deed.map_told from name mine live) f h =
     asked_put n name _ mine (cond-false (from == n.me) _ _ (other_of name.home from n.me f.1.0 mine) ∙ h name) h
-asked_lives count n cause o (deletes_alone name mine live e) f h = asked_put n name _ mine (h name) h
-asked_lives count n cause o (deletes_own name m ms mine live e) f h = asked_put n name _ mine (h name) h
-asked_lives count n cause o (deletes_alone_for from name mine live e) f h = asked_put n name _ mine (h name) h
-asked_lives count n cause o (deletes_for from name m ms mine live e) f h = asked_put n name _ mine (h name) h
-asked_lives count n cause o (counts_off from name deleter m ms mine e missing left) f h = asked_put n name _ mine (h name) h
-asked_lives count n cause o (ends_own from name mine e missing last) f h = asked_put n name _ mine (h name) h
-asked_lives count n cause o (ends_for from name deleter mine e other missing last) f h = asked_put n name _ mine (h name) h
+asked_lives count n cause o (deed.deletes_alone name mine live e) f h = asked_put n name _ mine (h name) h
+asked_lives count n cause o (deed.deletes_own name m ms mine live e) f h = asked_put n name _ mine (h name) h
+asked_lives count n cause o (deed.deletes_alone_for from name mine live e) f h = asked_put n name _ mine (h name) h
+asked_lives count n cause o (deed.deletes_for from name m ms mine live e) f h = asked_put n name _ mine (h name) h
+asked_lives count n cause o (deed.counts_off from name deleter m ms mine e missing left) f h = asked_put n name _ mine (h name) h
+asked_lives count n cause o (deed.ends_own from name mine e missing last) f h = asked_put n name _ mine (h name) h
+asked_lives count n cause o (deed.ends_for from name deleter mine e other missing last) f h = asked_put n name _ mine (h name) h
 asked_lives count n cause o _ f h = h
 
 -- Who deletes.
@@ -130,15 +131,15 @@ few_made count n size h q =
     (λ mine. cond_both (serials_used n + 1 == q.serial) _ _ (λ (l : Lifetime). GoingFew count l.stage) (λ w. tt) (λ w. subst (λ (l : Lifetime). GoingFew count l.stage) (cond-true (is_mine n q) _ _ mine) (h q))) (λ w. tt)
 
 few_lives : (count : ℕ) (n : Node) (cause : Cause) (o : Outcome) → Lives n cause o → n.me < count → Came (Plain count) n.me cause → ((q : Name) → GoingFew count (lifetime_of n q).stage) → (q : Name) → GoingFew count (lifetime_of o.node q).stage
-few_lives count n cause o (made size e) few f h = few_made count n size h
-few_lives count n cause o (map_told from name mine live) few f h = few_put count n name _ mine (h name) h
-few_lives count n cause o (deletes_alone name mine live e) few f h = few_put count n name _ mine tt h
-few_lives count n cause o (deletes_own name m ms mine live e) few f h = few_put count n name _ mine few h
-few_lives count n cause o (deletes_alone_for from name mine live e) few f h = few_put count n name _ mine tt h
-few_lives count n cause o (deletes_for from name m ms mine live e) few f h = few_put count n name _ mine f.0 h
-few_lives count n cause o (counts_off from name deleter m ms mine e missing left) few f h = few_put count n name _ mine (h name) h
-few_lives count n cause o (ends_own from name mine e missing last) few f h = few_put count n name _ mine tt h
-few_lives count n cause o (ends_for from name deleter mine e other missing last) few f h = few_put count n name _ mine tt h
+few_lives count n cause o (deed.made size e) few f h = few_made count n size h
+few_lives count n cause o (deed.map_told from name mine live) few f h = few_put count n name _ mine (h name) h
+few_lives count n cause o (deed.deletes_alone name mine live e) few f h = few_put count n name _ mine tt h
+few_lives count n cause o (deed.deletes_own name m ms mine live e) few f h = few_put count n name _ mine few h
+few_lives count n cause o (deed.deletes_alone_for from name mine live e) few f h = few_put count n name _ mine tt h
+few_lives count n cause o (deed.deletes_for from name m ms mine live e) few f h = few_put count n name _ mine f.0 h
+few_lives count n cause o (deed.counts_off from name deleter m ms mine e missing left) few f h = few_put count n name _ mine (h name) h
+few_lives count n cause o (deed.ends_own from name mine e missing last) few f h = few_put count n name _ mine tt h
+few_lives count n cause o (deed.ends_for from name deleter mine e other missing last) few f h = few_put count n name _ mine tt h
 few_lives count n cause o _ few f h = h
 
 -- What it sends.
@@ -181,58 +182,58 @@ purges_plain count n name set (m ∷ ms) few mine h all =
     ((few, (away, all.0.1)), purges_plain count n name set ms few mine h all.1)
 
 sends_copies : (count : ℕ) (n : Node) (cause : Cause) (o : Outcome) → Copies n cause o → n.me < count → AllByRecursion (Plain count) o.posts
-sends_copies count n cause o (home_opens c write name h is e v x) few = letters_plain count n name _ few
-sends_copies count n cause o (home_waits c write name h is e v x) few = letters_plain count n name _ few
-sends_copies count n cause o (home_ends c name w ends lowers h is e) few = letters_plain count n name _ few
-sends_copies count n cause o (home_serves from k name h s is e x) few = letters_plain count n name _ few
-sends_copies count n cause o (home_serves_own from k name h s is e x) few = letters_plain count n name _ few
-sends_copies count n cause o (grant_comes from name version g r e t) few = tt
-sends_copies count n cause o (side_opens c write name r is e f v x) few = mails_plain count n name _ few
-sends_copies count n cause o (side_waits c write name r is e f v x) few = mails_plain count n name _ few
-sends_copies count n cause o (side_ends c name w ends lowers r is e f) few = mails_plain count n name _ few
-sends_copies count n cause o (side_flushes name r other e closed) few = mails_plain count n name _ few
-sends_copies count n cause o (side_called from k name r s is e) few = mails_plain count n name _ few
+sends_copies count n cause o (deed.home_opens c write name h is e v x) few = letters_plain count n name _ few
+sends_copies count n cause o (deed.home_waits c write name h is e v x) few = letters_plain count n name _ few
+sends_copies count n cause o (deed.home_ends c name w ends lowers h is e) few = letters_plain count n name _ few
+sends_copies count n cause o (deed.home_serves from k name h s is e x) few = letters_plain count n name _ few
+sends_copies count n cause o (deed.home_serves_own from k name h s is e x) few = letters_plain count n name _ few
+sends_copies count n cause o (deed.grant_comes from name version g r e t) few = tt
+sends_copies count n cause o (deed.side_opens c write name r is e f v x) few = mails_plain count n name _ few
+sends_copies count n cause o (deed.side_waits c write name r is e f v x) few = mails_plain count n name _ few
+sends_copies count n cause o (deed.side_ends c name w ends lowers r is e f) few = mails_plain count n name _ few
+sends_copies count n cause o (deed.side_flushes name r other e closed) few = mails_plain count n name _ few
+sends_copies count n cause o (deed.side_called from k name r s is e) few = mails_plain count n name _ few
 
 sends_lives : (count : ℕ) (n : Node) (cause : Cause) (o : Outcome) → Lives n cause o → n.me < count → n.nodes ≡ count → Came (Plain count) n.me cause → NotAsked n → ((q : Name) → GoingFew count (lifetime_of n q).stage) → AllByRecursion (Plain count) o.posts
-sends_lives count n cause o (map_asks name e other c real) few all f h going = ((few, (other, subst (λ k. name.home < k) all (ltb-true _ _ (and_parts _ _ real).0))), tt)
-sends_lives count n cause o (map_told from name mine live) few all f h going = ((few, f.0), tt)
-sends_lives count n cause o (map_refused from name why t d u) few all f h going = ((few, f.0), tt)
-sends_lives count n cause o (unmaps_doomed name m e one other doomed closed) few all f h going = parting_plain count n name (n.remotes name) few
-sends_lives count n cause o (unmaps_evicting name m old e one other sound closed kept) few all f h going = parting_plain count n old (n.remotes old) few
-sends_lives count n cause o (deletes_own name m ms mine live e) few all f h going = purges_plain count n name _ _ few mine (h name) (members_are _ count 0 n.nodes (omega arith))
-sends_lives count n cause o (deletes_for from name m ms mine live e) few all f h going = purges_plain count n name _ _ few mine (h name) (members_are _ count 0 n.nodes (omega arith))
-sends_lives count n cause o (delete_asks name other real) few all f h going = ((few, subst (λ k. name.home < k) all (ltb-true _ _ (and_parts _ _ real).0)), tt)
-sends_lives count n cause o (deletes_alone_for from name mine live e) few all f h going = ((few, f.0), tt)
-sends_lives count n cause o (delete_refused from name why t d u) few all f h going = ((few, f.0), tt)
-sends_lives count n cause o (dooms from name m e) few all f h going = ((few, f.0), tt)
-sends_lives count n cause o (drops from name size e c) few all f h going = all_append (Plain count) (parting n name (n.remotes name)) _ (parting_plain count n name (n.remotes name) few) ((few, f.0), tt)
-sends_lives count n cause o (warns from name e c) few all f h going = ((few, f.0), tt)
-sends_lives count n cause o (ends_for from name deleter mine e other missing last) few all f h going = ((few, subst (GoingFew count) e (going name)), tt)
+sends_lives count n cause o (deed.map_asks name e other c real) few all f h going = ((few, (other, subst (λ k. name.home < k) all (ltb-true _ _ (and_parts _ _ real).0))), tt)
+sends_lives count n cause o (deed.map_told from name mine live) few all f h going = ((few, f.0), tt)
+sends_lives count n cause o (deed.map_refused from name why t d u) few all f h going = ((few, f.0), tt)
+sends_lives count n cause o (deed.unmaps_doomed name m e one other doomed closed) few all f h going = parting_plain count n name (n.remotes name) few
+sends_lives count n cause o (deed.unmaps_evicting name m old e one other sound closed kept) few all f h going = parting_plain count n old (n.remotes old) few
+sends_lives count n cause o (deed.deletes_own name m ms mine live e) few all f h going = purges_plain count n name _ _ few mine (h name) (members_are _ count 0 n.nodes (omega arith))
+sends_lives count n cause o (deed.deletes_for from name m ms mine live e) few all f h going = purges_plain count n name _ _ few mine (h name) (members_are _ count 0 n.nodes (omega arith))
+sends_lives count n cause o (deed.delete_asks name other real) few all f h going = ((few, subst (λ k. name.home < k) all (ltb-true _ _ (and_parts _ _ real).0)), tt)
+sends_lives count n cause o (deed.deletes_alone_for from name mine live e) few all f h going = ((few, f.0), tt)
+sends_lives count n cause o (deed.delete_refused from name why t d u) few all f h going = ((few, f.0), tt)
+sends_lives count n cause o (deed.dooms from name m e) few all f h going = ((few, f.0), tt)
+sends_lives count n cause o (deed.drops from name size e c) few all f h going = all_append (Plain count) (parting n name (n.remotes name)) _ (parting_plain count n name (n.remotes name) few) ((few, f.0), tt)
+sends_lives count n cause o (deed.warns from name e c) few all f h going = ((few, f.0), tt)
+sends_lives count n cause o (deed.ends_for from name deleter mine e other missing last) few all f h going = ((few, subst (GoingFew count) e (going name)), tt)
 sends_lives count n cause o _ few all f h going = tt
 
 sends_rounds : (count : ℕ) (n : Node) (cause : Cause) (o : Outcome) → Rounds n cause o → n.me < count → n.nodes ≡ count → AllByRecursion (Plain count) o.posts
-sends_rounds count n cause o (comes_away part other fits) few all = ((few, omega arith), tt)
-sends_rounds count n cause o (comes_last part parts first fits full) few all = all_results count n _ _ few all
-sends_rounds count n cause o (part_last from round part parts mine k e a full) few all = all_results count n _ _ few all
-sends_rounds count n cause o (part_last_idle from round part parts idle a full) few all = all_results count n _ _ few all
+sends_rounds count n cause o (deed.comes_away part other fits) few all = ((few, omega arith), tt)
+sends_rounds count n cause o (deed.comes_last part parts first fits full) few all = all_results count n _ _ few all
+sends_rounds count n cause o (deed.part_last from round part parts mine k e a full) few all = all_results count n _ _ few all
+sends_rounds count n cause o (deed.part_last_idle from round part parts idle a full) few all = all_results count n _ _ few all
 sends_rounds count n cause o _ few all = tt
 
 -- All of it after a deed, and in every run.
 still_copies : (count i : ℕ) (n : Node) (cause : Cause) (o : Outcome) → Copies n cause o → Counted count i n → WaitsAway o.node.me o.node.activity → Counted count i o.node
-still_copies count i n cause o (home_opens c write name h is e v x) k w = record { me = k.me; few = k.few; maps = k.maps; waits = w; asked = k.asked; deleters = k.deleters }
+still_copies count i n cause o (deed.home_opens c write name h is e v x) k w = record { me = k.me; few = k.few; maps = k.maps; waits = w; asked = k.asked; deleters = k.deleters }
 still_copies count i n cause o _ k w = record { me = k.me; few = k.few; maps = k.maps; waits = w; asked = k.asked; deleters = k.deleters }
 
 still_rounds : (count i : ℕ) (n : Node) (cause : Cause) (o : Outcome) → Rounds n cause o → Counted count i n → WaitsAway o.node.me o.node.activity → Counted count i o.node
-still_rounds count i n cause o (comes_away part other fits) k w = record { me = k.me; few = k.few; maps = k.maps; waits = w; asked = k.asked; deleters = k.deleters }
+still_rounds count i n cause o (deed.comes_away part other fits) k w = record { me = k.me; few = k.few; maps = k.maps; waits = w; asked = k.asked; deleters = k.deleters }
 still_rounds count i n cause o _ k w = record { me = k.me; few = k.few; maps = k.maps; waits = w; asked = k.asked; deleters = k.deleters }
 
 still_notes : (count i : ℕ) (n : Node) (c : Call) (w : What) (m : Node) → Notes n c w m → Counted count i n → Counted count i m
-still_notes count i n c w m (flushes_own name mine closed) k = record { me = k.me; few = k.few; maps = k.maps; waits = k.waits; asked = k.asked; deleters = k.deleters }
+still_notes count i n c w m (deed.flushes_own name mine closed) k = record { me = k.me; few = k.few; maps = k.maps; waits = k.waits; asked = k.asked; deleters = k.deleters }
 still_notes count i n c w m _ k = record { me = k.me; few = k.few; maps = k.maps; waits = k.waits; asked = k.asked; deleters = k.deleters }
 
 counted_at : (count i : ℕ) (n : Node) (cause : Cause) (o : Outcome) → Deed n cause o → n.me < count → Came (Plain count) n.me cause → Counted count i n → Counted count i o.node × AllByRecursion (Plain count) o.posts
-counted_at count i n cause o (copies c) few came k = (still_copies count i n cause o c k (waits_copies n cause o c k.waits), sends_copies count n cause o c few)
-counted_at count i n cause o (lives c) few came k =
+counted_at count i n cause o (deed.copies c) few came k = (still_copies count i n cause o c k (waits_copies n cause o c k.waits), sends_copies count n cause o c few)
+counted_at count i n cause o (deed.lives c) few came k =
     let same = lives_frame n cause o c in (
       record {
         me = same.me ∙ k.me;
@@ -244,8 +245,8 @@ counted_at count i n cause o (lives c) few came k =
       },
       sends_lives count n cause o c few k.few came k.asked k.deleters,
     )
-counted_at count i n cause o (rounds c) few came k = (still_rounds count i n cause o c k (waits_rounds n cause o c k.waits), sends_rounds count n cause o c few k.few)
-counted_at count i n cause o (notes c) few came k = (still_notes count i n _ _ _ c k, tt)
+counted_at count i n cause o (deed.rounds c) few came k = (still_rounds count i n cause o c k (waits_rounds n cause o c k.waits), sends_rounds count n cause o c few k.few)
+counted_at count i n cause o (deed.notes c) few came k = (still_notes count i n _ _ _ c k, tt)
 counted_at count i n cause o _ few came k = (k, tt)
 
 counted_deed : (count i : ℕ) (n : Node) (cause : Cause) (o : Outcome) → i < count → Deed n cause o → Came (Plain count) i cause → Counted count i n → Counted count i o.node × AllByRecursion (Plain count) o.posts

@@ -38,9 +38,8 @@ use Rattle.crl_protocol.specs.Verdict.{verdict, refuses_call}
 use Rattle.crl_protocol.specs.Calls.{node_calls, call_or_refuse, result_of}
 use Rattle.crl_protocol.specs.Handlers.{node_handles, is_queued_in}
 use Rattle.crl_protocol.specs.World.{World, WorldStep, handles_at, carries, collects, step}
-use Rattle.crl_deeds.specs.Deeds.{Cause, Calls, Hears, StartsCall, to_read, to_write, EndsCall, a_read, a_write, Serves, ask_comes, copy_returns, copy_lowers, CallsBack, wholly, to_share, Copies, Lives, Rounds, Notes, Idles, Deed, copies, lives, rounds, notes, refuses, idles, Unfit, never, going, gone}
+use Rattle.crl_deeds.specs.Deeds.{Cause, StartsCall, EndsCall, Serves, CallsBack, Copies, Lives, Rounds, Notes, Idles, Deed, Unfit, Calls, Hears}
 use Rattle.crl_deeds.specs.Deeds as deed
-use Rattle.crl_deeds.specs.Deeds.{home_opens, home_waits, side_opens, side_waits, home_ends, side_ends, side_flushes, home_serves, home_serves_own, grant_comes, side_called, made, used_up, maps_more, maps_own, maps_cached, map_asks, map_told, map_refused, map_comes, map_denied, unmaps_one, unmaps_own, unmaps_doomed, unmaps_keeping, unmaps_evicting, deletes_alone, deletes_own, delete_asks, deletes_alone_for, deletes_for, delete_refused, delete_comes, dooms, drops, warns, counts_off, ends_own, ends_for, comes_away, comes_home, comes_last, part_comes, part_last, part_last_idle, result_comes, ends_nowhere, flushes_own, flushes_nowhere}
 use Rattle.crl_deeds.specs.Entries.{entries_of_start, opens_at_once, entries_of_serve, entries_of_ask, entries_of_return, entries_of_release, entries_of_grant, refused_at, entries_of_map, entries_of_delete, entries_of_purged, entries_of_mapping, entries_of_cached, entries_of_round, entries_of_part, entries_of_result, entries_of_call, entries_of_message, entries_of, made_whole_of_size, made_whole_as, entries_of_heard, entries_of_taken, entries_at}
 use Rattle.crl_deeds.proofs.Deeding.{call_deed}
 use Rattle.crl_deeds.proofs.Hearing.{message_deed}
@@ -65,47 +64,47 @@ over_side : (me : ℕ) (write : Bool) (o : Option Home) (p : Option Remote) (r :
 over_side me write o p r b e f g = ap (λ x. opens_at_once me write x p) e ∙ ap (λ x. opens_at_once me write None x) f ∙ g
 
 started : (n : Node) (c : Call) (write : Bool) (q : Name) (opened : Bool) → StartsCall c write q → opens_at_once n.me write (home_of n q) (n.remotes q) ≡ opened → entries_of_start opened n.me write q ≡ entries_of_call n c None
-started n c write q opened (to_read p) e = starts_at opened n.me false p _ e
-started n c write q opened (to_write p) e = starts_at opened n.me true p _ e
+started n c write q opened (deed.to_read p) e = starts_at opened n.me false p _ e
+started n c write q opened (deed.to_write p) e = starts_at opened n.me true p _ e
 
 ended : (n : Node) (bytes : List ℕ) (c : Call) (q : Name) (w : What) (ends : Home → HomeStep) (lowers : Remote → RemoteStep) → EndsCall bytes n c q w ends lowers → bytes ≡ bytes_at q n.sections → entry_of n.me w ∷ [] ≡ entries_of_call n c None
-ended n bytes c q w ends lowers (a_read p v) e = ap (λ x. entry_of n.me (what.Read p x) ∷ []) e
-ended n bytes c q w ends lowers (a_write p after v) e = ap (λ x. entry_of n.me (what.Write p x after) ∷ []) e
+ended n bytes c q w ends lowers (deed.a_read p v) e = ap (λ x. entry_of n.me (what.Read p x) ∷ []) e
+ended n bytes c q w ends lowers (deed.a_write p after v) e = ap (λ x. entry_of n.me (what.Write p x after) ∷ []) e
 
 -- a section at the home that opens with a message, or doesn't
 served : (n : Node) (h : Home) (from : ℕ) (k : Kind) (q : Name) (s : HomeStep) → Serves n h from k q s → home_of n q ≡ Some h → entries_of_serve n.me q s ≡ entries_of_message n from k
-served n h from k q s (ask_comes f p write have w) e =
+served n h from k q s (deed.ask_comes f p write have w) e =
     sym (ap (λ x. entries_of_ask n.me (is_queued_in from n.homes) p write have from x) e ∙ cond-false (is_queued_in from n.homes) [] (entries_of_serve n.me p s) w)
-served n h from k q s (copy_returns f p version bytes w) e = sym (ap (λ x. entries_of_return n.me p version bytes from x) e ∙ cond-true _ (entries_of_serve n.me p s) [] w)
-served n h from k q s (copy_lowers f p version bytes w) e = sym (ap (λ x. entries_of_release n.me p version bytes from x) e ∙ cond-true _ (entries_of_serve n.me p s) [] w)
+served n h from k q s (deed.copy_returns f p version bytes w) e = sym (ap (λ x. entries_of_return n.me p version bytes from x) e ∙ cond-true _ (entries_of_serve n.me p s) [] w)
+served n h from k q s (deed.copy_lowers f p version bytes w) e = sym (ap (λ x. entries_of_release n.me p version bytes from x) e ∙ cond-true _ (entries_of_serve n.me p s) [] w)
 
 called_back : (n : Node) (r : Remote) (from : ℕ) (k : Kind) (q : Name) (s : RemoteStep) → CallsBack r k q s → [] ≡ entries_of_message n from k
-called_back n r from k q s (wholly p version) = refl
-called_back n r from k q s (to_share p version) = refl
+called_back n r from k q s (deed.wholly p version) = refl
+called_back n r from k q s (deed.to_share p version) = refl
 
 of_copies : (n : Node) (cause : Cause) (o : Outcome) → Copies n cause o → o.entries ≡ Table n cause
-of_copies n cause o (home_opens c write q h is e v x) = started n c write q true is (over_home n.me write _ _ h true e x)
-of_copies n cause o (home_waits c write q h is e v x) = started n c write q false is (over_home n.me write _ _ h false e x)
-of_copies n cause o (side_opens c write q r is e f v x) = started n c write q true is (over_side n.me write _ _ r true e f x)
-of_copies n cause o (side_waits c write q r is e f v x) = started n c write q false is (over_side n.me write _ _ r false e f x)
-of_copies n cause o (home_ends c q w ends lowers h is e) = ended n _ c q w ends lowers is refl
-of_copies n cause o (side_ends c q w ends lowers r is e f) = ended n _ c q w ends lowers is refl
-of_copies n cause o (side_flushes q r other e can) = refl
-of_copies n cause o (home_serves from k q h s is e x) = sym (ap (λ b. entries_of_start b n.me (is_writing s.home.mine) q) x) ∙ served n h from k q s is e
-of_copies n cause o (home_serves_own from k q h s is e x) = sym (ap (λ b. entries_of_start b n.me (is_writing s.home.mine) q) x) ∙ served n h from k q s is e
-of_copies n cause o (grant_comes from q version g r e t) = sym (ap (entries_of_grant n.me q g) e ∙ ap (λ b. entries_of_start b n.me (asks_to_write r.asking) q) t)
-of_copies n cause o (side_called from k q r s is e) = called_back n r from k q s is
+of_copies n cause o (deed.home_opens c write q h is e v x) = started n c write q true is (over_home n.me write _ _ h true e x)
+of_copies n cause o (deed.home_waits c write q h is e v x) = started n c write q false is (over_home n.me write _ _ h false e x)
+of_copies n cause o (deed.side_opens c write q r is e f v x) = started n c write q true is (over_side n.me write _ _ r true e f x)
+of_copies n cause o (deed.side_waits c write q r is e f v x) = started n c write q false is (over_side n.me write _ _ r false e f x)
+of_copies n cause o (deed.home_ends c q w ends lowers h is e) = ended n _ c q w ends lowers is refl
+of_copies n cause o (deed.side_ends c q w ends lowers r is e f) = ended n _ c q w ends lowers is refl
+of_copies n cause o (deed.side_flushes q r other e can) = refl
+of_copies n cause o (deed.home_serves from k q h s is e x) = sym (ap (λ b. entries_of_start b n.me (is_writing s.home.mine) q) x) ∙ served n h from k q s is e
+of_copies n cause o (deed.home_serves_own from k q h s is e x) = sym (ap (λ b. entries_of_start b n.me (is_writing s.home.mine) q) x) ∙ served n h from k q s is e
+of_copies n cause o (deed.grant_comes from q version g r e t) = sym (ap (entries_of_grant n.me q g) e ∙ ap (λ b. entries_of_start b n.me (asks_to_write r.asking) q) t)
+of_copies n cause o (deed.side_called from k q r s is e) = called_back n r from k q s is
 
 -- Who has a region.
 unfit_map : (node : ℕ) (q : Name) (size : ℕ) (s : Stage) (why : Refusal) (t : Told) (d : DeleteTold) → Unfit s why t d → refused_at node word.Map q why ≡ entries_of_map node q size s
-unfit_map node q size s why t d never = refl
-unfit_map node q size s why t d (going deleter) = refl
-unfit_map node q size s why t d gone = refl
+unfit_map node q size s why t d deed.never = refl
+unfit_map node q size s why t d (deed.going deleter) = refl
+unfit_map node q size s why t d deed.gone = refl
 
 unfit_delete : (node : ℕ) (q : Name) (asked : List ℕ) (s : Stage) (why : Refusal) (t : Told) (d : DeleteTold) → Unfit s why t d → refused_at node word.Delete q why ≡ entries_of_delete node q asked s
-unfit_delete node q asked s why t d never = refl
-unfit_delete node q asked s why t d (going deleter) = refl
-unfit_delete node q asked s why t d gone = refl
+unfit_delete node q asked s why t d deed.never = refl
+unfit_delete node q asked s why t d (deed.going deleter) = refl
+unfit_delete node q asked s why t d deed.gone = refl
 
 deletes_as : (node : ℕ) (q : Name) (a b : List ℕ) (s : Stage) → b ≡ a → s ≡ stage.Live → entries_of_delete node q a stage.Live ≡ entries_of_delete node q b s
 deletes_as node q a b s e f = sym (ap (λ x. entries_of_delete node q x s) e ∙ ap (entries_of_delete node q a) f)
@@ -118,23 +117,23 @@ purged_as q missing a left s t e f g = sym (ap (λ x. entries_of_purged q x left
 
 of_lives : (n : Node) (cause : Cause) (o : Outcome) → Lives n cause o → NotRefused n cause → o.entries ≡ Table n cause
 unfolding verdict
-of_lives n cause o (made size e) ok = refl
-of_lives n cause o (used_up size why e x) ok = let both : Some why ≡ None = sym e ∙ ok in cc
-of_lives n cause o (maps_more q m e few mine other) ok = sym (ap (entries_of_mapping n q) e)
-of_lives n cause o (maps_own q e mine live) ok = sym (ap (entries_of_mapping n q) e ∙ cond-true (is_mine n q) _ _ mine)
-of_lives n cause o (maps_cached q size e other c) ok = sym (ap (entries_of_mapping n q) e ∙ cond-false (is_mine n q) _ _ other ∙ ap (entries_of_cached n.me q) c)
-of_lives n cause o (map_asks q e other c real) ok = sym (ap (entries_of_mapping n q) e ∙ cond-false (is_mine n q) _ _ other ∙ ap (entries_of_cached n.me q) c)
-of_lives n cause o (map_told from q mine live) ok = sym (ap (entries_of_map from q _) live)
-of_lives n cause o (map_refused from q why t d u) ok = unfit_map from q _ _ why t d u
-of_lives n cause o (delete_asks q other real) ok = sym (cond-false (is_mine n q) _ [] other)
-of_lives n cause o (deletes_alone q mine live e) ok = own_delete n q [] mine live e
-of_lives n cause o (deletes_own q m ms mine live e) ok = own_delete n q (m ∷ ms) mine live e
-of_lives n cause o (deletes_alone_for from q mine live e) ok = deletes_as from q [] _ _ e live
-of_lives n cause o (deletes_for from q m ms mine live e) ok = deletes_as from q (m ∷ ms) _ _ e live
-of_lives n cause o (delete_refused from q why t d u) ok = unfit_delete from q _ _ why t d u
-of_lives n cause o (counts_off from q deleter m ms mine e missing left) ok = purged_as q _ (m ∷ ms) _ (stage.Going deleter) _ missing left e
-of_lives n cause o (ends_own from q mine e missing last) ok = purged_as q _ [] _ (stage.Going n.me) _ missing last e
-of_lives n cause o (ends_for from q deleter mine e other missing last) ok = purged_as q _ [] _ (stage.Going deleter) _ missing last e
+of_lives n cause o (deed.made size e) ok = refl
+of_lives n cause o (deed.used_up size why e x) ok = let both : Some why ≡ None = sym e ∙ ok in cc
+of_lives n cause o (deed.maps_more q m e few mine other) ok = sym (ap (entries_of_mapping n q) e)
+of_lives n cause o (deed.maps_own q e mine live) ok = sym (ap (entries_of_mapping n q) e ∙ cond-true (is_mine n q) _ _ mine)
+of_lives n cause o (deed.maps_cached q size e other c) ok = sym (ap (entries_of_mapping n q) e ∙ cond-false (is_mine n q) _ _ other ∙ ap (entries_of_cached n.me q) c)
+of_lives n cause o (deed.map_asks q e other c real) ok = sym (ap (entries_of_mapping n q) e ∙ cond-false (is_mine n q) _ _ other ∙ ap (entries_of_cached n.me q) c)
+of_lives n cause o (deed.map_told from q mine live) ok = sym (ap (entries_of_map from q _) live)
+of_lives n cause o (deed.map_refused from q why t d u) ok = unfit_map from q _ _ why t d u
+of_lives n cause o (deed.delete_asks q other real) ok = sym (cond-false (is_mine n q) _ [] other)
+of_lives n cause o (deed.deletes_alone q mine live e) ok = own_delete n q [] mine live e
+of_lives n cause o (deed.deletes_own q m ms mine live e) ok = own_delete n q (m ∷ ms) mine live e
+of_lives n cause o (deed.deletes_alone_for from q mine live e) ok = deletes_as from q [] _ _ e live
+of_lives n cause o (deed.deletes_for from q m ms mine live e) ok = deletes_as from q (m ∷ ms) _ _ e live
+of_lives n cause o (deed.delete_refused from q why t d u) ok = unfit_delete from q _ _ why t d u
+of_lives n cause o (deed.counts_off from q deleter m ms mine e missing left) ok = purged_as q _ (m ∷ ms) _ (stage.Going deleter) _ missing left e
+of_lives n cause o (deed.ends_own from q mine e missing last) ok = purged_as q _ [] _ (stage.Going n.me) _ missing last e
+of_lives n cause o (deed.ends_for from q deleter mine e other missing last) ok = purged_as q _ [] _ (stage.Going deleter) _ missing last e
 of_lives n cause o _ ok = refl
 
 -- Rounds.
@@ -153,19 +152,19 @@ result_as : (me round : ℕ) (f : Fold) (k : CallKind) (a : Activity) → a ≡ 
 result_as me round f k a e = sym (ap (entries_of_result me round f) e ∙ cond-true (round == round) _ [] (eq-eqb round round refl))
 
 of_rounds : (n : Node) (cause : Cause) (o : Outcome) → Rounds n cause o → o.entries ≡ Table n cause
-of_rounds n cause o (comes_away part other fits) = ap (λ es. entry_of n.me (what.Come part) ∷ es) (sym (cond-false (n.me == 0) _ [] other))
-of_rounds n cause o (comes_home part first fits all) = ap (λ es. entry_of n.me (what.Come part) ∷ es) (sym (cond-true (n.me == 0) _ [] first ∙ ap (entries_of_round n.me (n.rounds + 1) (kind_of part)) all))
-of_rounds n cause o (comes_last part parts first fits all) = ap (λ es. entry_of n.me (what.Come part) ∷ es) (sym (cond-true (n.me == 0) _ [] first ∙ ap (entries_of_round n.me (n.rounds + 1) (kind_of part)) all))
-of_rounds n cause o (part_comes from round part w all) = sym (no_part n.me n.activity) ∙ part_as n from None _ n.activity n.activity w all refl
-of_rounds n cause o (part_last from round part parts mine k e w all) = part_as n from (Some parts) _ (Waiting (ForRound mine k)) n.activity w all e
-of_rounds n cause o (part_last_idle from round part parts idle w all) = sym (idle_part n.me parts n.activity idle) ∙ part_as n from (Some parts) _ n.activity n.activity w all refl
-of_rounds n cause o (result_comes from round f k e) = result_as n.me round f k n.activity e
+of_rounds n cause o (deed.comes_away part other fits) = ap (λ es. entry_of n.me (what.Come part) ∷ es) (sym (cond-false (n.me == 0) _ [] other))
+of_rounds n cause o (deed.comes_home part first fits all) = ap (λ es. entry_of n.me (what.Come part) ∷ es) (sym (cond-true (n.me == 0) _ [] first ∙ ap (entries_of_round n.me (n.rounds + 1) (kind_of part)) all))
+of_rounds n cause o (deed.comes_last part parts first fits all) = ap (λ es. entry_of n.me (what.Come part) ∷ es) (sym (cond-true (n.me == 0) _ [] first ∙ ap (entries_of_round n.me (n.rounds + 1) (kind_of part)) all))
+of_rounds n cause o (deed.part_comes from round part w all) = sym (no_part n.me n.activity) ∙ part_as n from None _ n.activity n.activity w all refl
+of_rounds n cause o (deed.part_last from round part parts mine k e w all) = part_as n from (Some parts) _ (Waiting (ForRound mine k)) n.activity w all e
+of_rounds n cause o (deed.part_last_idle from round part parts idle w all) = sym (idle_part n.me parts n.activity idle) ∙ part_as n from (Some parts) _ n.activity n.activity w all refl
+of_rounds n cause o (deed.result_comes from round f k e) = result_as n.me round f k n.activity e
 
 -- Calls about nothing here, and what is ignored.
 of_notes : (n : Node) (c : Call) (w : What) (m : Node) → Notes n c w m → entry_of n.me w ∷ [] ≡ entries_of_call n c None
-of_notes n c w m (ends_nowhere x q y ends lowers is e) = ended n _ x q y ends lowers is refl
-of_notes n c w m (flushes_own q mine can) = refl
-of_notes n c w m (flushes_nowhere q other e can) = refl
+of_notes n c w m (deed.ends_nowhere x q y ends lowers is e) = ended n _ x q y ends lowers is refl
+of_notes n c w m (deed.flushes_own q mine can) = refl
+of_notes n c w m (deed.flushes_nowhere q other e can) = refl
 
 idle_ask : (n : Node) (from : ℕ) (q : Name) (write : Bool) (have : ℕ) (o : Option Home) → home_of n q ≡ o → Idles (Hears from (kind.Ask q write have)) n → [] ≡ entries_of_ask n.me (is_queued_in from n.homes) q write have from o
 idle_ask n from q write have None e h = refl
@@ -221,12 +220,12 @@ of_idles n (Hears from (kind.Result round f)) h = idle_result n.me round f n.act
 of_idles n (Hears from _) h = refl
 
 of_deed : (n : Node) (cause : Cause) (o : Outcome) → Deed n cause o → NotRefused n cause → o.entries ≡ Table n cause
-of_deed n cause o (copies d) ok = of_copies n cause o d
-of_deed n cause o (lives d) ok = of_lives n cause o d ok
-of_deed n cause o (rounds d) ok = of_rounds n cause o d
-of_deed n cause o (notes d) ok = of_notes n _ _ _ d
-of_deed n cause o (refuses c why v) ok = let both : Some why ≡ None = sym v ∙ ok in cc
-of_deed n cause o (idles {cause = x} h) ok = of_idles n x h
+of_deed n cause o (deed.copies d) ok = of_copies n cause o d
+of_deed n cause o (deed.lives d) ok = of_lives n cause o d ok
+of_deed n cause o (deed.rounds d) ok = of_rounds n cause o d
+of_deed n cause o (deed.notes d) ok = of_notes n _ _ _ d
+of_deed n cause o (deed.refuses c why v) ok = let both : Some why ≡ None = sym v ∙ ok in cc
+of_deed n cause o (deed.idles {cause = x} h) ok = of_idles n x h
 
 -- Any call and message, and any event.
 pub decided_by_call : (n : Node) (c : Call) → (node_calls c n).entries ≡ entries_of n (Calls c)

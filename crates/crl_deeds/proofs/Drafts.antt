@@ -33,7 +33,8 @@ use Rattle.crl_protocol.specs.World.{World, commits, steps_node, collects, handl
 use Rattle.crl_protocol.specs.Chosen.{Actor, Running, block_of, running, takes_guard, going_on, goes_on}
 use Rattle.crl_deeds.specs.Laws.{IsStatement, AreStatements, node_of}
 use Rattle.crl_deeds.specs.NodeFacts.{Comes, Leaves, Fits}
-use Rattle.crl_deeds.specs.Deeds.{FreeIf, Cause, Calls, Hears, opened_at, Copies, Lives, Rounds, Notes, Deed, copies, lives, rounds, notes, refuses, idles, home_opens, home_waits, side_opens, side_waits, home_ends, side_ends, home_serves_own, grant_comes, map_asks, map_comes, map_denied, deletes_own, delete_asks, delete_comes, warns, ends_own, comes_away, comes_home, comes_last, part_last, result_comes, ends_nowhere, Serves, ask_comes, copy_returns, copy_lowers}
+use Rattle.crl_deeds.specs.Deeds.{FreeIf, Cause, opened_at, Copies, Lives, Rounds, Notes, Deed, Serves}
+use Rattle.crl_deeds.specs.Deeds as deed
 use Rattle.crl_deeds.specs.Turns.{Came as CameWith}
 use Rattle.crl_deeds.proofs.Fitting.{by_name}
 use Rattle.crl_deeds.proofs.Deeding.{call_deed}
@@ -135,44 +136,44 @@ abbrev After : Outcome → (Name → List ℕ) → Type 0
 After o d = DraftsFit o.node (begins o.answer d)
 
 drafts_copies : (j : ℕ) (n : Node) (cause : Cause) (o : Outcome) (d : Name → List ℕ) → Copies n cause o → Fits j n → CameWith Leaves n.me cause → FreeIf cause n → DraftsFit n d → After o d
-drafts_copies j n cause o d (home_opens c write name h is e v x) f away free k = anew _ n.activity _ (of_free _ _ free) (opens_draft write name _ n d (as_is _ n.activity d (of_free _ _ free) k))
-drafts_copies j n cause o d (side_opens c write name r is e g v x) f away free k = anew _ n.activity _ (of_free _ _ free) (opens_draft write name _ n d (as_is _ n.activity d (of_free _ _ free) k))
-drafts_copies j n cause o d (home_waits c write name h is e v x) f away free k = as_is _ n.activity d (of_free _ _ free) k
-drafts_copies j n cause o d (side_waits c write name r is e g v x) f away free k = as_is _ n.activity d (of_free _ _ free) k
-drafts_copies j n cause o d (home_ends c name w ends lowers h is e) f away free k = closes_draft name n _ k
-drafts_copies j n cause o d (side_ends c name w ends lowers r is e g) f away free k = closes_draft name n _ k
-drafts_copies j n cause o d (home_serves_own from x name h s is e y) f away free k = opens_draft (is_writing s.home.mine) name _ n d (as_is _ n.activity d (ap (λ a. begun a d) (own_waits j n h from x name s is e y away f)) k)
-drafts_copies j n cause o d (grant_comes from name version g r e t) f away free k = opens_draft (asks_to_write r.asking) name _ n d (as_is _ n.activity d (ap (λ a. begun a d) (grant_waits j n name g r e t f)) k)
+drafts_copies j n cause o d (deed.home_opens c write name h is e v x) f away free k = anew _ n.activity _ (of_free _ _ free) (opens_draft write name _ n d (as_is _ n.activity d (of_free _ _ free) k))
+drafts_copies j n cause o d (deed.side_opens c write name r is e g v x) f away free k = anew _ n.activity _ (of_free _ _ free) (opens_draft write name _ n d (as_is _ n.activity d (of_free _ _ free) k))
+drafts_copies j n cause o d (deed.home_waits c write name h is e v x) f away free k = as_is _ n.activity d (of_free _ _ free) k
+drafts_copies j n cause o d (deed.side_waits c write name r is e g v x) f away free k = as_is _ n.activity d (of_free _ _ free) k
+drafts_copies j n cause o d (deed.home_ends c name w ends lowers h is e) f away free k = closes_draft name n _ k
+drafts_copies j n cause o d (deed.side_ends c name w ends lowers r is e g) f away free k = closes_draft name n _ k
+drafts_copies j n cause o d (deed.home_serves_own from x name h s is e y) f away free k = opens_draft (is_writing s.home.mine) name _ n d (as_is _ n.activity d (ap (λ a. begun a d) (own_waits j n h from x name s is e y away f)) k)
+drafts_copies j n cause o d (deed.grant_comes from name version g r e t) f away free k = opens_draft (asks_to_write r.asking) name _ n d (as_is _ n.activity d (ap (λ a. begun a d) (grant_waits j n name g r e t f)) k)
 drafts_copies j n cause o d _ f away free k = k
 
 drafts_lives : (j : ℕ) (n : Node) (cause : Cause) (o : Outcome) (d : Name → List ℕ) → Lives n cause o → Fits j n → FreeIf cause n → DraftsFit n d → After o d
-drafts_lives j n cause o d (map_asks name e other c real) f free k = as_is _ n.activity d (of_free _ _ free) k
-drafts_lives j n cause o d (map_comes from name purged size e) f free k = as_is _ n.activity d (ap (λ a. begun a d) e) k
-drafts_lives j n cause o d (map_denied from name purged s why t x u e) f free k = as_is _ n.activity d (ap (λ a. begun a d) e) k
-drafts_lives j n cause o d (deletes_own name m ms mine live e) f free k = as_is _ n.activity d (of_free _ _ free) k
-drafts_lives j n cause o d (delete_asks name other real) f free k = as_is _ n.activity d (of_free _ _ free) k
-drafts_lives j n cause o d (delete_comes from name t e) f free k = anew _ (Ready (delete_answer t)) d (delete_quiet t d) (as_is _ n.activity d (ap (λ a. begun a d) e) k)
-drafts_lives j n cause o d (warns from name e c) f free k = subst (λ x. DraftsOf n.sections.records x) (sym (purged_quiet name n.activity d)) k
-drafts_lives j n cause o d (ends_own from name mine e missing last) f free k = as_is _ n.activity d (ap (λ a. begun a d) (going_own n.me name _ n.activity (f.each name).going e)) k
+drafts_lives j n cause o d (deed.map_asks name e other c real) f free k = as_is _ n.activity d (of_free _ _ free) k
+drafts_lives j n cause o d (deed.map_comes from name purged size e) f free k = as_is _ n.activity d (ap (λ a. begun a d) e) k
+drafts_lives j n cause o d (deed.map_denied from name purged s why t x u e) f free k = as_is _ n.activity d (ap (λ a. begun a d) e) k
+drafts_lives j n cause o d (deed.deletes_own name m ms mine live e) f free k = as_is _ n.activity d (of_free _ _ free) k
+drafts_lives j n cause o d (deed.delete_asks name other real) f free k = as_is _ n.activity d (of_free _ _ free) k
+drafts_lives j n cause o d (deed.delete_comes from name t e) f free k = anew _ (Ready (delete_answer t)) d (delete_quiet t d) (as_is _ n.activity d (ap (λ a. begun a d) e) k)
+drafts_lives j n cause o d (deed.warns from name e c) f free k = subst (λ x. DraftsOf n.sections.records x) (sym (purged_quiet name n.activity d)) k
+drafts_lives j n cause o d (deed.ends_own from name mine e missing last) f free k = as_is _ n.activity d (ap (λ a. begun a d) (going_own n.me name _ n.activity (f.each name).going e)) k
 drafts_lives j n cause o d _ f free k = k
 
 drafts_rounds : (n : Node) (cause : Cause) (o : Outcome) (d : Name → List ℕ) → Rounds n cause o → FreeIf cause n → DraftsFit n d → After o d
-drafts_rounds n cause o d (comes_away part other fits) free k = as_is _ n.activity d (of_free _ _ free) k
-drafts_rounds n cause o d (comes_home part first fits all) free k = as_is _ n.activity d (of_free _ _ free) k
-drafts_rounds n cause o d (comes_last part parts first fits all) free k = subst (λ x. DraftsOf n.sections.records (begun n.activity x)) (sym (fold_quiet _ (fold_of parts) d)) k
-drafts_rounds n cause o d (part_last from round part parts mine x e a all) free k = anew _ (Ready (answer_of mine (fold_of parts))) d (fold_quiet _ (fold_of parts) d) (as_is _ n.activity d (ap (λ y. begun y d) e) k)
-drafts_rounds n cause o d (result_comes from round v x e) free k = anew _ (Ready (answer_of round v)) d (fold_quiet _ v d) (as_is _ n.activity d (ap (λ y. begun y d) e) k)
+drafts_rounds n cause o d (deed.comes_away part other fits) free k = as_is _ n.activity d (of_free _ _ free) k
+drafts_rounds n cause o d (deed.comes_home part first fits all) free k = as_is _ n.activity d (of_free _ _ free) k
+drafts_rounds n cause o d (deed.comes_last part parts first fits all) free k = subst (λ x. DraftsOf n.sections.records (begun n.activity x)) (sym (fold_quiet _ (fold_of parts) d)) k
+drafts_rounds n cause o d (deed.part_last from round part parts mine x e a all) free k = anew _ (Ready (answer_of mine (fold_of parts))) d (fold_quiet _ (fold_of parts) d) (as_is _ n.activity d (ap (λ y. begun y d) e) k)
+drafts_rounds n cause o d (deed.result_comes from round v x e) free k = anew _ (Ready (answer_of round v)) d (fold_quiet _ v d) (as_is _ n.activity d (ap (λ y. begun y d) e) k)
 drafts_rounds n cause o d _ free k = k
 
 drafts_notes : (n : Node) (c : Call) (w : What) (m : Node) (d : Name → List ℕ) → Notes n c w m → DraftsFit n d → DraftsFit m d
-drafts_notes n c w m d (ends_nowhere x name y ends lowers is e) k = closes_draft name n _ k
+drafts_notes n c w m d (deed.ends_nowhere x name y ends lowers is e) k = closes_draft name n _ k
 drafts_notes n c w m d _ k = k
 
 drafts_deed : (j : ℕ) (n : Node) (cause : Cause) (o : Outcome) (d : Name → List ℕ) → Deed n cause o → Fits j n → CameWith Leaves n.me cause → FreeIf cause n → DraftsFit n d → After o d
-drafts_deed j n cause o d (copies c) f away free k = drafts_copies j n cause o d c f away free k
-drafts_deed j n cause o d (lives c) f away free k = drafts_lives j n cause o d c f free k
-drafts_deed j n cause o d (rounds c) f away free k = drafts_rounds n cause o d c free k
-drafts_deed j n cause o d (notes c) f away free k = drafts_notes n _ _ _ d c k
+drafts_deed j n cause o d (deed.copies c) f away free k = drafts_copies j n cause o d c f away free k
+drafts_deed j n cause o d (deed.lives c) f away free k = drafts_lives j n cause o d c f free k
+drafts_deed j n cause o d (deed.rounds c) f away free k = drafts_rounds n cause o d c free k
+drafts_deed j n cause o d (deed.notes c) f away free k = drafts_notes n _ _ _ d c k
 drafts_deed j n cause o d _ f away free k = k
 
 -- A piece that comes.

@@ -21,7 +21,8 @@ pub use Rattle.crl_deeds.specs.Tokens.{delete_token_kind, delete_token, waits_de
 use Rattle.crl_deeds.proofs.Fitting.{same_name, Fits}
 use Rattle.crl_deeds.proofs.Tabling.{lifetime_put}
 use Rattle.crl_deeds.proofs.Counting.{PlainKind}
-use Rattle.crl_deeds.specs.Deeds.{FreeIf, Cause, Calls, Hears, parting, Lives, Idles, made, map_asks, map_told, map_comes, map_denied, unmaps_doomed, unmaps_evicting, deletes_alone, deletes_own, delete_asks, deletes_alone_for, deletes_for, delete_comes, drops, warns, counts_off, ends_own, ends_for}
+use Rattle.crl_deeds.specs.Deeds.{FreeIf, Cause, parting, Lives, Idles, Calls, Hears}
+use Rattle.crl_deeds.specs.Deeds as deed
 use Rattle.crl_deeds.proofs.Totals.{weigh_append, sum, sum_new, load, waited, none_to, Balance}
 use Rattle.crl_deeds.proofs.Spans.{Span, whole_of, no_wait, no_wait_as, even, came, parting_none, purges_none}
 use Rattle.crl_deeds.proofs.Knowing.{NoneYet, Life, known_start, life_run}
@@ -81,43 +82,43 @@ made_same i r n size none = go (is_mine n r) refl
     go false w = refl
 
 delete_lives : (i : ℕ) (r : Name) (j : ℕ) (n : Node) (cause : Cause) (o : Outcome) → Lives n cause o → Fits j n → NoneYet n → FreeIf cause n → Balance (delete_token i r) (deleting i r) (waits_delete r) i n (came (delete_token i r) n.me cause) o
-delete_lives i r j n cause o (made size e) f none free = let same = made_same i r n size none in omega arith
-delete_lives i r j n cause o (map_asks name e other c real) f none free =
+delete_lives i r j n cause o (deed.made size e) f none free = let same = made_same i r n size none in omega arith
+delete_lives i r j n cause o (deed.map_asks name e other c real) f none free =
     let was = no_wait_as (waits_delete r) i n Free free refl in let now = no_wait (waits_delete r) i o.node refl in omega arith
-delete_lives i r j n cause o (map_told from name mine live) f none free = let x = exchange i r n name (record (lifetime_of n name) { asked = at_node (lifetime_of n name).asked from true }) stage.Live stage.Live mine live live in omega arith
-delete_lives i r j n cause o (map_comes from name purged size e) f none free =
+delete_lives i r j n cause o (deed.map_told from name mine live) f none free = let x = exchange i r n name (record (lifetime_of n name) { asked = at_node (lifetime_of n name).asked from true }) stage.Live stage.Live mine live live in omega arith
+delete_lives i r j n cause o (deed.map_comes from name purged size e) f none free =
     let was = no_wait_as (waits_delete r) i n _ e refl in let now = no_wait (waits_delete r) i o.node refl in omega arith
-delete_lives i r j n cause o (map_denied from name purged s why t q u e) f none free =
+delete_lives i r j n cause o (deed.map_denied from name purged s why t q u e) f none free =
     let was = no_wait_as (waits_delete r) i n _ e refl in let now = no_wait (waits_delete r) i o.node refl in omega arith
-delete_lives i r j n cause o (unmaps_doomed name m e one other doomed closed) f none free = even _ _ _ _ (parting_none _ _ _ (span i r) n name (n.remotes name)) refl
-delete_lives i r j n cause o (unmaps_evicting name m old e one other sound closed kept) f none free = even _ _ _ _ (parting_none _ _ _ (span i r) n old (n.remotes old)) refl
-delete_lives i r j n cause o (deletes_alone name mine live e) f none free = let x = exchange i r n name (record (lifetime_of n name) { stage = stage.Gone }) stage.Live stage.Gone mine live refl in omega arith
-delete_lives i r j n cause o (deletes_own name m ms mine live e) f none free =
+delete_lives i r j n cause o (deed.unmaps_doomed name m e one other doomed closed) f none free = even _ _ _ _ (parting_none _ _ _ (span i r) n name (n.remotes name)) refl
+delete_lives i r j n cause o (deed.unmaps_evicting name m old e one other sound closed kept) f none free = even _ _ _ _ (parting_none _ _ _ (span i r) n old (n.remotes old)) refl
+delete_lives i r j n cause o (deed.deletes_alone name mine live e) f none free = let x = exchange i r n name (record (lifetime_of n name) { stage = stage.Gone }) stage.Live stage.Gone mine live refl in omega arith
+delete_lives i r j n cause o (deed.deletes_own name m ms mine live e) f none free =
     let x = exchange i r n name (record (lifetime_of n name) { stage = stage.Going n.me; missing = (lifetime_of n name).asked }) stage.Live (stage.Going n.me) mine live refl in
     let was = no_wait_as (waits_delete r) i n Free free refl in
     let sent = purges_none _ _ _ (span i r) n name (members n.nodes (lifetime_of n name).asked) in
     let z = none_to (name_eq name r) 0 in
     let y = swap (name_eq name r) (n.me == i) 1 in omega arith
-delete_lives i r j n cause o (delete_asks name other real) f none free = let was = no_wait_as (waits_delete r) i n Free free refl in omega arith
-delete_lives i r j n cause o (deletes_alone_for from name mine live e) f none free = let x = exchange i r n name (record (lifetime_of n name) { stage = stage.Gone }) stage.Live stage.Gone mine live refl in omega arith
-delete_lives i r j n cause o (deletes_for from name m ms mine live e) f none free =
+delete_lives i r j n cause o (deed.delete_asks name other real) f none free = let was = no_wait_as (waits_delete r) i n Free free refl in omega arith
+delete_lives i r j n cause o (deed.deletes_alone_for from name mine live e) f none free = let x = exchange i r n name (record (lifetime_of n name) { stage = stage.Gone }) stage.Live stage.Gone mine live refl in omega arith
+delete_lives i r j n cause o (deed.deletes_for from name m ms mine live e) f none free =
     let x = exchange i r n name (record (lifetime_of n name) { stage = stage.Going from; missing = (lifetime_of n name).asked }) stage.Live (stage.Going from) mine live refl in
     let sent = purges_none _ _ _ (span i r) n name (members n.nodes (lifetime_of n name).asked) in
     let z = none_to (name_eq name r) 0 in
     let y = swap (name_eq name r) (from == i) 1 in omega arith
-delete_lives i r j n cause o (delete_comes from name t e) f none free =
+delete_lives i r j n cause o (deed.delete_comes from name t e) f none free =
     let was : waited (waits_delete r) i n ≡ (if n.me == i then of_name name r else 0) = ap (λ x. if n.me == i then waits_delete r x else 0) e in let now = none_to (n.me == i) 0 in omega arith
-delete_lives i r j n cause o (drops from name size e c) f none free =
+delete_lives i r j n cause o (deed.drops from name size e c) f none free =
     let a = weigh_append (delete_token i r) (parting n name (n.remotes name)) (message_to n from (kind.Purged name) ∷ []) in let b = parting_none _ _ _ (span i r) n name (n.remotes name) in omega arith
-delete_lives i r j n cause o (warns from name e c) f none free = let same = ap (λ x. if n.me == i then x else 0) (warned r name n.activity) in omega arith
-delete_lives i r j n cause o (counts_off from name deleter m ms mine e missing left) f none free = let x = exchange i r n name (record (lifetime_of n name) { missing = at_node (lifetime_of n name).missing from false }) (stage.Going deleter) (stage.Going deleter) mine e e in omega arith
-delete_lives i r j n cause o (ends_own from name mine e missing last) f none free =
+delete_lives i r j n cause o (deed.warns from name e c) f none free = let same = ap (λ x. if n.me == i then x else 0) (warned r name n.activity) in omega arith
+delete_lives i r j n cause o (deed.counts_off from name deleter m ms mine e missing left) f none free = let x = exchange i r n name (record (lifetime_of n name) { missing = at_node (lifetime_of n name).missing from false }) (stage.Going deleter) (stage.Going deleter) mine e e in omega arith
+delete_lives i r j n cause o (deed.ends_own from name mine e missing last) f none free =
     let x = exchange i r n name (record (lifetime_of n name) { stage = stage.Gone; missing = at_node (lifetime_of n name).missing from false }) (stage.Going n.me) stage.Gone mine e refl in
     let was : waited (waits_delete r) i n ≡ (if n.me == i then of_name name r else 0) = ap (λ a. if n.me == i then waits_delete r a else 0) (going_own n.me name _ n.activity (f.each name).going e) in
     let now = none_to (n.me == i) 0 in
     let z = none_to (name_eq name r) 0 in
     let y = swap (name_eq name r) (n.me == i) 1 in omega arith
-delete_lives i r j n cause o (ends_for from name deleter mine e other missing last) f none free =
+delete_lives i r j n cause o (deed.ends_for from name deleter mine e other missing last) f none free =
     let x = exchange i r n name (record (lifetime_of n name) { stage = stage.Gone; missing = at_node (lifetime_of n name).missing from false }) (stage.Going deleter) stage.Gone mine e refl in
     let z = none_to (name_eq name r) 0 in
     let y = swap (name_eq name r) (deleter == i) 1 in omega arith

@@ -21,7 +21,8 @@ use Rattle.crl_deeds.proofs.Fitting.{Leaves, ComesIn, Fits}
 use Rattle.crl_deeds.proofs.Turning.{Came, HeldIn, HeldOut, Held, turn_of, turn_count, held_turn, all_took}
 use Rattle.crl_deeds.proofs.Sound.{away_load, fits_start, fits_event}
 use Rattle.crl_deeds.proofs.Counting.{Counted, PlainKind, Plain, counted_local, counted_start}
-use Rattle.crl_deeds.specs.Deeds.{FreeIf, Cause, Calls, Hears, Copies, Lives, Rounds, Notes, Idles, Deed, copies, lives, rounds, notes, refuses, idles, home_opens, home_waits, home_ends, home_serves, home_serves_own, made, used_up, map_told, deletes_alone, deletes_own, deletes_alone_for, deletes_for, counts_off, ends_own, ends_for, comes_away, flushes_own}
+use Rattle.crl_deeds.specs.Deeds.{FreeIf, Cause, Copies, Lives, Rounds, Notes, Idles, Deed, Calls, Hears}
+use Rattle.crl_deeds.specs.Deeds as deed
 use Rattle.crl_protocol.specs.Home.{new_home}
 use Rattle.crl_deeds.proofs.Turning.{Local}
 pub use Rattle.crl_deeds.specs.Counts.{NoneYet, Known}
@@ -47,16 +48,16 @@ none_made n size h s l =
     cond_both (serials_used n + 1 == s) _ _ (λ (x : Lifetime). x.stage ≡ stage.Unknown) (λ w. let same = eqb-true (serials_used n + 1) s w in absurd (omega arith)) (λ w. h s (omega arith))
 
 none_lives : (n : Node) (cause : Cause) (o : Outcome) → Lives n cause o → NoneYet n → NoneYet o.node
-none_lives n cause o (made size e) h = none_made n size h
-none_lives n cause o (used_up size why e x) h = λ s l. let k = length_end n.homes None in h s (omega arith)
-none_lives n cause o (map_told from name mine live) h = none_put n name _ stage.Live mine live (λ w. cc) h
-none_lives n cause o (deletes_alone name mine live e) h = none_put n name _ stage.Live mine live (λ w. cc) h
-none_lives n cause o (deletes_own name m ms mine live e) h = none_put n name _ stage.Live mine live (λ w. cc) h
-none_lives n cause o (deletes_alone_for from name mine live e) h = none_put n name _ stage.Live mine live (λ w. cc) h
-none_lives n cause o (deletes_for from name m ms mine live e) h = none_put n name _ stage.Live mine live (λ w. cc) h
-none_lives n cause o (counts_off from name deleter m ms mine e missing left) h = none_put n name _ (stage.Going deleter) mine e (λ w. cc) h
-none_lives n cause o (ends_own from name mine e missing last) h = none_put n name _ (stage.Going n.me) mine e (λ w. cc) h
-none_lives n cause o (ends_for from name deleter mine e other missing last) h = none_put n name _ (stage.Going deleter) mine e (λ w. cc) h
+none_lives n cause o (deed.made size e) h = none_made n size h
+none_lives n cause o (deed.used_up size why e x) h = λ s l. let k = length_end n.homes None in h s (omega arith)
+none_lives n cause o (deed.map_told from name mine live) h = none_put n name _ stage.Live mine live (λ w. cc) h
+none_lives n cause o (deed.deletes_alone name mine live e) h = none_put n name _ stage.Live mine live (λ w. cc) h
+none_lives n cause o (deed.deletes_own name m ms mine live e) h = none_put n name _ stage.Live mine live (λ w. cc) h
+none_lives n cause o (deed.deletes_alone_for from name mine live e) h = none_put n name _ stage.Live mine live (λ w. cc) h
+none_lives n cause o (deed.deletes_for from name m ms mine live e) h = none_put n name _ stage.Live mine live (λ w. cc) h
+none_lives n cause o (deed.counts_off from name deleter m ms mine e missing left) h = none_put n name _ (stage.Going deleter) mine e (λ w. cc) h
+none_lives n cause o (deed.ends_own from name mine e missing last) h = none_put n name _ (stage.Going n.me) mine e (λ w. cc) h
+none_lives n cause o (deed.ends_for from name deleter mine e other missing last) h = none_put n name _ (stage.Going deleter) mine e (λ w. cc) h
 none_lives n cause o _ h = h
 
 length_put : {A : Type 0} (k : ℕ) (v : Option A) (xs : List (Option A)) → length xs ≤ length (put k v xs)
@@ -69,19 +70,19 @@ none_more : (n m : Node) → serials_used n ≤ serials_used m → m.lifetimes �
 none_more n m few same h s l = ap (λ (f : ℕ → Lifetime). (f s).stage) same ∙ h s (omega arith)
 
 none_copies : (n : Node) (cause : Cause) (o : Outcome) → Copies n cause o → NoneYet n → NoneYet o.node
-none_copies n cause o (home_opens c write name h is e v x) k = none_more n o.node (length_put (name.serial - 1) _ n.homes) refl k
-none_copies n cause o (home_waits c write name h is e v x) k = none_more n o.node (length_put (name.serial - 1) _ n.homes) refl k
-none_copies n cause o (home_ends c name w ends lowers h is e) k = none_more n o.node (length_put (name.serial - 1) _ n.homes) refl k
-none_copies n cause o (home_serves from x name h s is e y) k = none_more n o.node (length_put (name.serial - 1) _ n.homes) refl k
-none_copies n cause o (home_serves_own from x name h s is e y) k = none_more n o.node (length_put (name.serial - 1) _ n.homes) refl k
+none_copies n cause o (deed.home_opens c write name h is e v x) k = none_more n o.node (length_put (name.serial - 1) _ n.homes) refl k
+none_copies n cause o (deed.home_waits c write name h is e v x) k = none_more n o.node (length_put (name.serial - 1) _ n.homes) refl k
+none_copies n cause o (deed.home_ends c name w ends lowers h is e) k = none_more n o.node (length_put (name.serial - 1) _ n.homes) refl k
+none_copies n cause o (deed.home_serves from x name h s is e y) k = none_more n o.node (length_put (name.serial - 1) _ n.homes) refl k
+none_copies n cause o (deed.home_serves_own from x name h s is e y) k = none_more n o.node (length_put (name.serial - 1) _ n.homes) refl k
 none_copies n cause o _ k = k
 
 none_rounds : (n : Node) (cause : Cause) (o : Outcome) → Rounds n cause o → NoneYet n → NoneYet o.node
-none_rounds n cause o (comes_away part other fits) k = k
+none_rounds n cause o (deed.comes_away part other fits) k = k
 none_rounds n cause o _ k = k
 
 none_notes : (n : Node) (c : Call) (w : What) (m : Node) → Notes n c w m → NoneYet n → NoneYet m
-none_notes n c w m (flushes_own name mine closed) k = k
+none_notes n c w m (deed.flushes_own name mine closed) k = k
 none_notes n c w m _ k = k
 
 anything : (ms : List Message) → AllByRecursion (λ (m : Message). Unit {0}) ms
@@ -89,10 +90,10 @@ anything [] = tt
 anything (m ∷ ms) = (tt, anything ms)
 
 none_deed : (n : Node) (cause : Cause) (o : Outcome) → Deed n cause o → NoneYet n → NoneYet o.node
-none_deed n cause o (copies d) k = none_copies n cause o d k
-none_deed n cause o (lives d) k = none_lives n cause o d k
-none_deed n cause o (rounds d) k = none_rounds n cause o d k
-none_deed n cause o (notes d) k = none_notes n _ _ _ d k
+none_deed n cause o (deed.copies d) k = none_copies n cause o d k
+none_deed n cause o (deed.lives d) k = none_lives n cause o d k
+none_deed n cause o (deed.rounds d) k = none_rounds n cause o d k
+none_deed n cause o (deed.notes d) k = none_notes n _ _ _ d k
 none_deed n cause o _ k = k
 
 pub none_local : (count : ℕ) → Local count (λ i n. NoneYet n) (λ m. Unit {0})
@@ -125,12 +126,12 @@ known_run w (e ∷ es) r x = known_run (step e w).world es r.1 (known_step w e r
 
 life_deed : (i : ℕ) (f : Message → ℕ) (g : Node → ℕ) (waits : Activity → ℕ) → Life i f g waits → (j : ℕ) (n : Node) (cause : Cause) (o : Outcome) (a : Activity) → Deed n cause o → Fits j n → NoneYet n → Came Leaves n.me cause → FreeIf cause n
     → (n.me ≡ i → a ≡ n.activity) → came f n.me cause ≤ waits a → Balance f g waits i n (came f n.me cause) o
-life_deed i f g waits l j n cause o a (copies c) x none s free same few = span_copies f g waits l.span i j n cause o c x s free
-life_deed i f g waits l j n cause o a (lives c) x none s free same few = l.lives j n cause o c x none free
-life_deed i f g waits l j n cause o a (rounds c) x none s free same few = span_rounds f g waits l.span i n cause o c free
-life_deed i f g waits l j n cause o a (notes {m = m} c) x none s free same few = span_notes f g waits l.span i n _ _ m c
-life_deed i f g waits l j n cause o a (refuses c why v) x none s free same few = refl
-life_deed i f g waits l j n cause o a (idles h) x none s free same few = let z = l.idle n cause a h same few in omega arith
+life_deed i f g waits l j n cause o a (deed.copies c) x none s free same few = span_copies f g waits l.span i j n cause o c x s free
+life_deed i f g waits l j n cause o a (deed.lives c) x none s free same few = l.lives j n cause o c x none free
+life_deed i f g waits l j n cause o a (deed.rounds c) x none s free same few = span_rounds f g waits l.span i n cause o c free
+life_deed i f g waits l j n cause o a (deed.notes {m = m} c) x none s free same few = span_notes f g waits l.span i n _ _ m c
+life_deed i f g waits l j n cause o a (deed.refuses c why v) x none s free same few = refl
+life_deed i f g waits l j n cause o a (deed.idles h) x none s free same few = let z = l.idle n cause a h same few in omega arith
 
 life_balanced : (i : ℕ) (f : Message → ℕ) (g : Node → ℕ) (waits : Activity → ℕ) → Life i f g waits → (w : World) → i < w.count → Known w → sum (load f g) w ≡ waits (w.nodes i).activity → Balanced f g waits i w
 life_balanced i f g waits l w small x one = record {

@@ -17,7 +17,8 @@ use Rattle.crl_protocol.specs.World.{new_world, IsRun, world_of, pieces_in_boxes
 pub use Rattle.crl_deeds.specs.Tokens.{of_name, map_token_kind, map_token, waits_map}
 use Rattle.crl_deeds.proofs.Fitting.{same_name, GoingFits, Fits}
 use Rattle.crl_deeds.proofs.Counting.{PlainKind}
-use Rattle.crl_deeds.specs.Deeds.{FreeIf, Cause, Calls, Hears, parting, Lives, Idles, map_asks, map_comes, map_denied, unmaps_doomed, unmaps_evicting, deletes_own, delete_asks, deletes_for, delete_comes, drops, warns, ends_own}
+use Rattle.crl_deeds.specs.Deeds.{FreeIf, Cause, parting, Lives, Idles, Calls, Hears}
+use Rattle.crl_deeds.specs.Deeds as deed
 use Rattle.crl_deeds.proofs.Totals.{weighs, weigh_append, sum_new, load, waited, none_to, Balance, boxed_sum}
 use Rattle.crl_deeds.proofs.Spans.{Span, whole_of, no_wait, no_wait_as, even, shut, came, parting_none, purges_none}
 use Rattle.crl_deeds.proofs.Knowing.{Life, known_start, life_run}
@@ -54,22 +55,22 @@ going_own me q s a f e = go (subst (λ x. GoingFits me q x a) e f)
     go (inr w) = w
 
 map_lives : (i : ℕ) (r : Name) (j : ℕ) (n : Node) (cause : Cause) (o : Outcome) → Lives n cause o → Fits j n → FreeIf cause n → Balance (map_token i r) none (waits_map r) i n (came (map_token i r) n.me cause) o
-map_lives i r j n cause o (map_asks name e other c real) f free = let was = no_wait_as (waits_map r) i n Free free refl in omega arith
-map_lives i r j n cause o (map_comes from name purged size e) f free =
+map_lives i r j n cause o (deed.map_asks name e other c real) f free = let was = no_wait_as (waits_map r) i n Free free refl in omega arith
+map_lives i r j n cause o (deed.map_comes from name purged size e) f free =
     let was : waited (waits_map r) i n ≡ (if n.me == i then of_name name r else 0) = ap (λ x. if n.me == i then waits_map r x else 0) e in let now = none_to (n.me == i) 0 in omega arith
-map_lives i r j n cause o (map_denied from name purged s why t q u e) f free =
+map_lives i r j n cause o (deed.map_denied from name purged s why t q u e) f free =
     let was : waited (waits_map r) i n ≡ (if n.me == i then of_name name r else 0) = ap (λ x. if n.me == i then waits_map r x else 0) e in let now = none_to (n.me == i) 0 in omega arith
-map_lives i r j n cause o (unmaps_doomed name m e one other doomed closed) f free = even _ _ _ _ (parting_none _ _ _ (span i r) n name (n.remotes name)) refl
-map_lives i r j n cause o (unmaps_evicting name m old e one other sound closed kept) f free = even _ _ _ _ (parting_none _ _ _ (span i r) n old (n.remotes old)) refl
-map_lives i r j n cause o (deletes_own name m ms mine live e) f free =
+map_lives i r j n cause o (deed.unmaps_doomed name m e one other doomed closed) f free = even _ _ _ _ (parting_none _ _ _ (span i r) n name (n.remotes name)) refl
+map_lives i r j n cause o (deed.unmaps_evicting name m old e one other sound closed kept) f free = even _ _ _ _ (parting_none _ _ _ (span i r) n old (n.remotes old)) refl
+map_lives i r j n cause o (deed.deletes_own name m ms mine live e) f free =
     shut _ _ _ _ _ _ (purges_none _ _ _ (span i r) n name _) refl refl (no_wait_as (waits_map r) i n Free free refl) (no_wait (waits_map r) i o.node refl)
-map_lives i r j n cause o (delete_asks name other real) f free = let was = no_wait_as (waits_map r) i n Free free refl in let now = no_wait (waits_map r) i o.node refl in omega arith
-map_lives i r j n cause o (deletes_for from name m ms mine live e) f free = even _ _ _ _ (purges_none _ _ _ (span i r) n name _) refl
-map_lives i r j n cause o (delete_comes from name t e) f free = let was = no_wait_as (waits_map r) i n _ e refl in let now = no_wait (waits_map r) i o.node refl in omega arith
-map_lives i r j n cause o (drops from name size e c) f free =
+map_lives i r j n cause o (deed.delete_asks name other real) f free = let was = no_wait_as (waits_map r) i n Free free refl in let now = no_wait (waits_map r) i o.node refl in omega arith
+map_lives i r j n cause o (deed.deletes_for from name m ms mine live e) f free = even _ _ _ _ (purges_none _ _ _ (span i r) n name _) refl
+map_lives i r j n cause o (deed.delete_comes from name t e) f free = let was = no_wait_as (waits_map r) i n _ e refl in let now = no_wait (waits_map r) i o.node refl in omega arith
+map_lives i r j n cause o (deed.drops from name size e c) f free =
     let a = weigh_append (map_token i r) (parting n name (n.remotes name)) (message_to n from (kind.Purged name) ∷ []) in let b = parting_none _ _ _ (span i r) n name (n.remotes name) in omega arith
-map_lives i r j n cause o (warns from name e c) f free = let same = ap (λ x. if n.me == i then x else 0) (warned r name n.activity) in omega arith
-map_lives i r j n cause o (ends_own from name mine e missing last) f free =
+map_lives i r j n cause o (deed.warns from name e c) f free = let same = ap (λ x. if n.me == i then x else 0) (warned r name n.activity) in omega arith
+map_lives i r j n cause o (deed.ends_own from name mine e missing last) f free =
     let was = no_wait_as (waits_map r) i n _ (going_own n.me name _ n.activity (f.each name).going e) refl in let now = no_wait (waits_map r) i o.node refl in omega arith
 map_lives i r j n cause o _ f free = omega arith
 

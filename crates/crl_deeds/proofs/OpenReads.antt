@@ -17,7 +17,8 @@ use Rattle.crl_protocol.specs.World.{new_world, world_of, IsRun}
 use Rattle.crl_deeds.specs.NodeFacts.{Leaves, Fits}
 use Rattle.crl_deeds.specs.Counts.{FitsReads, AwaitsSection, SectionsFit}
 use Rattle.crl_deeds.specs.Turns.{Came, Kept}
-use Rattle.crl_deeds.specs.Deeds.{FreeIf, Cause, opened_at, StartsCall, to_read, to_write, CanStart, Copies, Lives, Rounds, Notes, Deed, copies, lives, rounds, notes, home_opens, home_waits, side_opens, side_waits, home_ends, side_ends, home_serves_own, grant_comes, map_asks, map_comes, map_denied, deletes_own, delete_asks, delete_comes, warns, ends_own, comes_away, comes_home, part_last, result_comes, ends_nowhere}
+use Rattle.crl_deeds.specs.Deeds.{FreeIf, Cause, opened_at, StartsCall, CanStart, Copies, Lives, Rounds, Notes, Deed}
+use Rattle.crl_deeds.specs.Deeds as deed
 use Rattle.crl_deeds.proofs.Fitting.{by_name}
 use Rattle.crl_deeds.proofs.Opens.{own_waits, grant_waits}
 use Rattle.crl_deeds.proofs.Verdicts.{write_starts_closed, read_starts_below}
@@ -76,23 +77,23 @@ below (section.Reading count) f e = let ne = eqb-false count (2 ^ 32 - 1) e in l
 below section.Writing f e = omega arith
 
 starts_below : (n : Node) (c : Call) (write : Bool) (name : Name) → StartsCall c write name → CanStart n write name → Each n.sections → (is_writing (section_at name n.sections) ≡ false) × (count_of (section_at name n.sections) + 1 < 2 ^ 32)
-starts_below n c write name (to_read q) can h = let found = read_starts_below n q can in (found.0, below (section_at q n.sections) (h q) found.1)
-starts_below n c write name (to_write q) can h = subst (λ s. (is_writing s ≡ false) × (count_of s + 1 < 2 ^ 32)) (sym (write_starts_closed n q can)) (refl, omega arith)
+starts_below n c write name (deed.to_read q) can h = let found = read_starts_below n q can in (found.0, below (section_at q n.sections) (h q) found.1)
+starts_below n c write name (deed.to_write q) can h = subst (λ s. (is_writing s ≡ false) × (count_of s + 1 < 2 ^ 32)) (sym (write_starts_closed n q can)) (refl, omega arith)
 
 awaits_free : (a : Activity) (s : Sections) → a ≡ Free → AwaitsSection a s
 awaits_free a s e = subst (λ x. AwaitsSection x s) (sym e) tt
 
 -- A deed.
 reads_copies : (j : ℕ) (n : Node) (cause : Cause) (o : Outcome) → Copies n cause o → Fits j n → Came Leaves n.me cause → FreeIf cause n → SectionsFit n → SectionsFit o.node
-reads_copies j n cause o (home_opens c write name h is e v x) f away free k = record { each = opens_each write name _ n (starts_below n c write name is v k.each).1 k.each; waiting = awaits_free n.activity _ free }
-reads_copies j n cause o (side_opens c write name r is e g v x) f away free k = record { each = opens_each write name _ n (starts_below n c write name is v k.each).1 k.each; waiting = awaits_free n.activity _ free }
-reads_copies j n cause o (home_waits c write name h is e v x) f away free k = record { each = k.each; waiting = starts_below n c write name is v k.each }
-reads_copies j n cause o (side_waits c write name r is e g v x) f away free k = record { each = k.each; waiting = starts_below n c write name is v k.each }
-reads_copies j n cause o (home_ends c name w ends lowers h is e) f away free k = record { each = closes_each name n k.each; waiting = awaits_free n.activity _ free }
-reads_copies j n cause o (side_ends c name w ends lowers r is e g) f away free k = record { each = closes_each name n k.each; waiting = awaits_free n.activity _ free }
-reads_copies j n cause o (home_serves_own from x name h s is e y) f away free k =
+reads_copies j n cause o (deed.home_opens c write name h is e v x) f away free k = record { each = opens_each write name _ n (starts_below n c write name is v k.each).1 k.each; waiting = awaits_free n.activity _ free }
+reads_copies j n cause o (deed.side_opens c write name r is e g v x) f away free k = record { each = opens_each write name _ n (starts_below n c write name is v k.each).1 k.each; waiting = awaits_free n.activity _ free }
+reads_copies j n cause o (deed.home_waits c write name h is e v x) f away free k = record { each = k.each; waiting = starts_below n c write name is v k.each }
+reads_copies j n cause o (deed.side_waits c write name r is e g v x) f away free k = record { each = k.each; waiting = starts_below n c write name is v k.each }
+reads_copies j n cause o (deed.home_ends c name w ends lowers h is e) f away free k = record { each = closes_each name n k.each; waiting = awaits_free n.activity _ free }
+reads_copies j n cause o (deed.side_ends c name w ends lowers r is e g) f away free k = record { each = closes_each name n k.each; waiting = awaits_free n.activity _ free }
+reads_copies j n cause o (deed.home_serves_own from x name h s is e y) f away free k =
     record { each = opens_each (is_writing s.home.mine) name _ n (subst (λ a. AwaitsSection a n.sections) (own_waits j n h from x name s is e y away f) k.waiting).1 k.each; waiting = tt }
-reads_copies j n cause o (grant_comes from name version g r e t) f away free k =
+reads_copies j n cause o (deed.grant_comes from name version g r e t) f away free k =
     record { each = opens_each (asks_to_write r.asking) name _ n (subst (λ a. AwaitsSection a n.sections) (grant_waits j n name g r e t f) k.waiting).1 k.each; waiting = tt }
 reads_copies j n cause o _ f away free k = record { each = k.each; waiting = k.waiting }
 
@@ -101,32 +102,32 @@ warned name (Waiting (ForMap p purged)) s h = tt
 warned name _ s h = h
 
 reads_lives : (n : Node) (cause : Cause) (o : Outcome) → Lives n cause o → SectionsFit n → SectionsFit o.node
-reads_lives n cause o (map_asks name e other c real) k = record { each = k.each; waiting = tt }
-reads_lives n cause o (map_comes from name purged size e) k = record { each = k.each; waiting = tt }
-reads_lives n cause o (map_denied from name purged s why t x u e) k = record { each = k.each; waiting = tt }
-reads_lives n cause o (deletes_own name m ms mine live e) k = record { each = k.each; waiting = tt }
-reads_lives n cause o (delete_asks name other real) k = record { each = k.each; waiting = tt }
-reads_lives n cause o (delete_comes from name t e) k = record { each = k.each; waiting = tt }
-reads_lives n cause o (warns from name e c) k = record { each = k.each; waiting = warned name n.activity n.sections k.waiting }
-reads_lives n cause o (ends_own from name mine e missing last) k = record { each = k.each; waiting = tt }
+reads_lives n cause o (deed.map_asks name e other c real) k = record { each = k.each; waiting = tt }
+reads_lives n cause o (deed.map_comes from name purged size e) k = record { each = k.each; waiting = tt }
+reads_lives n cause o (deed.map_denied from name purged s why t x u e) k = record { each = k.each; waiting = tt }
+reads_lives n cause o (deed.deletes_own name m ms mine live e) k = record { each = k.each; waiting = tt }
+reads_lives n cause o (deed.delete_asks name other real) k = record { each = k.each; waiting = tt }
+reads_lives n cause o (deed.delete_comes from name t e) k = record { each = k.each; waiting = tt }
+reads_lives n cause o (deed.warns from name e c) k = record { each = k.each; waiting = warned name n.activity n.sections k.waiting }
+reads_lives n cause o (deed.ends_own from name mine e missing last) k = record { each = k.each; waiting = tt }
 reads_lives n cause o _ k = record { each = k.each; waiting = k.waiting }
 
 reads_rounds : (n : Node) (cause : Cause) (o : Outcome) → Rounds n cause o → SectionsFit n → SectionsFit o.node
-reads_rounds n cause o (comes_away part other fits) k = record { each = k.each; waiting = tt }
-reads_rounds n cause o (comes_home part first fits all) k = record { each = k.each; waiting = tt }
-reads_rounds n cause o (part_last from round part parts mine x e a all) k = record { each = k.each; waiting = tt }
-reads_rounds n cause o (result_comes from round v x e) k = record { each = k.each; waiting = tt }
+reads_rounds n cause o (deed.comes_away part other fits) k = record { each = k.each; waiting = tt }
+reads_rounds n cause o (deed.comes_home part first fits all) k = record { each = k.each; waiting = tt }
+reads_rounds n cause o (deed.part_last from round part parts mine x e a all) k = record { each = k.each; waiting = tt }
+reads_rounds n cause o (deed.result_comes from round v x e) k = record { each = k.each; waiting = tt }
 reads_rounds n cause o _ k = record { each = k.each; waiting = k.waiting }
 
 reads_notes : (n : Node) (c : Call) (w : What) (m : Node) → Notes n c w m → n.activity ≡ Free → SectionsFit n → SectionsFit m
-reads_notes n c w m (ends_nowhere x name y ends lowers is e) free k = record { each = closes_each name n k.each; waiting = awaits_free n.activity _ free }
+reads_notes n c w m (deed.ends_nowhere x name y ends lowers is e) free k = record { each = closes_each name n k.each; waiting = awaits_free n.activity _ free }
 reads_notes n c w m _ free k = record { each = k.each; waiting = k.waiting }
 
 reads_deed : (j : ℕ) (n : Node) (cause : Cause) (o : Outcome) → Deed n cause o → Fits j n → Came Leaves n.me cause → FreeIf cause n → SectionsFit n → SectionsFit o.node
-reads_deed j n cause o (copies d) f away free k = reads_copies j n cause o d f away free k
-reads_deed j n cause o (lives d) f away free k = reads_lives n cause o d k
-reads_deed j n cause o (rounds d) f away free k = reads_rounds n cause o d k
-reads_deed j n cause o (notes d) f away free k = reads_notes n _ _ _ d free k
+reads_deed j n cause o (deed.copies d) f away free k = reads_copies j n cause o d f away free k
+reads_deed j n cause o (deed.lives d) f away free k = reads_lives n cause o d k
+reads_deed j n cause o (deed.rounds d) f away free k = reads_rounds n cause o d k
+reads_deed j n cause o (deed.notes d) f away free k = reads_notes n _ _ _ d free k
 reads_deed j n cause o _ f away free k = record { each = k.each; waiting = k.waiting }
 
 pub sections_kept : Kept SectionsFit

@@ -21,7 +21,8 @@ use Rattle.crl_model.specs.FoldOf.{fold_of}
 use Rattle.crl_deeds.proofs.Fitting.{IsAway, Leaves, Fits}
 use Rattle.crl_deeds.proofs.Opens.{own_waits, grant_waits}
 use Rattle.crl_deeds.proofs.Turning.{Came}
-use Rattle.crl_deeds.specs.Deeds.{FreeIf, Cause, Calls, Hears, parting, Copies, Rounds, Notes, home_opens, home_waits, side_opens, side_waits, home_ends, side_ends, side_flushes, home_serves, home_serves_own, grant_comes, side_called, Serves, ask_comes, copy_returns, copy_lowers, CallsBack, wholly, to_share, comes_away, comes_home, comes_last, part_comes, part_last, part_last_idle, result_comes, ends_nowhere}
+use Rattle.crl_deeds.specs.Deeds.{FreeIf, Cause, parting, Copies, Rounds, Notes, Serves, CallsBack}
+use Rattle.crl_deeds.specs.Deeds as deed
 pub use Rattle.crl_deeds.specs.Tokens.{NoMail, Span, came}
 use Rattle.crl_deeds.proofs.Totals.{weigh, weighs, waited, none_to, Balance}
 
@@ -86,13 +87,13 @@ purges_none f g waits s n name [] = refl
 purges_none f g waits s n name (m ∷ ms) = let h = purges_none f g waits s n name ms in let e = s.purges n.me m name in omega arith
 
 serves_none : (f : Message → ℕ) (g : Node → ℕ) (waits : Activity → ℕ) → Span f g waits → (n : Node) (h : Home) (to from : ℕ) (k : Kind) (name : Name) (x : HomeStep) → Serves n h from k name x → f (record { sender = from; addressee = to; kind = k }) ≡ 0
-serves_none f g waits s n h to from k name x (ask_comes y q write have e) = s.mail from to q (Ask write have)
-serves_none f g waits s n h to from k name x (copy_returns y q version bytes e) = s.mail from to q (Return version bytes)
-serves_none f g waits s n h to from k name x (copy_lowers y q version bytes e) = s.mail from to q (Release version bytes)
+serves_none f g waits s n h to from k name x (deed.ask_comes y q write have e) = s.mail from to q (Ask write have)
+serves_none f g waits s n h to from k name x (deed.copy_returns y q version bytes e) = s.mail from to q (Return version bytes)
+serves_none f g waits s n h to from k name x (deed.copy_lowers y q version bytes e) = s.mail from to q (Release version bytes)
 
 back_none : (f : Message → ℕ) (g : Node → ℕ) (waits : Activity → ℕ) → Span f g waits → (r : Remote) (to from : ℕ) (k : Kind) (name : Name) (x : RemoteStep) → CallsBack r k name x → f (record { sender = from; addressee = to; kind = k }) ≡ 0
-back_none f g waits s r to from k name x (wholly q version) = s.mail from to q (Recall version)
-back_none f g waits s r to from k name x (to_share q version) = s.mail from to q (Yield version)
+back_none f g waits s r to from k name x (deed.wholly q version) = s.mail from to q (Recall version)
+back_none f g waits s r to from k name x (deed.to_share q version) = s.mail from to q (Yield version)
 
 -- nothing sent and the activity as before, or nothing waited for on either side
 pub even : (s x y v : ℕ) → s ≡ 0 → x ≡ y → (s + x) + v ≡ (0 + y) + v
@@ -103,40 +104,40 @@ shut s x y c v u e f g h k = omega arith
 
 pub span_copies : (f : Message → ℕ) (g : Node → ℕ) (waits : Activity → ℕ) → Span f g waits → (i j : ℕ) (n : Node) (cause : Cause) (o : Outcome) → Copies n cause o → Fits j n → Came Leaves n.me cause → FreeIf cause n
     → Balance f g waits i n (came f n.me cause) o
-span_copies f g waits s i j n cause o (home_opens c write name h is e v x) t w free = let a = letters_none f g waits s n name _ in let b = s.kept n o.node refl refl in even _ _ _ _ a b
-span_copies f g waits s i j n cause o (home_waits c write name h is e v x) t w free =
+span_copies f g waits s i j n cause o (deed.home_opens c write name h is e v x) t w free = let a = letters_none f g waits s n name _ in let b = s.kept n o.node refl refl in even _ _ _ _ a b
+span_copies f g waits s i j n cause o (deed.home_waits c write name h is e v x) t w free =
     shut _ _ _ _ _ _ (letters_none f g waits s n name _) (s.kept n o.node refl refl) refl (no_wait_as waits i n Free free s.free) (no_wait waits i o.node (s.section name))
-span_copies f g waits s i j n cause o (side_opens c write name r is e k v x) t w free = even _ _ _ _ (mails_none f g waits s n name _) (s.kept n o.node refl refl)
-span_copies f g waits s i j n cause o (side_waits c write name r is e k v x) t w free =
+span_copies f g waits s i j n cause o (deed.side_opens c write name r is e k v x) t w free = even _ _ _ _ (mails_none f g waits s n name _) (s.kept n o.node refl refl)
+span_copies f g waits s i j n cause o (deed.side_waits c write name r is e k v x) t w free =
     shut _ _ _ _ _ _ (mails_none f g waits s n name _) (s.kept n o.node refl refl) refl (no_wait_as waits i n Free free s.free) (no_wait waits i o.node (s.section name))
-span_copies f g waits s i j n cause o (home_ends c name y ends lowers h is e) t w free = even _ _ _ _ (letters_none f g waits s n name _) (s.kept n o.node refl refl)
-span_copies f g waits s i j n cause o (side_ends c name y ends lowers r is e k) t w free = even _ _ _ _ (mails_none f g waits s n name _) (s.kept n o.node refl refl)
-span_copies f g waits s i j n cause o (side_flushes name r other e closed) t w free = even _ _ _ _ (mails_none f g waits s n name _) (s.kept n o.node refl refl)
-span_copies f g waits s i j n cause o (home_serves from k name h y is e x) t w free =
+span_copies f g waits s i j n cause o (deed.home_ends c name y ends lowers h is e) t w free = even _ _ _ _ (letters_none f g waits s n name _) (s.kept n o.node refl refl)
+span_copies f g waits s i j n cause o (deed.side_ends c name y ends lowers r is e k) t w free = even _ _ _ _ (mails_none f g waits s n name _) (s.kept n o.node refl refl)
+span_copies f g waits s i j n cause o (deed.side_flushes name r other e closed) t w free = even _ _ _ _ (mails_none f g waits s n name _) (s.kept n o.node refl refl)
+span_copies f g waits s i j n cause o (deed.home_serves from k name h y is e x) t w free =
     let a = letters_none f g waits s n name y.posts in let b = s.kept n o.node refl refl in let c = serves_none f g waits s n h n.me from k name y is in omega arith
-span_copies f g waits s i j n cause o (home_serves_own from k name h y is e x) t w free =
+span_copies f g waits s i j n cause o (deed.home_serves_own from k name h y is e x) t w free =
     let own = own_waits j n h from k name y is e x w t in
     shut _ _ _ _ _ _ (letters_none f g waits s n name y.posts) (s.kept n o.node refl refl) (serves_none f g waits s n h n.me from k name y is) (no_wait_as waits i n _ own (s.section name)) (no_wait waits i o.node (s.ready _))
-span_copies f g waits s i j n cause o (grant_comes from name version what r e y) t w free =
+span_copies f g waits s i j n cause o (deed.grant_comes from name version what r e y) t w free =
     shut _ _ _ _ _ _ refl (s.kept n o.node refl refl) (s.mail from n.me name (Grant version what)) (no_wait_as waits i n _ (grant_waits j n name what r e y t) (s.section name)) (no_wait waits i o.node (s.ready _))
-span_copies f g waits s i j n cause o (side_called from k name r y is e) t w free =
+span_copies f g waits s i j n cause o (deed.side_called from k name r y is e) t w free =
     let a = mails_none f g waits s n name y.posts in let b = s.kept n o.node refl refl in let c = back_none f g waits s r n.me from k name y is in omega arith
 
 pub span_rounds : (f : Message → ℕ) (g : Node → ℕ) (waits : Activity → ℕ) → Span f g waits → (i : ℕ) (n : Node) (cause : Cause) (o : Outcome) → Rounds n cause o → FreeIf cause n → Balance f g waits i n (came f n.me cause) o
-span_rounds f g waits s i n cause o (comes_away part other fits) free =
+span_rounds f g waits s i n cause o (deed.comes_away part other fits) free =
     let z = s.comes n.me 0 (n.rounds + 1) part in
     shut _ _ _ _ _ _ (omega arith) (s.kept n o.node refl refl) refl (no_wait_as waits i n Free free s.free) (no_wait waits i o.node (s.round _ _))
-span_rounds f g waits s i n cause o (comes_home part first fits all) free =
+span_rounds f g waits s i n cause o (deed.comes_home part first fits all) free =
     shut _ _ _ _ _ _ refl (s.kept n o.node refl refl) refl (no_wait_as waits i n Free free s.free) (no_wait waits i o.node (s.round _ _))
-span_rounds f g waits s i n cause o (comes_last part parts first fits all) free = even _ _ _ _ (results_none f g waits s n 1 (n.nodes - 1) _ _) (s.kept n o.node refl refl)
-span_rounds f g waits s i n cause o (part_comes from round part a all) free = let z = s.comes from n.me round part in let b = s.kept n o.node refl refl in omega arith
-span_rounds f g waits s i n cause o (part_last from round part parts mine k e a all) free =
+span_rounds f g waits s i n cause o (deed.comes_last part parts first fits all) free = even _ _ _ _ (results_none f g waits s n 1 (n.nodes - 1) _ _) (s.kept n o.node refl refl)
+span_rounds f g waits s i n cause o (deed.part_comes from round part a all) free = let z = s.comes from n.me round part in let b = s.kept n o.node refl refl in omega arith
+span_rounds f g waits s i n cause o (deed.part_last from round part parts mine k e a all) free =
     shut _ _ _ _ _ _ (results_none f g waits s n 1 (n.nodes - 1) _ _) (s.kept n o.node refl refl) (s.comes from n.me round part) (no_wait_as waits i n _ e (s.round mine k)) (no_wait waits i o.node (s.ready _))
-span_rounds f g waits s i n cause o (part_last_idle from round part parts idle a all) free =
+span_rounds f g waits s i n cause o (deed.part_last_idle from round part parts idle a all) free =
     let y = results_none f g waits s n 1 (n.nodes - 1) n.gathering.round (fold_of parts) in let z = s.comes from n.me round part in let b = s.kept n o.node refl refl in omega arith
-span_rounds f g waits s i n cause o (result_comes from round fold k e) free =
+span_rounds f g waits s i n cause o (deed.result_comes from round fold k e) free =
     shut _ _ _ _ _ _ refl (s.kept n o.node refl refl) (s.results from n.me round fold) (no_wait_as waits i n _ e (s.round round k)) (no_wait waits i o.node (s.ready _))
 
 pub span_notes : (f : Message → ℕ) (g : Node → ℕ) (waits : Activity → ℕ) → Span f g waits → (i : ℕ) (n : Node) (c : Call) (w : What) (m : Node) → Notes n c w m → (0 + g m) + waited waits i n ≡ (0 + g n) + waited waits i m
-span_notes f g waits s i n c w m (ends_nowhere x name y ends lowers is e) = let b = s.kept n m refl refl in omega arith
+span_notes f g waits s i n c w m (deed.ends_nowhere x name y ends lowers is e) = let b = s.kept n m refl refl in omega arith
 span_notes f g waits s i n c w m _ = refl

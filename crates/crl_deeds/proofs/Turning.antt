@@ -21,7 +21,8 @@ use Rattle.crl_protocol.specs.Handlers.{node_handles}
 use Rattle.crl_protocol.specs.Verdict.{verdict}
 use Rattle.crl_protocol.specs.World.{World, WorldStep, is_call, collects, carries, steps_node, handles_at, stays, step, is_free, is_ready, is_enabled, IsRunFrom, world_after, noted_call}
 use Rattle.crl_deeds.proofs.Placing.{all_append}
-use Rattle.crl_deeds.specs.Deeds.{Cause, Calls, Hears, Copies, Lives, Rounds, Notes, Deed, copies, lives, rounds, notes, home_opens, made, comes_away, flushes_own}
+use Rattle.crl_deeds.specs.Deeds.{Cause, Copies, Lives, Rounds, Notes, Deed, Calls, Hears}
+use Rattle.crl_deeds.specs.Deeds as deed
 pub use Rattle.crl_deeds.specs.Turns.{Turn, calls, hears, gathers, answers, carriage, rests, Frame, Came, Parts, Local, HeldIn, HeldOut, HeldAt, Held}
 use Rattle.crl_deeds.proofs.Deeding.{call_deed}
 use Rattle.crl_deeds.proofs.Hearing.{message_deed}
@@ -106,26 +107,26 @@ turn_of w (event.Carry i place) h = go (take_out place (w.nodes i).outbox) refl
     go (Some t) x = carriage i (event.Carry i place) t.taken t.rest few (took_at place (w.nodes i).outbox t x)
 
 copies_frame : (n : Node) (cause : Cause) (o : Outcome) → Copies n cause o → Frame n o.node
-copies_frame n cause o (home_opens c write name h is e v w) = record { me = refl; nodes = refl; capacity = refl; inbox = refl; outbox = refl; parcels = refl }
+copies_frame n cause o (deed.home_opens c write name h is e v w) = record { me = refl; nodes = refl; capacity = refl; inbox = refl; outbox = refl; parcels = refl }
 copies_frame n cause o _ = record { me = refl; nodes = refl; capacity = refl; inbox = refl; outbox = refl; parcels = refl }
 
 pub lives_frame : (n : Node) (cause : Cause) (o : Outcome) → Lives n cause o → Frame n o.node
-lives_frame n cause o (made size e) = record { me = refl; nodes = refl; capacity = refl; inbox = refl; outbox = refl; parcels = refl }
+lives_frame n cause o (deed.made size e) = record { me = refl; nodes = refl; capacity = refl; inbox = refl; outbox = refl; parcels = refl }
 lives_frame n cause o _ = record { me = refl; nodes = refl; capacity = refl; inbox = refl; outbox = refl; parcels = refl }
 
 rounds_frame : (n : Node) (cause : Cause) (o : Outcome) → Rounds n cause o → Frame n o.node
-rounds_frame n cause o (comes_away part other fits) = record { me = refl; nodes = refl; capacity = refl; inbox = refl; outbox = refl; parcels = refl }
+rounds_frame n cause o (deed.comes_away part other fits) = record { me = refl; nodes = refl; capacity = refl; inbox = refl; outbox = refl; parcels = refl }
 rounds_frame n cause o _ = record { me = refl; nodes = refl; capacity = refl; inbox = refl; outbox = refl; parcels = refl }
 
 notes_frame : (n : Node) (c : Call) (w : What) (m : Node) → Notes n c w m → Frame n m
-notes_frame n c w m (flushes_own name mine closed) = record { me = refl; nodes = refl; capacity = refl; inbox = refl; outbox = refl; parcels = refl }
+notes_frame n c w m (deed.flushes_own name mine closed) = record { me = refl; nodes = refl; capacity = refl; inbox = refl; outbox = refl; parcels = refl }
 notes_frame n c w m _ = record { me = refl; nodes = refl; capacity = refl; inbox = refl; outbox = refl; parcels = refl }
 
 pub deed_frame : (n : Node) (cause : Cause) (o : Outcome) → Deed n cause o → Frame n o.node
-deed_frame n cause o (copies d) = copies_frame n cause o d
-deed_frame n cause o (lives d) = lives_frame n cause o d
-deed_frame n cause o (rounds d) = rounds_frame n cause o d
-deed_frame n cause o (notes d) = notes_frame n _ _ _ d
+deed_frame n cause o (deed.copies d) = copies_frame n cause o d
+deed_frame n cause o (deed.lives d) = lives_frame n cause o d
+deed_frame n cause o (deed.rounds d) = rounds_frame n cause o d
+deed_frame n cause o (deed.notes d) = notes_frame n _ _ _ d
 deed_frame n cause o _ = record { me = refl; nodes = refl; capacity = refl; inbox = refl; outbox = refl; parcels = refl }
 
 pub all_took : {A : Type 0} (P : A → Type 0) {x : A} {xs rest : List A} → Took x xs rest → AllByRecursion P xs → P x × AllByRecursion P rest
