@@ -1,34 +1,35 @@
 -- What the crates above may cite of the proofs here.
 -- That a node does deeds, and a world turns; what a deed leaves alone; what holds of each node and message by itself.
-pub use Rattle.crl_deeds.proofs.Deeding.{call_deed}
-pub use Rattle.crl_deeds.proofs.Hearing.{message_deed}
-pub use Rattle.crl_deeds.proofs.Turning.{turn_of, turn_count, deed_frame, lives_frame, took_at, all_took, each_at, held_turn, held_run}
+pub use Rattle.crl_deeds.proofs.Cases.Called.{call_deed}
+pub use Rattle.crl_deeds.proofs.Cases.Heard.{message_deed}
+pub use Rattle.crl_deeds.proofs.Cases.Turns.{turn_of, turn_count, deed_frame, lives_frame, took_at, all_took, each_at, held_turn, held_run}
 -- What holds of every node in every run.
-pub use Rattle.crl_deeds.proofs.Sound.{fits_start, fits_event, fits_run, fits_in_runs, away_load}
-pub use Rattle.crl_deeds.proofs.Kept.{kept_turn, kept_run}
-pub use Rattle.crl_deeds.proofs.OpenReads.{sections_kept, sections_fit}
-pub use Rattle.crl_deeds.proofs.Outcomes.{here_of, here_if, there_if, not_mine, home_bytes, remote_bytes, queue_of, asking_of, mapped_home, mapped_remote}
-pub use Rattle.crl_deeds.proofs.Opens.{own_waits, grant_waits, serves_goes}
-pub use Rattle.crl_deeds.proofs.Mapping.{going_own}
+pub use Rattle.crl_deeds.proofs.Fits.Worlds.{fits_start, fits_event, fits_run, fits_in_runs, away_load}
+pub use Rattle.crl_deeds.proofs.Runs.Kept.{kept_turn, kept_run}
+pub use Rattle.crl_deeds.proofs.Counts.OpenReads.{sections_kept, sections_fit}
+pub use Rattle.crl_deeds.proofs.Fits.Parts.{here_of, here_if, there_if, not_mine, home_bytes, remote_bytes, queue_of, asking_of, mapped_home, mapped_remote}
+pub use Rattle.crl_deeds.proofs.Fits.Waits.{own_waits, grant_waits, serves_goes}
+pub use Rattle.crl_deeds.proofs.Fits.CopyMessages.{waits_own, waits_granted}
+pub use Rattle.crl_deeds.proofs.Tokens.Maps.{going_own}
 -- Counts, and all that is known of a world.
-pub use Rattle.crl_deeds.proofs.Counting.{mappings_are_counted, counted_local, counted_start}
-pub use Rattle.crl_deeds.proofs.Knowing.{none_local, known_start, known_step, known_run, life_run}
+pub use Rattle.crl_deeds.proofs.Counts.Mappings.{mappings_are_counted, counted_local, counted_start}
+pub use Rattle.crl_deeds.proofs.Runs.Known.{none_local, known_start, known_step, known_run, life_run}
 -- Sums, weights and tokens.
-pub use Rattle.crl_deeds.proofs.Totals.{sum_with, sum_part, sum_new, weigh_append, weigh_took, weighs_posted, boxed_sum, none_to, token_turn}
-pub use Rattle.crl_deeds.proofs.Spans.{whole_of, keyed_none, part_same, parts_none, no_wait, no_wait_as, even, shut, parting_none, mails_none, purges_none, span_copies, span_rounds, span_notes}
-pub use Rattle.crl_deeds.proofs.Mapping.{who_maps_has_one}
-pub use Rattle.crl_deeds.proofs.Erasing.{who_deletes_has_one}
+pub use Rattle.crl_deeds.proofs.Tokens.Sums.{sum_with, sum_part, sum_new, weigh_append, weigh_took, weighs_posted, boxed_sum, none_to, token_turn}
+pub use Rattle.crl_deeds.proofs.Tokens.Spans.{whole_of, keyed_none, part_same, parts_none, no_wait, no_wait_as, even, shut, parting_none, mails_none, purges_none, span_copies, span_rounds, span_notes}
+pub use Rattle.crl_deeds.proofs.Tokens.Maps.{who_maps_has_one}
+pub use Rattle.crl_deeds.proofs.Tokens.Deletes.{who_deletes_has_one}
 -- What the steps of tables leave.
-pub use Rattle.crl_deeds.proofs.Serving.{asked_goes, returned_goes, released_goes, read_goes, write_goes, starts_fit, recalled_goes, yields_goes, read_ends, write_ends, flushes_goes}
+pub use Rattle.crl_deeds.proofs.Fits.TableSteps.{no_is_one, asked_goes, returned_goes, released_goes, read_goes, write_goes, starts_fit, remote_start, recalled_goes, yields_goes, read_ends, write_ends, flushes_goes}
 -- Tables by name, lists, and verdicts.
-pub use Rattle.crl_deeds.proofs.Fitting.{same_name, name_self, other_name, by_name, by_test}
-pub use Rattle.crl_deeds.proofs.Tabling.{home_put, home_end, home_next, home_none, lifetime_put}
-pub use Rattle.crl_deeds.proofs.Outcomes.{is_cached, not_cached, kept_dropped, kept_more}
-pub use Rattle.crl_deeds.proofs.Placing.{all_append}
-pub use Rattle.crl_deeds.proofs.Growing.{append_nil}
-pub use Rattle.crl_deeds.proofs.Calling.{none_of}
-pub use Rattle.crl_deeds.proofs.Entering.{open_size}
+pub use Rattle.crl_deeds.proofs.Fits.Names.{same_name, name_self, other_name, by_name, by_test}
+pub use Rattle.crl_deeds.proofs.Fits.TableRows.{home_put, home_end, home_next, home_none, lifetime_put}
+pub use Rattle.crl_deeds.proofs.Fits.Parts.{is_cached, not_cached, kept_dropped, kept_more}
+pub use Rattle.crl_deeds.proofs.Chosen.Lists.{all_append}
+pub use Rattle.crl_deeds.proofs.Runs.Grown.{append_nil}
+pub use Rattle.crl_deeds.proofs.Fits.LifetimeCalls.{none_of}
+pub use Rattle.crl_deeds.proofs.Fits.SectionCalls.{open_size}
 -- What a node finds of a call that it takes or refuses.
-pub use Rattle.crl_deeds.proofs.Verdicts.{refused_for, is_mapped_by, write_starts_closed, read_starts_below, read_ends_open, write_ends_open, create_fits, send_fits}
+pub use Rattle.crl_deeds.proofs.Cases.Refused.{refused_for, is_mapped_by, write_starts_closed, read_starts_below, read_ends_open, write_ends_open, create_fits, send_fits}
 -- Where entries are decided.
-pub use Rattle.crl_deeds.proofs.Decided.{decided_by_call, decided_by_message, decided}
+pub use Rattle.crl_deeds.proofs.Cases.Entries.{decided_by_call, decided_by_message, decided}

@@ -1,36 +1,7 @@
-pub mod Allowing
-pub mod Bounding
-pub mod Calling
-pub mod Counting
-pub mod Deeding
-pub mod Decided
-pub mod Enabling
-pub mod Entering
-pub mod Erasing
-pub mod Fitting
-pub mod Following
-pub mod Growing
-pub mod Handling
-pub mod Hearing
-pub mod Informing
-pub mod Keeping
-pub mod Kept
-pub mod Knowing
 pub mod Laws
-pub mod Mapping
-pub mod Obeying
-pub mod Opening
-pub mod Opens
-pub mod Outcomes
-pub mod Placing
-pub mod OpenReads
-pub mod Serving
-pub mod Sound
-pub mod Drafts
-pub mod Spans
-pub mod Tabling
-pub mod Totals
-pub mod Touching
-pub mod Turning
-pub mod Verdicts
-pub mod Wording
+mod Cases
+mod Chosen
+mod Counts
+mod Fits
+mod Runs
+mod Tokens

@@ -1,4 +1,4 @@
-use Rattle.crl_deeds.proofs.Counting.{mappings_are_counted}
+use Rattle.crl_deeds.proofs.Counts.Mappings.{mappings_are_counted}
 use Rattle.crl_deeds.proofs.facts.mappings_are_counted.Goals as goal
 
 pub returns : goal.returns

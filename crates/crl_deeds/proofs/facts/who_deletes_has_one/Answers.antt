@@ -1,4 +1,4 @@
-use Rattle.crl_deeds.proofs.Erasing.{who_deletes_has_one}
+use Rattle.crl_deeds.proofs.Tokens.Deletes.{who_deletes_has_one}
 use Rattle.crl_deeds.proofs.facts.who_deletes_has_one.Goals as goal
 
 pub returns : goal.returns

@@ -1,4 +1,4 @@
-use Rattle.crl_deeds.proofs.Mapping.{who_maps_has_one}
+use Rattle.crl_deeds.proofs.Tokens.Maps.{who_maps_has_one}
 use Rattle.crl_deeds.proofs.facts.who_maps_has_one.Goals as goal
 
 pub returns : goal.returns

@@ -1,7 +1,7 @@
 use Rattle.std.proofs.Common.{◌∙◌, ap, ◌++◌}
 use Rattle.crl_protocol.specs.World.{new_world, world_of, account}
-use Rattle.crl_deeds.proofs.Decided.{decided}
-use Rattle.crl_deeds.proofs.Growing.{world_grows, account_grows}
+use Rattle.crl_deeds.proofs.Cases.Entries.{decided}
+use Rattle.crl_deeds.proofs.Runs.Grown.{world_grows, account_grows}
 use Rattle.crl_deeds.proofs.theorems.accounts_grow.Goals as goal
 
 pub returns : goal.returns

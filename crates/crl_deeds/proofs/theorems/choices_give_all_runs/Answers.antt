@@ -1,5 +1,5 @@
-use Rattle.crl_deeds.proofs.Following.{follow_turns}
-use Rattle.crl_deeds.proofs.Wording.{all_worded}
+use Rattle.crl_deeds.proofs.Chosen.Followed.{follow_turns}
+use Rattle.crl_deeds.proofs.Chosen.Words.{all_worded}
 use Rattle.crl_deeds.proofs.theorems.choices_give_all_runs.Goals as goal
 
 pub returns : goal.returns

@@ -1,4 +1,4 @@
-use Rattle.crl_deeds.proofs.Decided.{decided_by_call, decided_by_message, decided}
+use Rattle.crl_deeds.proofs.Cases.Entries.{decided_by_call, decided_by_message, decided}
 use Rattle.crl_deeds.proofs.theorems.entries_are_decided.Goals as goal
 
 pub returns : goal.returns

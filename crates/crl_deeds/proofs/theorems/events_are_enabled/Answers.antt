@@ -1,5 +1,5 @@
 use Rattle.crl_protocol.specs.World.{new_world}
-use Rattle.crl_deeds.proofs.Enabling.{no_handle, no_carry, enabled_behind}
+use Rattle.crl_deeds.proofs.Runs.Enabled.{no_handle, no_carry, enabled_behind}
 use Rattle.crl_deeds.proofs.theorems.events_are_enabled.Goals as goal
 
 pub returns : goal.returns

@@ -1,0 +1,13 @@
+pub mod AllCalls
+pub mod CopyMessages
+pub mod Fields
+pub mod LifetimeCalls
+pub mod Names
+pub mod OtherMessages
+pub mod Parts
+pub mod SectionCalls
+pub mod Sections
+pub mod TableRows
+pub mod TableSteps
+pub mod Waits
+pub mod Worlds

@@ -1,0 +1,5 @@
+pub mod Enabled
+pub mod Grown
+pub mod Kept
+pub mod Known
+pub mod Touched

@@ -1,0 +1,4 @@
+pub mod Deletes
+pub mod Maps
+pub mod Spans
+pub mod Sums
