@@ -57,12 +57,6 @@ pub record Counted (count i : ℕ) (n : Node) : Type 0 where
 abbrev pub NoneYet : Node → Type 0
 NoneYet n = (s : ℕ) → serials_used n < s → (n.lifetimes s).stage ≡ stage.Unknown
 
--- What is known of every world of a run.
-pub record Known (w : World) : Type 0 where
-  pub fits : (i : ℕ) → Fits i (w.nodes i)
-  pub held : Held (Counted w.count) (Plain w.count) w
-  pub none : Held (λ i n. NoneYet n) (λ m. Unit {0}) w
-
 -- Read sections inside each other are counted. Where a node waits for a section, none is open to write, and one more fits.
 abbrev pub FitsReads : Section → Type 0
 FitsReads section.Closed = Unit {0}
@@ -76,3 +70,10 @@ AwaitsSection _ s = Unit {0}
 pub record SectionsFit (n : Node) : Type 0 where
   pub each : (q : Name) → FitsReads (section_at q n.sections)
   pub waiting : AwaitsSection n.activity n.sections
+
+-- What is known of every world of a run.
+pub record Known (w : World) : Type 0 where
+  pub fits : (i : ℕ) → Fits i (w.nodes i)
+  pub held : Held (Counted w.count) (Plain w.count) w
+  pub none : Held (λ i n. NoneYet n) (λ m. Unit {0}) w
+  pub sections : (i : ℕ) → SectionsFit (w.nodes i)

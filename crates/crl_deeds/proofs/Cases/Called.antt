@@ -23,9 +23,9 @@ use Rattle.crl_protocol.specs.Node.{Node, Done, Refused, Outcome, only, COUNT_LI
 use Rattle.crl_protocol.specs.Sectioning.{with_entry_first, forgets_over, forgets, starts_over_remote, starts_over_home, starts, after_home_end, after_remote, closes, ends_over_remote, ends_over_home, flushes_remote}
 use Rattle.crl_protocol.specs.Verdict.{refuse_if, of_open, of_start, of_end, of_mapped, of_cached, of_map, of_delete, of_part, verdict, refuses_call}
 use Rattle.crl_protocol.specs.Calls.{deletes_own, deletes, maps_cached, maps_over, forgets_evicted, unmaps_over, after_own_part, comes, takes_call, call_or_refuse, node_calls}
-use Rattle.crl_deeds.proofs.Fits.Names.{same_name}
-use Rattle.crl_deeds.proofs.Fits.LifetimeCalls.{none_of, live_by, mapped_by}
 use Rattle.crl_deeds.specs.Deeds.{Cause, parting, forgotten, CanStart, CanEnd, CanFlush, StartsCall, EndsCall, Idles, Deed, with_parts, next_round, Calls}
+use Rattle.crl_deeds.proofs.Fits.LifetimeCalls.{none_of, live_by, mapped_by}
+use Rattle.crl_deeds.proofs.Fits.Names.{same_name}
 use Rattle.crl_deeds.specs.Deeds as deed
 
 pub deed_if : (n : Node) (cause : Cause) (b : Bool) (x y : Outcome) → (b ≡ true → Deed n cause x) → (b ≡ false → Deed n cause y) → Deed n cause (if b then x else y)

@@ -39,10 +39,10 @@ use Rattle.crl_protocol.specs.Calls.{node_calls, call_or_refuse, result_of}
 use Rattle.crl_protocol.specs.Handlers.{node_handles, is_queued_in}
 use Rattle.crl_protocol.specs.World.{World, WorldStep, handles_at, carries, collects, step}
 use Rattle.crl_deeds.specs.Deeds.{Cause, StartsCall, EndsCall, Serves, CallsBack, Copies, Lives, Rounds, Notes, Idles, Deed, Unfit, Calls, Hears}
-use Rattle.crl_deeds.specs.Deeds as deed
 use Rattle.crl_deeds.specs.Entries.{entries_of_start, opens_at_once, entries_of_serve, entries_of_ask, entries_of_return, entries_of_release, entries_of_grant, refused_at, entries_of_map, entries_of_delete, entries_of_purged, entries_of_mapping, entries_of_cached, entries_of_round, entries_of_part, entries_of_result, entries_of_call, entries_of_message, entries_of, made_whole_of_size, made_whole_as, entries_of_heard, entries_of_taken, entries_at}
 use Rattle.crl_deeds.proofs.Cases.Called.{call_deed}
 use Rattle.crl_deeds.proofs.Cases.Heard.{message_deed}
+use Rattle.crl_deeds.specs.Deeds as deed
 
 -- what the table says of a cause, where the node doesn't refuse a call
 abbrev Table : Node → Cause → List Entry

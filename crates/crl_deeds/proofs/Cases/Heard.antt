@@ -24,10 +24,10 @@ use Rattle.crl_protocol.specs.Node.{Node, Done, ForMap, ForDelete, ForRound, Act
 use Rattle.crl_protocol.specs.Sectioning.{after_serve, after_remote}
 use Rattle.crl_protocol.specs.Calls.{size_of, is_gone, results}
 use Rattle.crl_protocol.specs.Handlers.{becomes_ready, told_by_stage, after_info, map_entry, takes_info_ask, takes_info, is_queued_in, takes_ask, takes_return, takes_release, takes_grant, takes_call_back, begins_delete, takes_delete_ask, takes_delete_told, with_post_last, purge_over_cache, purge_over, delete_done_at, ends_delete_by, takes_purged, own_result, after_part_of, takes_part, takes_result, node_handles}
-use Rattle.crl_deeds.proofs.Fits.Names.{same_name, other_name}
 use Rattle.crl_deeds.specs.Deeds.{Cause, parting, forgotten, Serves, CallsBack, Unfit, with_parts, Deed, Hears}
-use Rattle.crl_deeds.specs.Deeds as deed
 use Rattle.crl_deeds.proofs.Cases.Called.{deed_if, forgets_is}
+use Rattle.crl_deeds.proofs.Fits.Names.{same_name, other_name}
+use Rattle.crl_deeds.specs.Deeds as deed
 
 -- a lifetime that stays
 same_lifetime : (n : Node) (name : Name) → is_mine n name ≡ true → with_lifetime name (lifetime_of n name) n ≡ n

@@ -25,8 +25,8 @@ use Rattle.crl_protocol.specs.Node.{Node, COUNT_LIMIT, serials_used, is_mine, is
 use Rattle.crl_protocol.specs.Verdict.{else_if, refuse_if, by_stage, of_more, of_cached, of_mapped, of_map, of_delete, of_create, of_open, of_start, of_end, of_change, mapped_size, of_part, verdict}
 use Rattle.crl_deeds.specs.Deeds.{Unfit, never, going, gone, CanStart, CanEnd}
 use Rattle.crl_deeds.specs.Refusals.{NeedsMap, unmap, start_read, end_read, start_write, end_write, put, add, flush, NeedsWriting, ends, puts, adds, NeedsClosed, unmaps, flushes, Changes, by_put, by_add, Refuses, bad_size, names_spent, own_map, own_delete, doomed_map, unreal_map, unreal_delete, too_many_own, too_many_maps, not_mapped, section_open_read, section_open_write, too_many_reads, not_reading, not_writing, in_section, out_of_range, wrong_size}
-use Rattle.crl_deeds.proofs.Fits.LifetimeCalls.{none_of}
 use Rattle.crl_deeds.proofs.Cases.Called.{not_refused, not_not}
+use Rattle.crl_deeds.proofs.Fits.LifetimeCalls.{none_of}
 
 -- The first reason of two, and the reason of a test.
 first_of : (a b : Option Refusal) (why : Refusal) → else_if a b ≡ Some why → (a ≡ Some why) ⊎ ((a ≡ None) × (b ≡ Some why))

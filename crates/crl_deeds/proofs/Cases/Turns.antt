@@ -20,12 +20,12 @@ use Rattle.crl_protocol.specs.Calls.{node_calls}
 use Rattle.crl_protocol.specs.Handlers.{node_handles}
 use Rattle.crl_protocol.specs.Verdict.{verdict}
 use Rattle.crl_protocol.specs.World.{World, WorldStep, is_call, collects, carries, steps_node, handles_at, stays, step, is_free, is_ready, is_enabled, IsRunFrom, world_after, noted_call}
-use Rattle.crl_deeds.proofs.Chosen.Lists.{all_append}
 use Rattle.crl_deeds.specs.Deeds.{Cause, Copies, Lives, Rounds, Notes, Deed, Calls, Hears}
-use Rattle.crl_deeds.specs.Deeds as deed
-pub use Rattle.crl_deeds.specs.Turns.{Turn, calls, hears, gathers, answers, carriage, rests, Frame, Came, Parts, Local, HeldIn, HeldOut, HeldAt, Held}
+use Rattle.crl_deeds.specs.Turns.{Turn, calls, hears, gathers, answers, carriage, rests, Frame, Came, Parts, Local, HeldIn, HeldOut, HeldAt, Held}
 use Rattle.crl_deeds.proofs.Cases.Called.{call_deed}
 use Rattle.crl_deeds.proofs.Cases.Heard.{message_deed}
+use Rattle.crl_deeds.proofs.Chosen.Lists.{all_append}
+use Rattle.crl_deeds.specs.Deeds as deed
 
 took_behind : {A : Type 0} (y : A) (ys : List A) (o : Option (Taken A)) → ((t : Taken A) → o ≡ Some t → Took t.taken ys t.rest) → (t : Taken A) → behind y o ≡ Some t → Took t.taken (y ∷ ys) t.rest
 took_behind y ys None h t e = cc

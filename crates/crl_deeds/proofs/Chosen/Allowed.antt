@@ -21,12 +21,13 @@ use Rattle.crl_protocol.specs.Verdict.{mapped_size, verdict}
 use Rattle.crl_protocol.specs.World.{is_enabled, is_free, is_call, IsRunFrom}
 use Rattle.crl_protocol.specs.Chosen.{Actor, Running, draft_of, call_with, call_of, eight_at, with_sum, after_change, is_change, is_allowed, goes_on, with_actor}
 use Rattle.crl_deeds.specs.Laws.{IsStatement, IsNext, past_statement, next_call, is_inside, Follows, ended, changes, calls, happens}
-use Rattle.crl_deeds.proofs.Fits.Names.{by_name, Fits}
-use Rattle.crl_deeds.proofs.Fits.LifetimeCalls.{none_of}
+use Rattle.crl_deeds.specs.NodeFacts.{Fits}
+use Rattle.crl_deeds.proofs.Chosen.Drafts.{begun, LengthFits, DraftFits, DraftsOf, DraftsFit, Sound, sound_event}
 use Rattle.crl_deeds.proofs.Fits.AllCalls.{allowed_by}
+use Rattle.crl_deeds.proofs.Fits.LifetimeCalls.{none_of}
+use Rattle.crl_deeds.proofs.Fits.Names.{by_name}
 use Rattle.crl_deeds.proofs.Fits.SectionCalls.{open_size}
 use Rattle.crl_deeds.proofs.Fits.Worlds.{by_node}
-use Rattle.crl_deeds.proofs.Chosen.Drafts.{begun, LengthFits, DraftFits, DraftsOf, DraftsFit, Sound, sound_event}
 
 -- The draft of an open write section has the section's length.
 draft_length : (o : Option OpenSection) (draft : List ℕ) → is_writing (section_of o) ≡ true → DraftFits o draft → length draft ≡ length (section_bytes o)

@@ -14,8 +14,8 @@ use Rattle.crl_protocol.specs.Verdict.{verdict}
 use Rattle.crl_protocol.specs.World.{step, is_enabled, is_ready, account_from, world_after}
 use Rattle.crl_protocol.specs.Chosen.{Actor, Running, next_of, nexts_from, handles_of, handles_from, carries_of, carries_from, choices, goes_on, with_actor, after_change, is_change, is_allowed, takes_statement, takes_choice, takes_choice_at, turn, turns_from, running}
 use Rattle.crl_deeds.specs.Laws.{IsNext, past_statement, next_call, is_inside, Follows, ended, changes, calls, happens}
-use Rattle.crl_deeds.proofs.Runs.Grown.{append_nil}
 use Rattle.crl_deeds.proofs.Chosen.Lists.{all_append, gather, all_gathered, chosen_is}
+use Rattle.crl_deeds.proofs.Runs.Grown.{append_nil}
 
 -- The choices of a turn, gathered by node.
 pub nexts_gather : (r : Running) (i k : ℕ) → nexts_from i k r ≡ gather (λ j. next_of j (r.actors j).left (r.world.nodes j).activity) i k

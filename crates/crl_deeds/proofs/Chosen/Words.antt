@@ -11,8 +11,8 @@ use Rattle.crl_protocol.specs.Node.{Activity, Free, Waiting, Ready}
 use Rattle.crl_protocol.specs.World.{is_enabled, is_ready}
 use Rattle.crl_protocol.specs.Chosen.{Running, next_of, nexts_from, handles_of, handles_from, carries_of, choices, goes_on, takes_statement, takes_choice, takes_choice_at, turn, turns_from}
 use Rattle.crl_deeds.specs.Laws.{IsNext, node_of, is_call_event, Follows, ended, changes, calls, happens}
-use Rattle.crl_deeds.proofs.Chosen.Lists.{At, at_head, at_tail, at_left, at_right, at_gathered, chosen_at}
 use Rattle.crl_deeds.proofs.Chosen.Followed.{nexts_gather, handles_gather, carries_gather, stated, states_is}
+use Rattle.crl_deeds.proofs.Chosen.Lists.{At, at_head, at_tail, at_left, at_right, at_gathered, chosen_at}
 
 -- Each choice that may be taken is one of the choices.
 among_nexts : (r : Running) (i : ℕ) (c : Choice) → i < r.world.count → At c (next_of i (r.actors i).left (r.world.nodes i).activity) → At c (choices r)

@@ -21,13 +21,14 @@ use Rattle.crl_protocol.specs.Calls.{creates, results_from}
 use Rattle.crl_protocol.specs.Handlers.{purges_waiting}
 use Rattle.crl_protocol.specs.Parcels.{with_load}
 use Rattle.crl_protocol.specs.World.{new_world, world_of, IsRun}
-pub use Rattle.crl_deeds.specs.Counts.{Counts, WaitsAway, PlainKind, Plain, GoingFew, Counted}
+use Rattle.crl_deeds.specs.Counts.{Counts, WaitsAway, PlainKind, Plain, GoingFew, Counted}
+use Rattle.crl_deeds.specs.Deeds.{Cause, parting, Copies, Lives, Rounds, Notes, Deed}
+use Rattle.crl_deeds.specs.Turns.{Came, Local, Held}
+use Rattle.crl_deeds.proofs.Cases.Turns.{lives_frame, held_run}
+use Rattle.crl_deeds.proofs.Chosen.Lists.{all_append}
 use Rattle.crl_deeds.proofs.Fits.Names.{by_name}
 use Rattle.crl_deeds.proofs.Fits.TableRows.{lifetime_put}
-use Rattle.crl_deeds.proofs.Chosen.Lists.{all_append}
-use Rattle.crl_deeds.specs.Deeds.{Cause, parting, Copies, Lives, Rounds, Notes, Deed}
 use Rattle.crl_deeds.specs.Deeds as deed
-use Rattle.crl_deeds.proofs.Cases.Turns.{Came, Local, Held, lives_frame, held_run}
 
 -- Maps.
 counts_put : (n : Node) (name : Name) (o : Option Mapping) → ((q : Name) → Counts (is_mine n q) (n.maps q)) → Counts (is_mine n name) o → (q : Name) → Counts (is_mine n q) (at_name n.maps name o q)

@@ -14,16 +14,16 @@ use Rattle.crl_protocol.specs.Node.{Node, Activity, Free, Waiting, ForSection, F
 use Rattle.crl_protocol.specs.Sectioning.{closes}
 use Rattle.crl_protocol.specs.Handlers.{purges_waiting}
 use Rattle.crl_protocol.specs.World.{new_world, world_of, IsRun}
-use Rattle.crl_deeds.specs.NodeFacts.{Leaves, Fits}
 use Rattle.crl_deeds.specs.Counts.{FitsReads, AwaitsSection, SectionsFit}
-use Rattle.crl_deeds.specs.Turns.{Came, Kept}
 use Rattle.crl_deeds.specs.Deeds.{FreeIf, Cause, opened_at, StartsCall, CanStart, Copies, Lives, Rounds, Notes, Deed}
-use Rattle.crl_deeds.specs.Deeds as deed
+use Rattle.crl_deeds.specs.NodeFacts.{Leaves, Fits}
+use Rattle.crl_deeds.specs.Turns.{Came, Kept}
+use Rattle.crl_deeds.proofs.Cases.Refused.{write_starts_closed, read_starts_below}
 use Rattle.crl_deeds.proofs.Fits.Names.{by_name}
 use Rattle.crl_deeds.proofs.Fits.Waits.{own_waits, grant_waits}
-use Rattle.crl_deeds.proofs.Cases.Refused.{write_starts_closed, read_starts_below}
 use Rattle.crl_deeds.proofs.Fits.Worlds.{fits_start}
 use Rattle.crl_deeds.proofs.Runs.Kept.{kept_run}
+use Rattle.crl_deeds.specs.Deeds as deed
 
 abbrev Each : Sections → Type 0
 Each s = (q : Name) → FitsReads (section_at q s)

@@ -8,12 +8,12 @@ use Rattle.crl_model.specs.declared.call.Refusal.{Refusal}
 use Rattle.crl_protocol.specs.Node.{Node, Free, is_mine, lifetime_of}
 use Rattle.crl_protocol.specs.Verdict.{refuse_if, verdict}
 use Rattle.crl_protocol.specs.Calls.{takes_call, call_or_refuse, node_calls}
-use Rattle.crl_deeds.proofs.Fits.Names.{Fits}
-use Rattle.crl_deeds.proofs.Fits.Sections.{free, fits_made}
-use Rattle.crl_deeds.proofs.Fits.Parts.{Good, good_only, good_recording}
-use Rattle.crl_protocol.specs.World.{is_call}
+use Rattle.crl_deeds.specs.NodeFacts.{Fits, free}
 use Rattle.crl_deeds.proofs.Fits.LifetimeCalls.{none_of, live_by, mapped_by, good_refused, good_delete, good_map, good_unmap}
+use Rattle.crl_deeds.proofs.Fits.Parts.{Good, good_only, good_recording}
 use Rattle.crl_deeds.proofs.Fits.SectionCalls.{good_start, good_end_read, good_end_write, good_flush, good_come}
+use Rattle.crl_deeds.proofs.Fits.Sections.{fits_made}
+use Rattle.crl_protocol.specs.World.{is_call}
 
 pub allowed_by : (b : Bool) (why : Refusal) → refuse_if b why ≡ None → b ≡ false
 allowed_by true why e = cc

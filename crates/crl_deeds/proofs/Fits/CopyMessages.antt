@@ -13,12 +13,14 @@ use Rattle.crl_protocol.specs.Sections.{is_writing}
 use Rattle.crl_protocol.specs.Node.{Node, ForSection, Activity, Free, Waiting, Ready, home_of, lifetime_of, with_home, with_remote, section_opens}
 use Rattle.crl_protocol.specs.Sectioning.{copy_bytes, after_serve}
 use Rattle.crl_protocol.specs.Handlers.{is_queued_in, takes_ask, takes_return, takes_release, opens_with_grant, takes_grant, takes_call_back}
-use Rattle.crl_deeds.proofs.Fits.Names.{name_self, other_name, CopyFits, OneOwn, NoOwn, QueueFits, AskingFits, going_calm, IsMapped, Fits, Apart}
-use Rattle.crl_deeds.proofs.Fits.TableSteps.{HomeGoes, asked_goes, returned_goes, released_goes, RemoteGoes}
-use Rattle.crl_deeds.proofs.Fits.TableRows.{home_put}
+use Rattle.crl_deeds.specs.NodeFacts.{CopyFits, OneOwn, NoOwn, QueueFits, AskingFits, IsMapped, Fits, free}
+use Rattle.crl_deeds.specs.TableFacts.{HomeGoes, RemoteGoes}
 use Rattle.crl_deeds.proofs.Fits.Fields.{fits_turn, fits_leave, fits_home, fits_remote}
-use Rattle.crl_deeds.proofs.Fits.Sections.{free, fits_open}
+use Rattle.crl_deeds.proofs.Fits.Names.{name_self, other_name, going_calm, Apart}
 use Rattle.crl_deeds.proofs.Fits.Parts.{Good, good_if, good_only, free_apart, letters_leave, here_of, there_if, not_mine, home_bytes, remote_bytes, queue_of, asking_of, mapped_home, mapped_remote, good_moved}
+use Rattle.crl_deeds.proofs.Fits.Sections.{fits_open}
+use Rattle.crl_deeds.proofs.Fits.TableRows.{home_put}
+use Rattle.crl_deeds.proofs.Fits.TableSteps.{asked_goes, returned_goes, released_goes}
 
 -- the node with its activity written out
 pub fits_as : (i : ℕ) (n : Node) (a : Activity) → n.activity ≡ a → Fits i n → Fits i (record n { activity = a })

@@ -8,7 +8,8 @@ use Rattle.crl_protocol.specs.Home.{Home}
 use Rattle.crl_protocol.specs.Remote.{Remote}
 use Rattle.crl_protocol.specs.Lifetimes.{Mapping, Cached, Lifetime}
 use Rattle.crl_protocol.specs.Node.{Node, Activity, is_mine, home_of, lifetime_of, with_home, with_lifetime, with_remote, with_mapping}
-use Rattle.crl_deeds.proofs.Fits.Names.{by_name, Seen, seen, RecordFits, LiveFits, MappedHere, RemoteFits, MappedThere, OwnFits, QueueFits, AskingFits, GoingFits, WaitFits, Holds, IsCached, SizeIs, FreshFits, Fits, Apart, calm}
+use Rattle.crl_deeds.specs.NodeFacts.{Seen, seen, RecordFits, LiveFits, MappedHere, RemoteFits, MappedThere, OwnFits, QueueFits, AskingFits, GoingFits, WaitFits, Holds, IsCached, SizeIs, FreshFits, Fits}
+use Rattle.crl_deeds.proofs.Fits.Names.{by_name, Apart, calm}
 use Rattle.crl_deeds.proofs.Fits.TableRows.{home_put, lifetime_put, home_none}
 
 -- The activity changes: for no name anything waited, or for this one it is done.

@@ -17,9 +17,8 @@ use Rattle.crl_protocol.specs.Sections.{OpenSection, section_of, section_at}
 use Rattle.crl_protocol.specs.Node.{Node, ForMap, ForDelete, Free, Waiting, COUNT_LIMIT, serials_used, is_mine, home_of, lifetime_of, with_mapping, map_count, message_to}
 use Rattle.crl_protocol.specs.Verdict.{else_if, refuse_if, by_stage, uses_serial, refuses_call}
 use Rattle.crl_protocol.specs.Calls.{deletes_own, deletes, size_of, maps_in, maps_cached, maps_over, forgets_evicted, caches, unmaps_over}
-use Rattle.crl_deeds.proofs.Fits.Names.{Seen, seen, LiveFits, MappedHere, MappedThere, OwnFits, RecordFits, WaitFits, IsCached, SizeIs, Fits}
+use Rattle.crl_deeds.specs.NodeFacts.{Seen, seen, LiveFits, MappedHere, MappedThere, OwnFits, RecordFits, WaitFits, IsCached, SizeIs, Fits, free}
 use Rattle.crl_deeds.proofs.Fits.Fields.{fits_turn, fits_mapping, fits_lifetime, fits_cache, fits_used}
-use Rattle.crl_deeds.proofs.Fits.Sections.{free}
 use Rattle.crl_deeds.proofs.Fits.Parts.{Good, good_if, good_only, free_apart, good_waits, other_way, purges_leave, here_if, there_if, good_forgets, is_cached, not_cached, kept_dropped, kept_more}
 
 -- A verdict that refuses nothing.

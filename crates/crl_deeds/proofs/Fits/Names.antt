@@ -6,19 +6,11 @@ use Rattle.crl_model.specs.declared.name.Name.{Name}
 use Rattle.crl_model.specs.declared.stage.Stage.{Stage}
 use Rattle.crl_model.specs.declared.stage.Stage.TheVariants as stage
 use Rattle.crl_model.specs.Names.{name_eq}
+pub use Rattle.crl_model.proofs.Laws.{same_name, name_eq_self as name_self}
 use Rattle.crl_protocol.specs.Home.{Home}
 use Rattle.crl_protocol.specs.Remote.{Remote}
 use Rattle.crl_protocol.specs.Node.{Activity, Waiting, ForSection, ForDelete}
-pub use Rattle.crl_deeds.specs.NodeFacts.{Seen, seen, RecordFits, LiveFits, HomeFits, MappedHere, CopyFits, RemoteFits, MappedThere, OwnHere, OwnThere, OwnFits, NoOwn, OneOwn, QueueFits, AskingFits, GoingFits, IsMapped, WaitFits, Holds, IsCached, SizeIs, FreshFits, IsAway, Leaves, Comes, ComesIn, Fits}
-
--- Names that are tested to be one.
-pub same_name : (a b : Name) → name_eq a b ≡ true → a ≡ b
-same_name a b e =
-    let parts = and_parts (a.home == b.home) (a.serial == b.serial) e in
-    λ i. record { home = eqb-true a.home b.home parts.0 i; serial = eqb-true a.serial b.serial parts.1 i }
-
-pub name_self : (a : Name) → name_eq a a ≡ true
-name_self a = and_from _ _ (eq-eqb a.home a.home refl) (eq-eqb a.serial a.serial refl)
+use Rattle.crl_deeds.specs.NodeFacts.{Seen, seen, RecordFits, LiveFits, HomeFits, MappedHere, CopyFits, RemoteFits, MappedThere, OwnHere, OwnThere, OwnFits, NoOwn, OneOwn, QueueFits, AskingFits, GoingFits, IsMapped, WaitFits, Holds, IsCached, SizeIs, FreshFits, IsAway, Leaves, Comes, ComesIn, Fits}
 
 pub by_test : (name q : Name) (P : Bool → Name → Type 0) (b : Bool) → name_eq name q ≡ b → P true name → (name_eq name q ≡ false → P false q) → P b q
 by_test name q P true e here there = subst (λ x. P true x) (same_name name q e) here

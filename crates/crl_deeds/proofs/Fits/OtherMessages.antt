@@ -22,14 +22,15 @@ use Rattle.crl_protocol.specs.Gathering.{gathers, awaits}
 use Rattle.crl_protocol.specs.Node.{Node, only, Answer, Mapped, Done, ForSection, ForMap, ForDelete, ForRound, Activity, Free, Waiting, Ready, is_mine, home_of, lifetime_of, with_lifetime, with_remote}
 use Rattle.crl_protocol.specs.Calls.{is_gone, answer_of}
 use Rattle.crl_protocol.specs.Handlers.{becomes_ready, takes_info_ask, after_info, takes_info, begins_delete, takes_delete_ask, delete_answer, takes_delete_told, purges_waiting, purge_over_cache, purge_over, takes_purge, delete_done_at, ends_delete_by, takes_purged, own_result, after_part_of, takes_part, takes_result, node_handles}
-use Rattle.crl_deeds.proofs.Fits.Names.{same_name, name_self, other_name, by_name, Seen, seen, OwnFits, LiveFits, MappedThere, RemoteFits, asking_calm, queue_calm, GoingFits, WaitFits, IsCached, SizeIs, FreshFits, IsAway, Leaves, Fits, Holds, Apart}
-use Rattle.crl_deeds.proofs.Fits.TableSteps.{recalled_goes, yields_goes}
-use Rattle.crl_deeds.proofs.Fits.TableRows.{lifetime_put}
+use Rattle.crl_deeds.specs.NodeFacts.{Seen, seen, OwnFits, LiveFits, MappedThere, RemoteFits, GoingFits, WaitFits, IsCached, SizeIs, FreshFits, IsAway, Leaves, Fits, Holds}
 use Rattle.crl_deeds.proofs.Chosen.Lists.{all_append}
-use Rattle.crl_deeds.proofs.Fits.Fields.{fits_turn, fits_leave, fits_mapping, fits_lifetime, fits_cache}
-use Rattle.crl_deeds.proofs.Fits.Parts.{Good, good_if, good_only, fits_rounds, other_way, results_leave, purges_leave, here_if, there_if, good_forgets, kept_dropped}
-use Rattle.crl_deeds.proofs.Fits.LifetimeCalls.{no_record, other_new, fits_same_size}
 use Rattle.crl_deeds.proofs.Fits.CopyMessages.{fits_as, good_asked, good_returned, good_released, good_granted, good_called}
+use Rattle.crl_deeds.proofs.Fits.Fields.{fits_turn, fits_leave, fits_mapping, fits_lifetime, fits_cache}
+use Rattle.crl_deeds.proofs.Fits.LifetimeCalls.{no_record, other_new, fits_same_size}
+use Rattle.crl_deeds.proofs.Fits.Names.{same_name, name_self, other_name, by_name, asking_calm, queue_calm, Apart}
+use Rattle.crl_deeds.proofs.Fits.Parts.{Good, good_if, good_only, fits_rounds, other_way, results_leave, purges_leave, here_if, there_if, good_forgets, kept_dropped}
+use Rattle.crl_deeds.proofs.Fits.TableRows.{lifetime_put}
+use Rattle.crl_deeds.proofs.Fits.TableSteps.{recalled_goes, yields_goes}
 
 -- InfoAsk
 abbrev asked_in : ℕ → Lifetime → Stage → Lifetime

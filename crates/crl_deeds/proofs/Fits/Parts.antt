@@ -17,10 +17,10 @@ use Rattle.crl_protocol.specs.Gathering.{Gathering}
 use Rattle.crl_protocol.specs.Node.{Node, Awaited, Free, Waiting, Outcome, only, Done, is_mine, home_of, message_to, letter_messages, mail_messages}
 use Rattle.crl_protocol.specs.Sectioning.{waits, with_entry_first, forgets_over, forgets, after_remote}
 use Rattle.crl_protocol.specs.Calls.{results_from}
-use Rattle.crl_deeds.proofs.Fits.Names.{seen, CopyFits, RemoteFits, HomeFits, OwnFits, OwnHere, OwnThere, MappedHere, MappedThere, QueueFits, AskingFits, WaitFits, IsCached, FreshFits, IsAway, Leaves, Fits, Apart, other_name, same_name}
-use Rattle.crl_deeds.proofs.Fits.TableSteps.{NoAsk, NoAsks, RemoteGoes}
+use Rattle.crl_deeds.specs.NodeFacts.{seen, CopyFits, RemoteFits, HomeFits, OwnFits, OwnHere, OwnThere, MappedHere, MappedThere, QueueFits, AskingFits, WaitFits, IsCached, FreshFits, IsAway, Leaves, Fits, free}
+use Rattle.crl_deeds.specs.TableFacts.{NoAsk, NoAsks, RemoteGoes}
 use Rattle.crl_deeds.proofs.Fits.Fields.{fits_turn, fits_remote, fits_forget}
-use Rattle.crl_deeds.proofs.Fits.Sections.{free}
+use Rattle.crl_deeds.proofs.Fits.Names.{Apart, other_name, same_name}
 
 -- the node that a step leaves, and what it sends
 pub record Good (i : ℕ) (o : Outcome) : Type 0 where

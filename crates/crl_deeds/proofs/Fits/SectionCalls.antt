@@ -16,11 +16,12 @@ use Rattle.crl_protocol.specs.Sections.{OpenSection, section_of, section_at, sec
 use Rattle.crl_protocol.specs.Node.{Node, Activity, ForSection, ForRound, Free, Waiting, is_mine, home_of, with_home, with_remote, message_to, letter_messages, mail_messages, section_opens}
 use Rattle.crl_protocol.specs.Sectioning.{starts_or_waits, copy_bytes, starts_over_remote, starts_over_home, starts, after_home_end, closes, ends_over_remote, ends_over_home, ends_read, ends_write, flushes_remote, flushes}
 use Rattle.crl_protocol.specs.Calls.{answer_of, after_own_part, comes}
-use Rattle.crl_deeds.proofs.Fits.Names.{RecordFits, NoOwn, QueueFits, AskingFits, CopyFits, WaitFits, IsMapped, Fits}
-use Rattle.crl_deeds.proofs.Fits.TableSteps.{no_is_one, HomeGoes, HomeStarts, starts_fit, read_goes, write_goes, RemoteGoes, RemoteStarts, read_ends, write_ends, flushes_goes, remote_start as remote_begins}
+use Rattle.crl_deeds.specs.NodeFacts.{RecordFits, NoOwn, QueueFits, AskingFits, CopyFits, WaitFits, IsMapped, Fits, free}
+use Rattle.crl_deeds.specs.TableFacts.{HomeGoes, HomeStarts, RemoteGoes, RemoteStarts}
 use Rattle.crl_deeds.proofs.Fits.Fields.{fits_turn, fits_home, fits_remote}
-use Rattle.crl_deeds.proofs.Fits.Sections.{free, fits_close, fits_open}
 use Rattle.crl_deeds.proofs.Fits.Parts.{Good, good_if, good_only, good_recording, free_apart, good_waits, fits_rounds, letters_leave, mails_leave, results_leave, not_mine, home_bytes, remote_bytes, queue_of, asking_of, mapped_home, mapped_remote, good_moved}
+use Rattle.crl_deeds.proofs.Fits.Sections.{fits_close, fits_open}
+use Rattle.crl_deeds.proofs.Fits.TableSteps.{no_is_one, starts_fit, read_goes, write_goes, read_ends, write_ends, flushes_goes, remote_start as remote_begins}
 
 -- the node waits for a section of a region that is mapped
 waits_mapped : (n : Node) (name : Name) (m : Mapping) → n.maps name ≡ Some m → (q : Name) → WaitFits q (Waiting (ForSection name)) (is_mine n q) (n.maps q)

@@ -14,8 +14,8 @@ use Rattle.crl_protocol.specs.Lifetimes.{Mapping, Lifetime, new_lifetime}
 use Rattle.crl_protocol.specs.Sections.{OpenSection, Sections, begins_to_read, section_begins, section_ends, ends_over}
 use Rattle.crl_protocol.specs.Node.{Node, Free, is_mine, home_of, lifetime_of, next_name, serials_used, section_opens}
 use Rattle.crl_protocol.specs.Sectioning.{closes}
-pub use Rattle.crl_deeds.specs.NodeFacts.{free}
-use Rattle.crl_deeds.proofs.Fits.Names.{by_name, Seen, seen, RecordFits, MappedHere, OwnFits, Holds, Fits}
+use Rattle.crl_deeds.specs.NodeFacts.{free, Seen, seen, RecordFits, MappedHere, OwnFits, Holds, Fits}
+use Rattle.crl_deeds.proofs.Fits.Names.{by_name}
 use Rattle.crl_deeds.proofs.Fits.TableRows.{lifetime_put, home_end, home_next}
 
 -- A region is made.

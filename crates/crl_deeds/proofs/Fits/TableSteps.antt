@@ -11,8 +11,8 @@ use Rattle.crl_protocol.specs.Places.{at}
 use Rattle.crl_protocol.specs.Mail.{Mail, Ask, Letter}
 use Rattle.crl_protocol.specs.Home.{Home, HomeStep, is_servable, is_to_mark, recall_or_yield, recalls_and_yields, open_own, grant_next, grant_for, opens_own_section, posts_first, serve, with_marks, home_takes_ask, bytes_after, return_fits, bytes_fit, home_takes_return, is_to_lower, home_takes_release, release_fits, own_ask, is_empty, is_reading, home_starts, home_ends_read, home_ends_write, one_section_less}
 use Rattle.crl_protocol.specs.Remote.{Copy, Remote, RemoteStep, remote_starts, starts_over, notes_due, is_newer, overtakes, recall_in, recall_over, remote_takes_recall, yield_in, yield_over, remote_takes_yield, leaves_over, lowers_over, is_closed, remote_ends_read, with_written, remote_ends_write, flushes_over, remote_flushes, gives_back, lowers, sends_nothing}
-pub use Rattle.crl_deeds.specs.TableFacts.{NoAsk, NoAsks, HomeGoes, HomeStarts, RemoteGoes, RemoteStarts}
-use Rattle.crl_deeds.proofs.Fits.Names.{NoOwn, OneOwn, CopyFits}
+use Rattle.crl_deeds.specs.NodeFacts.{NoOwn, OneOwn, CopyFits}
+use Rattle.crl_deeds.specs.TableFacts.{NoAsk, NoAsks, HomeGoes, HomeStarts, RemoteGoes, RemoteStarts}
 use Rattle.crl_deeds.proofs.Chosen.Lists.{all_append}
 
 pub no_is_one : (me : ℕ) (queue : List Asked) → NoOwn me queue → OneOwn me queue

@@ -6,11 +6,12 @@ use Rattle.crl_model.specs.declared.message.Kind.{Kind}
 use Rattle.crl_protocol.specs.Home.{Home, HomeStep}
 use Rattle.crl_protocol.specs.Remote.{Remote, grant_fits}
 use Rattle.crl_protocol.specs.Node.{Node, Waiting, ForSection, home_of}
-use Rattle.crl_deeds.specs.NodeFacts.{IsAway, Fits}
 use Rattle.crl_deeds.specs.Deeds.{Serves, ask_comes, copy_returns, copy_lowers}
-use Rattle.crl_deeds.proofs.Fits.TableSteps.{HomeGoes, asked_goes, returned_goes, released_goes}
-use Rattle.crl_deeds.proofs.Fits.Parts.{home_bytes, queue_of, asking_of}
+use Rattle.crl_deeds.specs.NodeFacts.{IsAway, Fits}
+use Rattle.crl_deeds.specs.TableFacts.{HomeGoes}
 use Rattle.crl_deeds.proofs.Fits.CopyMessages.{waits_own, waits_granted}
+use Rattle.crl_deeds.proofs.Fits.Parts.{home_bytes, queue_of, asking_of}
+use Rattle.crl_deeds.proofs.Fits.TableSteps.{asked_goes, returned_goes, released_goes}
 
 pub serves_goes : (n : Node) (h : Home) (from : ℕ) (k : Kind) (name : Name) (s : HomeStep) → Serves n h from k name s → IsAway from n.me k → length h.bytes ≡ h.size → HomeGoes n.me h s
 serves_goes n h from k name s (ask_comes f q write have free) away b = asked_goes n.me (record { node = from; write = write; have = have }) h away b

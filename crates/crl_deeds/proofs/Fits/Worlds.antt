@@ -21,11 +21,11 @@ use Rattle.crl_protocol.specs.Calls.{node_calls}
 use Rattle.crl_protocol.specs.World.{World, commits, steps_node, collects, handles_at, put_in, carries, note, step, is_enabled, is_free, IsRunFrom, world_after, IsRun, new_world, world_of}
 use Rattle.crl_deeds.specs.NodeFacts.{seen, OwnFits, Holds, Comes, Leaves, IsAway, Fits}
 use Rattle.crl_deeds.proofs.Chosen.Lists.{all_append}
-use Rattle.crl_deeds.proofs.Fits.Fields.{fits_turn}
-use Rattle.crl_deeds.proofs.Fits.Parts.{Good, good_only}
 use Rattle.crl_deeds.proofs.Fits.AllCalls.{good_call}
 use Rattle.crl_deeds.proofs.Fits.CopyMessages.{fits_as}
+use Rattle.crl_deeds.proofs.Fits.Fields.{fits_turn}
 use Rattle.crl_deeds.proofs.Fits.OtherMessages.{good_message}
+use Rattle.crl_deeds.proofs.Fits.Parts.{Good, good_only}
 
 -- what holds at a node and at all others, where a value was changed at the node
 by_test : (i j : ℕ) (P : Bool → ℕ → Type 0) (b : Bool) → (i == j) ≡ b → P true i → ((i == j) ≡ false → P false j) → P b j

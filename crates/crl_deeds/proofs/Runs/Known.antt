@@ -17,18 +17,20 @@ use Rattle.crl_protocol.specs.Node.{Node, Activity, Outcome, is_mine, lifetime_o
 use Rattle.crl_protocol.specs.Calls.{creates}
 use Rattle.crl_protocol.specs.World.{World, new_world, step, is_enabled, IsRunFrom, world_after}
 use Rattle.crl_protocol.specs.Places.{put, Took}
-use Rattle.crl_deeds.proofs.Fits.Names.{Leaves, ComesIn, Fits}
-use Rattle.crl_deeds.proofs.Cases.Turns.{Came, HeldIn, HeldOut, Held, turn_of, turn_count, held_turn, all_took}
-use Rattle.crl_deeds.proofs.Fits.Worlds.{away_load, fits_start, fits_event}
-use Rattle.crl_deeds.proofs.Counts.Mappings.{Counted, PlainKind, Plain, counted_local, counted_start}
+use Rattle.crl_deeds.specs.Counts.{Counted, PlainKind, Plain, NoneYet, Known, SectionsFit}
 use Rattle.crl_deeds.specs.Deeds.{FreeIf, Cause, Copies, Lives, Rounds, Notes, Idles, Deed, Calls, Hears}
+use Rattle.crl_deeds.specs.NodeFacts.{Leaves, ComesIn, Fits}
+use Rattle.crl_deeds.specs.Tokens.{Life, on_piece, sum, load, Tokens, Balance, Balanced, Span, came}
+use Rattle.crl_deeds.specs.Turns.{Came, HeldIn, HeldOut, Held, Local}
+use Rattle.crl_deeds.proofs.Cases.Turns.{turn_of, turn_count, held_turn, all_took}
+use Rattle.crl_deeds.proofs.Counts.Mappings.{counted_local, counted_start}
+use Rattle.crl_deeds.proofs.Counts.OpenReads.{sections_kept}
+use Rattle.crl_deeds.proofs.Fits.Worlds.{away_load, fits_start, fits_event}
+use Rattle.crl_deeds.proofs.Runs.Kept.{kept_turn}
+use Rattle.crl_deeds.proofs.Tokens.Spans.{part_same, keyed_none, span_copies, span_rounds, span_notes}
+use Rattle.crl_deeds.proofs.Tokens.Sums.{weigh_took, sum_part, token_turn}
 use Rattle.crl_deeds.specs.Deeds as deed
 use Rattle.crl_protocol.specs.Home.{new_home}
-use Rattle.crl_deeds.proofs.Cases.Turns.{Local}
-pub use Rattle.crl_deeds.specs.Counts.{NoneYet, Known}
-pub use Rattle.crl_deeds.specs.Tokens.{Life}
-use Rattle.crl_deeds.proofs.Tokens.Sums.{on_piece, weigh_took, sum, sum_part, load, Tokens, Balance, Balanced, token_turn}
-use Rattle.crl_deeds.proofs.Tokens.Spans.{Span, part_same, keyed_none, came, span_copies, span_rounds, span_notes}
 
 length_end : {A : Type 0} (xs : List A) (x : A) → length (xs ++ x ∷ []) ≡ length xs + 1
 length_end [] x = refl
@@ -111,6 +113,7 @@ known_step w e h x =
       fits = fits_event w e h x.fits;
       held = subst (λ k. Held (Counted k) (Plain k) (step e w).world) (sym (turn_count w _ t)) (held_turn (Counted w.count) (Plain w.count) w _ t (counted_local w.count) x.held);
       none = held_turn (λ i n. NoneYet n) (λ m. Unit {0}) w _ t (none_local w.count) x.none;
+      sections = kept_turn SectionsFit sections_kept w _ t x.fits x.sections;
     }
 
 pub known_start : (count capacity : ℕ) → Known (new_world count capacity)
@@ -118,6 +121,7 @@ known_start count capacity = record {
   fits = λ i. fits_start count capacity i;
   held = counted_start count capacity;
   none = λ i. record { node = λ s l. refl; inbox = tt; outbox = tt };
+  sections = λ i. record { each = λ q. tt; waiting = tt };
 }
 
 pub known_run : (w : World) (es : List Event) → IsRunFrom w es → Known w → Known (world_after w es)

@@ -17,16 +17,17 @@ use Rattle.crl_protocol.specs.Node.{Node, ForMap, ForDelete, Activity, Free, Wai
 use Rattle.crl_protocol.specs.Calls.{creates}
 use Rattle.crl_protocol.specs.Handlers.{purges_waiting}
 use Rattle.crl_protocol.specs.World.{new_world, IsRun, world_of}
-pub use Rattle.crl_deeds.specs.Tokens.{delete_token_kind, delete_token, waits_delete, deletes_for_node, deleting}
-use Rattle.crl_deeds.proofs.Fits.Names.{same_name, Fits}
-use Rattle.crl_deeds.proofs.Fits.TableRows.{lifetime_put}
-use Rattle.crl_deeds.proofs.Counts.Mappings.{PlainKind}
+use Rattle.crl_deeds.specs.Counts.{PlainKind, NoneYet}
 use Rattle.crl_deeds.specs.Deeds.{FreeIf, Cause, parting, Lives, Idles, Calls, Hears}
+use Rattle.crl_deeds.specs.NodeFacts.{Fits}
+use Rattle.crl_deeds.specs.Tokens.{delete_token_kind, delete_token, waits_delete, deletes_for_node, deleting, sum, load, waited, Balance, Span, came, Life, of_name}
+use Rattle.crl_deeds.proofs.Fits.Names.{same_name}
+use Rattle.crl_deeds.proofs.Fits.TableRows.{lifetime_put}
+use Rattle.crl_deeds.proofs.Runs.Known.{known_start, life_run}
+use Rattle.crl_deeds.proofs.Tokens.Maps.{going_own}
+use Rattle.crl_deeds.proofs.Tokens.Spans.{whole_of, no_wait, no_wait_as, even, parting_none, purges_none}
+use Rattle.crl_deeds.proofs.Tokens.Sums.{weigh_append, sum_new, none_to}
 use Rattle.crl_deeds.specs.Deeds as deed
-use Rattle.crl_deeds.proofs.Tokens.Sums.{weigh_append, sum, sum_new, load, waited, none_to, Balance}
-use Rattle.crl_deeds.proofs.Tokens.Spans.{Span, whole_of, no_wait, no_wait_as, even, came, parting_none, purges_none}
-use Rattle.crl_deeds.proofs.Runs.Known.{NoneYet, Life, known_start, life_run}
-use Rattle.crl_deeds.proofs.Tokens.Maps.{of_name, going_own}
 
 mail_none : (i : ℕ) (r : Name) (from to : ℕ) (name : Name) (m : Mail) → delete_token_kind i r from to (kind_about name m) ≡ 0
 mail_none i r from to name (Ask write have) = refl

@@ -14,14 +14,15 @@ use Rattle.crl_protocol.specs.Mail.{Mail, Ask, kind_about}
 use Rattle.crl_protocol.specs.Node.{Node, ForMap, ForDelete, Activity, Free, Waiting, Outcome, message_to}
 use Rattle.crl_protocol.specs.Handlers.{purges_waiting}
 use Rattle.crl_protocol.specs.World.{new_world, IsRun, world_of, pieces_in_boxes}
-pub use Rattle.crl_deeds.specs.Tokens.{of_name, map_token_kind, map_token, waits_map}
-use Rattle.crl_deeds.proofs.Fits.Names.{same_name, GoingFits, Fits}
-use Rattle.crl_deeds.proofs.Counts.Mappings.{PlainKind}
+use Rattle.crl_deeds.specs.Counts.{PlainKind}
 use Rattle.crl_deeds.specs.Deeds.{FreeIf, Cause, parting, Lives, Idles, Calls, Hears}
+use Rattle.crl_deeds.specs.NodeFacts.{GoingFits, Fits}
+use Rattle.crl_deeds.specs.Tokens.{of_name, map_token_kind, map_token, waits_map, weighs, load, waited, Balance, Span, came, Life}
+use Rattle.crl_deeds.proofs.Fits.Names.{same_name}
+use Rattle.crl_deeds.proofs.Runs.Known.{known_start, life_run}
+use Rattle.crl_deeds.proofs.Tokens.Spans.{whole_of, no_wait, no_wait_as, even, shut, parting_none, purges_none}
+use Rattle.crl_deeds.proofs.Tokens.Sums.{weigh_append, sum_new, none_to, boxed_sum}
 use Rattle.crl_deeds.specs.Deeds as deed
-use Rattle.crl_deeds.proofs.Tokens.Sums.{weighs, weigh_append, sum_new, load, waited, none_to, Balance, boxed_sum}
-use Rattle.crl_deeds.proofs.Tokens.Spans.{Span, whole_of, no_wait, no_wait_as, even, shut, came, parting_none, purges_none}
-use Rattle.crl_deeds.proofs.Runs.Known.{Life, known_start, life_run}
 
 abbrev none : Node → ℕ
 none n = 0

@@ -18,13 +18,13 @@ use Rattle.crl_protocol.specs.Remote.{Remote, RemoteStep, remote_flushes}
 use Rattle.crl_protocol.specs.Node.{Node, Answer, ForSection, ForRound, Activity, Free, Waiting, Ready, Outcome, letter_messages, mail_messages, message_to}
 use Rattle.crl_protocol.specs.Calls.{results_from}
 use Rattle.crl_model.specs.FoldOf.{fold_of}
-use Rattle.crl_deeds.proofs.Fits.Names.{IsAway, Leaves, Fits}
-use Rattle.crl_deeds.proofs.Fits.Waits.{own_waits, grant_waits}
-use Rattle.crl_deeds.proofs.Cases.Turns.{Came}
 use Rattle.crl_deeds.specs.Deeds.{FreeIf, Cause, parting, Copies, Rounds, Notes, Serves, CallsBack}
+use Rattle.crl_deeds.specs.NodeFacts.{IsAway, Leaves, Fits}
+use Rattle.crl_deeds.specs.Tokens.{NoMail, Span, came, weigh, weighs, waited, Balance}
+use Rattle.crl_deeds.specs.Turns.{Came}
+use Rattle.crl_deeds.proofs.Fits.Waits.{own_waits, grant_waits}
+use Rattle.crl_deeds.proofs.Tokens.Sums.{none_to}
 use Rattle.crl_deeds.specs.Deeds as deed
-pub use Rattle.crl_deeds.specs.Tokens.{NoMail, Span, came}
-use Rattle.crl_deeds.proofs.Tokens.Sums.{weigh, weighs, waited, none_to, Balance}
 
 -- Only messages without bytes have a weight, and each of them is one piece.
 pub parts_none : (f : Message → ℕ) (m : Message) → ((part : List ℕ) → f (record m { kind = with_load part m.kind }) ≡ 0) → (n k : ℕ) (cells : List Cell) → weighs f (left_from (piece_of m n) k cells) ≡ 0

@@ -11,8 +11,10 @@ use Rattle.crl_protocol.specs.Places.{Took, here, there}
 use Rattle.crl_protocol.specs.Node.{Node, new_node, Recorded, Note, Answer, Done, Activity, Free, Ready, Outcome, only}
 use Rattle.crl_protocol.specs.World.{World, WorldStep, new_world, boxes_from, pieces_in_boxes, note, put_in, commits, steps_node, carries}
 use Rattle.crl_deeds.specs.Deeds.{Calls, Hears, Deed}
-pub use Rattle.crl_deeds.specs.Tokens.{sum_from, sum, weigh, on_piece, weighs, Whole, load, waited, Tokens, Balance, Balanced}
-use Rattle.crl_deeds.proofs.Cases.Turns.{Frame, Turn, calls, hears, gathers, answers, carriage, rests, deed_frame, each_at}
+use Rattle.crl_deeds.specs.Tokens.{sum_from, sum, weigh, on_piece, weighs, Whole, load, waited, Tokens, Balance, Balanced}
+use Rattle.crl_deeds.specs.Turns.{Frame, Turn}
+use Rattle.crl_deeds.specs.Turns.{calls, hears, gathers, answers, carriage, rests}
+use Rattle.crl_deeds.proofs.Cases.Turns.{deed_frame, each_at}
 
 at_other : (nodes : ℕ → Node) (n : Node) (i j : ℕ) → (j ≡ i → ⊥) → at_node nodes j n i ≡ nodes i
 at_other nodes n i j h = cond-false (j == i) _ _ (ne_eqb j i h)

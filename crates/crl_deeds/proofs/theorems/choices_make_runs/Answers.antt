@@ -1,9 +1,9 @@
 use Rattle.std.proofs.Common.{◌+◌, ◌≤◌, length, arith}
 use Rattle.crl_protocol.specs.Chosen.{running, turns_from}
-use Rattle.crl_deeds.proofs.Chosen.Bound.{turns_bounded}
-use Rattle.crl_deeds.proofs.Chosen.Followed.{follow_turns, follow_world, follow_account}
-use Rattle.crl_deeds.proofs.Chosen.Drafts.{sound_start}
 use Rattle.crl_deeds.proofs.Chosen.Allowed.{follow_runs}
+use Rattle.crl_deeds.proofs.Chosen.Bound.{turns_bounded}
+use Rattle.crl_deeds.proofs.Chosen.Drafts.{sound_start}
+use Rattle.crl_deeds.proofs.Chosen.Followed.{follow_turns, follow_world, follow_account}
 use Rattle.crl_deeds.proofs.theorems.choices_make_runs.Goals as goal
 
 pub returns : goal.returns
