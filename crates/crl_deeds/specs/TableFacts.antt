@@ -1,6 +1,6 @@
 -- What each step of a region's table at its home, and of a node's side elsewhere, leaves as it was: sizes stay, no asks
 -- are posted by a home, and a section opens at the home only with an ask of its own.
-use Rattle.std.specs.Prelude.{◌≡◌, ℕ, Bool, true, false, List, length}
+use Rattle.std.specs.Prelude.{◌≡◌, ℕ, true, false, List, length}
 use Rattle.std.specs.declared.option.Option.TheVariants.{Some}
 use Rattle.std.specs.List.{AllByRecursion}
 use Rattle.crl_protocol.specs.Mail.{Mail, Ask, Letter}

@@ -1,6 +1,6 @@
 -- The turns of a world: what an event does, by the deed of its node. And what holds of each node by itself and of each
 -- message, said of a world.
-use Rattle.std.specs.Prelude.{◌≡◌, ℕ, ◌<◌, true, List, [], ◌∷◌}
+use Rattle.std.specs.Prelude.{◌≡◌, ℕ, ◌<◌, true, List, []}
 use Rattle.std.specs.declared.option.Option.TheVariants.{Some}
 use Rattle.std.specs.List.{AllByRecursion}
 use Rattle.crl_model.specs.declared.call.Call.{Call}

@@ -7,7 +7,6 @@ pub use Rattle.crl_model.specs.Reports.{Reported}
 use Rattle.crl_model.specs.declared.name.Name.{Name}
 use Rattle.crl_model.specs.declared.blocked.Blocked.{Blocked}
 use Rattle.crl_model.specs.declared.blocked.Blocked.TheVariants as blocked
-use Rattle.crl_model.specs.declared.entry.Entry.{Entry}
 use Rattle.crl_model.specs.Stages.{is_there}
 use Rattle.crl_protocol.specs.Home.{Home, is_empty}
 use Rattle.crl_protocol.specs.Remote.{Copy, Remote, is_closed}

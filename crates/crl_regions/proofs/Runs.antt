@@ -2,7 +2,6 @@
 use Rattle.std.proofs.Common.{◌≡◌, ℕ, zero, suc, ◌+◌, ◌-◌, ◌<◌, ◌==◌, Bool, true, false, None, Some, Option, List, [], ◌∷◌, ◌++◌, if◌then◌else◌, refl, ap, sym, ◌∙◌, subst}
 use Rattle.std.specs.List.{AllByRecursion}
 use Rattle.std.proofs.lemmas.Bool.{and_parts, ltb-true}
-use Rattle.std.proofs.lemmas.List.Elements.{All-from_recursion}
 use Rattle.crl_model.specs.declared.name.Name.{Name}
 use Rattle.crl_model.specs.declared.event.Event.{Event}
 use Rattle.crl_model.specs.declared.event.Event.TheVariants as event
@@ -15,8 +14,6 @@ use Rattle.crl_protocol.specs.Home.{Home}
 use Rattle.crl_protocol.specs.Remote.{Remote}
 use Rattle.crl_protocol.specs.Sections.{section_at}
 use Rattle.crl_protocol.specs.Node.{new_node, home_of}
-use Rattle.crl_protocol.specs.Chosen.{Running, goes_on}
-use Rattle.crl_deeds.specs.Laws.{AreStatements, node_of}
 use Rattle.crl_protocol.specs.World.{World, new_world, pieces_in_boxes, boxes_from, handles_at, carries, step, is_enabled, IsRunFrom, world_after}
 use Rattle.crl_deeds.specs.NodeFacts.{Fits}
 use Rattle.crl_deeds.proofs.Laws.{all_append, fits_start, fits_event}

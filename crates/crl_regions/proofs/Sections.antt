@@ -15,7 +15,6 @@ use Rattle.crl_protocol.specs.Sectioning.{copy_bytes, starts_at_home, starts_els
 use Rattle.crl_protocol.specs.Sections.{section_at}
 use Rattle.crl_protocol.specs.Verdict.{of_start, of_end, of_open}
 use Rattle.crl_deeds.specs.NodeFacts.{NoOwn, QueueFits, AskingFits, IsCached, Fits, free}
-use Rattle.crl_deeds.specs.TableFacts.{HomeGoes, HomeStarts}
 use Rattle.crl_deeds.proofs.Laws.{by_name, name_self, home_bytes, queue_of, asking_of, not_mine, read_goes, write_goes, starts_fit}
 use Rattle.crl_deeds.proofs.Laws as serving
 use Rattle.crl_coherence.specs.Region as region

@@ -22,7 +22,6 @@ use Rattle.crl_model.specs.declared.message.Granted.{Granted}
 use Rattle.crl_model.specs.declared.message.Kind.{Kind}
 use Rattle.crl_model.specs.declared.message.Kind.TheVariants as kind
 use Rattle.crl_model.specs.Calls.{kind_of}
-use Rattle.crl_model.specs.FoldOf.{fold_of}
 use Rattle.crl_pieces.specs.Pieces.{is_missing, is_complete, joined}
 use Rattle.crl_protocol.specs.Parcels.{Piece, Key, key_of, with_load, slots_or, at_key, fits_size}
 use Rattle.crl_protocol.specs.Receiving.{size_for, slots_with, gathers_piece, receives_part, receives_as}
@@ -37,7 +36,7 @@ use Rattle.crl_protocol.specs.Node.{Node, Activity, Free, Ready, Waiting, ForSec
 use Rattle.crl_protocol.specs.Verdict.{verdict, refuses_call}
 use Rattle.crl_protocol.specs.Calls.{node_calls, call_or_refuse, result_of}
 use Rattle.crl_protocol.specs.Handlers.{node_handles, is_queued_in}
-use Rattle.crl_protocol.specs.World.{World, WorldStep, handles_at, carries, collects, step}
+use Rattle.crl_protocol.specs.World.{World, handles_at, carries, collects, step}
 use Rattle.crl_deeds.specs.Deeds.{Cause, StartsCall, EndsCall, Serves, CallsBack, Copies, Lives, Rounds, Notes, Idles, Deed, Unfit, Calls, Hears}
 use Rattle.crl_deeds.specs.Entries.{entries_of_start, opens_at_once, entries_of_serve, entries_of_ask, entries_of_return, entries_of_release, entries_of_grant, refused_at, entries_of_map, entries_of_delete, entries_of_purged, entries_of_mapping, entries_of_cached, entries_of_round, entries_of_part, entries_of_result, entries_of_call, entries_of_message, entries_of, made_whole_of_size, made_whole_as, entries_of_heard, entries_of_taken, entries_at}
 use Rattle.crl_deeds.proofs.Cases.Called.{call_deed}

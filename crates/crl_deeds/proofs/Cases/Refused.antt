@@ -1,5 +1,5 @@
 -- What a node finds of a call that it takes, and of one that it refuses.
-use Rattle.std.proofs.Common.{◌≡◌, ℕ, ◌+◌, ◌≤◌, ◌==◌, nat_lt, Bool, true, false, not, ◌||◌, None, Some, Option, List, length, if◌then◌else◌, refl, sym, ◌∙◌, subst, arith}
+use Rattle.std.proofs.Common.{◌≡◌, ℕ, ◌+◌, ◌≤◌, ◌==◌, nat_lt, Bool, true, false, not, ◌||◌, None, Some, Option, List, length, refl, sym, ◌∙◌, subst, arith}
 use Rattle.std.proofs.lemmas.Bool.{cond-true, cond-false, eqb-false, or_parts, ltb-false}
 use Rattle.std.proofs.Math.Logic.{◌⊎◌, inl, inr}
 use Rattle.crl_model.specs.declared.TheConstants.{REGION_LIMIT, BROADCAST_LIMIT}
@@ -21,10 +21,10 @@ use Rattle.crl_model.specs.declared.message.DeleteTold.TheVariants as delete_tol
 use Rattle.crl_protocol.specs.Lifetimes.{Mapping, cached_size}
 use Rattle.crl_protocol.specs.Remote.{is_closed}
 use Rattle.crl_protocol.specs.Sections.{section_at, count_of, is_writing}
-use Rattle.crl_protocol.specs.Node.{Node, COUNT_LIMIT, serials_used, is_mine, is_real, lifetime_of, map_count}
-use Rattle.crl_protocol.specs.Verdict.{else_if, refuse_if, by_stage, of_more, of_cached, of_mapped, of_map, of_delete, of_create, of_open, of_start, of_end, of_change, mapped_size, of_part, verdict}
+use Rattle.crl_protocol.specs.Node.{Node, COUNT_LIMIT, serials_used, is_mine, lifetime_of, map_count}
+use Rattle.crl_protocol.specs.Verdict.{else_if, refuse_if, by_stage, of_more, of_cached, of_mapped, of_map, of_delete, of_create, of_start, of_end, of_change, mapped_size, of_part, verdict}
 use Rattle.crl_deeds.specs.Deeds.{Unfit, never, going, gone, CanStart, CanEnd}
-use Rattle.crl_deeds.specs.Refusals.{NeedsMap, unmap, start_read, end_read, start_write, end_write, put, add, flush, NeedsWriting, ends, puts, adds, NeedsClosed, unmaps, flushes, Changes, by_put, by_add, Refuses, bad_size, names_spent, own_map, own_delete, doomed_map, unreal_map, unreal_delete, too_many_own, too_many_maps, not_mapped, section_open_read, section_open_write, too_many_reads, not_reading, not_writing, in_section, out_of_range, wrong_size}
+use Rattle.crl_deeds.specs.Refusals.{NeedsMap, unmap, start_read, end_read, start_write, end_write, put, add, flush, NeedsWriting, ends, puts, adds, unmaps, flushes, Changes, by_put, by_add, Refuses, bad_size, names_spent, own_map, own_delete, doomed_map, unreal_map, unreal_delete, too_many_own, too_many_maps, not_mapped, section_open_read, section_open_write, too_many_reads, not_reading, not_writing, in_section, out_of_range, wrong_size}
 use Rattle.crl_deeds.proofs.Cases.Called.{not_refused, not_not}
 use Rattle.crl_deeds.proofs.Fits.LifetimeCalls.{none_of}
 

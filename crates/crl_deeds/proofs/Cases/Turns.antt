@@ -12,14 +12,14 @@ use Rattle.crl_model.specs.declared.message.Kind.TheVariants as kind
 use Rattle.crl_model.specs.declared.message.Granted.TheVariants.{Shared, Exclusive, Upgrade}
 use Rattle.crl_model.specs.Names.{at_node}
 use Rattle.crl_pieces.specs.Pieces.{count, cut, Cell, fresh, left_from, is_missing, is_complete, joined}
-use Rattle.crl_protocol.specs.Parcels.{Piece, load_of, with_load, piece_of, pieces_of, pieces_in, Key, key_of, PartsGathered, slots_or, at_key, fits_size}
+use Rattle.crl_protocol.specs.Parcels.{Piece, load_of, with_load, piece_of, pieces_of, pieces_in, Key, key_of, slots_or, at_key, fits_size}
 use Rattle.crl_protocol.specs.Receiving.{size_for, slots_with, gathers_piece, receives_part, receives_as, receives}
 use Rattle.crl_protocol.specs.Places.{Took, here, there, Taken, behind, take_out}
-use Rattle.crl_protocol.specs.Node.{Node, Recorded, Note, Answer, Done, Activity, Free, Waiting, Ready, Outcome, only}
+use Rattle.crl_protocol.specs.Node.{Node, Activity, Free, Waiting, Ready, Outcome}
 use Rattle.crl_protocol.specs.Calls.{node_calls}
 use Rattle.crl_protocol.specs.Handlers.{node_handles}
 use Rattle.crl_protocol.specs.Verdict.{verdict}
-use Rattle.crl_protocol.specs.World.{World, WorldStep, is_call, collects, carries, steps_node, handles_at, stays, step, is_free, is_ready, is_enabled, IsRunFrom, world_after, noted_call}
+use Rattle.crl_protocol.specs.World.{World, WorldStep, collects, carries, steps_node, handles_at, step, is_free, is_ready, is_enabled, IsRunFrom, world_after, noted_call}
 use Rattle.crl_deeds.specs.Deeds.{Cause, Copies, Lives, Rounds, Notes, Deed, Calls, Hears}
 use Rattle.crl_deeds.specs.Turns.{Turn, calls, hears, gathers, answers, carriage, rests, Frame, Came, Parts, Local, HeldIn, HeldOut, HeldAt, Held}
 use Rattle.crl_deeds.proofs.Cases.Called.{call_deed}

@@ -16,7 +16,7 @@ use Rattle.crl_model.specs.declared.statement.Statement.TheVariants as statement
 use Rattle.crl_model.specs.Names.{at_name}
 use Rattle.crl_model.specs.Patches.{put_at}
 use Rattle.crl_protocol.specs.Sections.{OpenSection, section_of, section_at, section_bytes, bytes_at, is_writing}
-use Rattle.crl_protocol.specs.Node.{Node, Free, is_mine}
+use Rattle.crl_protocol.specs.Node.{Node, Free}
 use Rattle.crl_protocol.specs.Verdict.{mapped_size, verdict}
 use Rattle.crl_protocol.specs.World.{is_enabled, is_free, is_call, IsRunFrom}
 use Rattle.crl_protocol.specs.Chosen.{Actor, Running, draft_of, call_with, call_of, eight_at, with_sum, after_change, is_change, is_allowed, goes_on, with_actor}

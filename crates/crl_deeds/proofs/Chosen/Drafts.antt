@@ -1,5 +1,5 @@
 -- The draft of each write section has the section's length, in runs that follow a script.
-use Rattle.std.proofs.Common.{◌≡◌, ℕ, zero, suc, ◌+◌, ◌&&◌, ◌==◌, Bool, true, false, None, Some, Option, List, [], ◌∷◌, length, if◌then◌else◌, refl, ap, sym, ◌∙◌, subst}
+use Rattle.std.proofs.Common.{◌≡◌, ℕ, zero, suc, ◌+◌, ◌&&◌, ◌==◌, Bool, true, false, None, Some, Option, List, [], ◌∷◌, length, if◌then◌else◌, refl, ap, sym, subst}
 use Rattle.std.specs.List.{All, AllByRecursion}
 use Rattle.std.proofs.lemmas.Bool.{cond_both, and_parts}
 use Rattle.std.proofs.lemmas.List.Elements.{recursion_from_All}
@@ -14,7 +14,6 @@ use Rattle.crl_model.specs.declared.event.Event.{Event}
 use Rattle.crl_model.specs.declared.event.Event.TheVariants as event
 use Rattle.crl_model.specs.declared.message.DeleteTold.{DeleteTold}
 use Rattle.crl_model.specs.declared.message.DeleteTold.TheVariants as delete_told
-use Rattle.crl_model.specs.declared.message.Kind.{Kind}
 use Rattle.crl_model.specs.declared.statement.Statement.{Statement}
 use Rattle.crl_model.specs.Names.{at_node, at_name}
 use Rattle.crl_pieces.specs.Pieces.{is_missing, is_complete, joined}
@@ -23,13 +22,13 @@ use Rattle.crl_protocol.specs.Receiving.{size_for, slots_with, gathers_piece, re
 use Rattle.crl_protocol.specs.Places.{Taken, take_out}
 use Rattle.crl_protocol.specs.Home.{one_section_more, one_section_less}
 use Rattle.crl_protocol.specs.Sections.{OpenSection, Sections, begins_to_read, section_begins, section_ends, ends_over, is_writing}
-use Rattle.crl_protocol.specs.Node.{Node, Answer, Made, Mapped, Reading, Writing, Done, Came, Refused, Wait, Activity, Free, Waiting, Ready, ForSection, ForMap, ForDelete, ForRound, Outcome}
+use Rattle.crl_protocol.specs.Node.{Node, Answer, Made, Mapped, Reading, Writing, Done, Came, Refused, Wait, Activity, Free, Waiting, Ready, ForMap, Outcome}
 use Rattle.crl_protocol.specs.Sectioning.{closes}
 use Rattle.crl_protocol.specs.Remote.{asks_to_write}
 use Rattle.crl_model.specs.FoldOf.{fold_of}
 use Rattle.crl_protocol.specs.Calls.{answer_of, node_calls}
-use Rattle.crl_protocol.specs.Handlers.{delete_answer, purges_waiting, node_handles}
-use Rattle.crl_protocol.specs.World.{World, commits, steps_node, collects, handles_at, put_in, carries, note, step, is_enabled, is_free}
+use Rattle.crl_protocol.specs.Handlers.{delete_answer, purges_waiting}
+use Rattle.crl_protocol.specs.World.{commits, steps_node, collects, handles_at, put_in, carries, note, step, is_enabled}
 use Rattle.crl_protocol.specs.Chosen.{Actor, Running, block_of, running, takes_guard, going_on, goes_on}
 use Rattle.crl_deeds.specs.Deeds.{FreeIf, Cause, opened_at, Copies, Lives, Rounds, Notes, Deed, Serves}
 use Rattle.crl_deeds.specs.Laws.{IsStatement, AreStatements, node_of}
@@ -237,7 +236,6 @@ left_given : (r : Running) (i : ℕ) (answer : Answer) → Sound r → (j : ℕ)
 left_given r i answer s =
     by_node i (λ b j. AllByRecursion IsStatement (if b then takes_guard answer (r.actors i) else r.actors j).left)
     (subst (λ x. AllByRecursion IsStatement x) (sym (given_left answer (r.actors i))) (s.left i)) s.left
-
 
 drafts_stepped : (r : Running) (i : ℕ) (e f : Event) (o : Outcome) → After o (r.actors i).drafts → ((j : ℕ) → DraftsFit (r.world.nodes j) (r.actors j).drafts)
     → (j : ℕ) → DraftsFit ((steps_node i e o r.world).world.nodes j) ((going_on i f (steps_node i e o r.world) r).actors j).drafts

@@ -1,5 +1,5 @@
 -- Read sections that are open are counted, and fit.
-use Rattle.std.proofs.Common.{◌≡◌, ℕ, ◌+◌, ◌-◌, ◌^◌, ◌≤◌, ◌<◌, ◌==◌, Bool, true, false, None, Some, Option, List, if◌then◌else◌, refl, sym, subst, arith}
+use Rattle.std.proofs.Common.{◌≡◌, ℕ, ◌+◌, ◌-◌, ◌^◌, ◌<◌, ◌==◌, Bool, true, false, None, Some, Option, List, if◌then◌else◌, refl, sym, subst, arith}
 use Rattle.std.proofs.lemmas.Bool.{cond_both, eqb-false}
 use Rattle.crl_model.specs.declared.name.Name.{Name}
 use Rattle.crl_model.specs.declared.directory.Section.{Section}
@@ -10,7 +10,7 @@ use Rattle.crl_model.specs.declared.event.Event.{Event}
 use Rattle.crl_protocol.specs.Home.{one_section_more, one_section_less}
 use Rattle.crl_protocol.specs.Remote.{asks_to_write}
 use Rattle.crl_protocol.specs.Sections.{OpenSection, Sections, section_of, section_at, count_of, is_writing, begins_to_read, section_begins, section_ends, ends_over}
-use Rattle.crl_protocol.specs.Node.{Node, Activity, Free, Waiting, ForSection, ForMap, Outcome}
+use Rattle.crl_protocol.specs.Node.{Node, Activity, Free, Waiting, ForMap, Outcome}
 use Rattle.crl_protocol.specs.Sectioning.{closes}
 use Rattle.crl_protocol.specs.Handlers.{purges_waiting}
 use Rattle.crl_protocol.specs.World.{new_world, world_of, IsRun}

@@ -1,7 +1,6 @@
 -- What holds of a node that is free holds after each call that it may make.
-use Rattle.std.proofs.Common.{◌≡◌, ℕ, Bool, true, false, None, Some, Option, List, if◌then◌else◌, refl, sym, subst}
+use Rattle.std.proofs.Common.{◌≡◌, ℕ, Bool, true, false, None, Some, Option, if◌then◌else◌, refl, sym, subst}
 use Rattle.std.proofs.lemmas.Bool.{eqb-true, not-false}
-use Rattle.crl_model.specs.declared.name.Name.{Name}
 use Rattle.crl_model.specs.declared.call.Call.{Call}
 use Rattle.crl_model.specs.declared.call.Call.TheVariants as call
 use Rattle.crl_model.specs.declared.call.Refusal.{Refusal}

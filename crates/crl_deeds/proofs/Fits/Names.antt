@@ -1,6 +1,5 @@
 -- Names, and what holds of a node where its activity turns from one to another.
-use Rattle.std.proofs.Common.{◌≡◌, ℕ, ◌==◌, Bool, true, false, None, Some, Option, refl, subst}
-use Rattle.std.proofs.lemmas.Bool.{and_parts, and_from, eqb-true, eq-eqb}
+use Rattle.std.proofs.Common.{◌≡◌, ℕ, Bool, true, false, None, Some, Option, refl, subst}
 use Rattle.std.proofs.Math.Logic.{◌⊎◌, inl, inr}
 use Rattle.crl_model.specs.declared.name.Name.{Name}
 use Rattle.crl_model.specs.declared.stage.Stage.{Stage}
@@ -10,7 +9,7 @@ pub use Rattle.crl_model.proofs.Laws.{same_name, name_eq_self as name_self}
 use Rattle.crl_protocol.specs.Home.{Home}
 use Rattle.crl_protocol.specs.Remote.{Remote}
 use Rattle.crl_protocol.specs.Node.{Activity, Waiting, ForSection, ForDelete}
-use Rattle.crl_deeds.specs.NodeFacts.{Seen, seen, RecordFits, LiveFits, HomeFits, MappedHere, CopyFits, RemoteFits, MappedThere, OwnHere, OwnThere, OwnFits, NoOwn, OneOwn, QueueFits, AskingFits, GoingFits, IsMapped, WaitFits, Holds, IsCached, SizeIs, FreshFits, IsAway, Leaves, Comes, ComesIn, Fits}
+use Rattle.crl_deeds.specs.NodeFacts.{Seen, QueueFits, AskingFits, GoingFits, WaitFits, Holds}
 
 pub by_test : (name q : Name) (P : Bool → Name → Type 0) (b : Bool) → name_eq name q ≡ b → P true name → (name_eq name q ≡ false → P false q) → P b q
 by_test name q P true e here there = subst (λ x. P true x) (same_name name q e) here

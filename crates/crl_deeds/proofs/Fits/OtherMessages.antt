@@ -12,7 +12,6 @@ use Rattle.crl_model.specs.declared.call.CallKind.{CallKind}
 use Rattle.crl_model.specs.declared.message.Told.{Told}
 use Rattle.crl_model.specs.declared.message.Told.TheVariants as told
 use Rattle.crl_model.specs.declared.message.DeleteTold.{DeleteTold}
-use Rattle.crl_model.specs.declared.message.DeleteTold.TheVariants as delete_told
 use Rattle.crl_model.specs.declared.message.Kind.{Kind}
 use Rattle.crl_model.specs.declared.message.Kind.TheVariants as kind
 use Rattle.crl_model.specs.Names.{name_eq, at_node}

@@ -4,7 +4,6 @@ use Rattle.std.proofs.Math.Logic.{◌⊎◌, inl, inr}
 use Rattle.crl_model.specs.declared.name.Name.{Name}
 use Rattle.crl_model.specs.declared.collective.Part.{Part}
 use Rattle.crl_model.specs.declared.collective.Fold.{Fold}
-use Rattle.crl_model.specs.declared.collective.Fold.TheVariants as fold
 use Rattle.crl_model.specs.declared.call.CallKind.{CallKind}
 use Rattle.crl_model.specs.declared.message.Kind.TheVariants as kind
 use Rattle.crl_model.specs.Calls.{kind_of}
@@ -15,7 +14,7 @@ use Rattle.crl_protocol.specs.Gathering.{gathers}
 use Rattle.crl_protocol.specs.Sections.{OpenSection, section_of, section_at, section_bytes, bytes_at, is_writing}
 use Rattle.crl_protocol.specs.Node.{Node, Activity, ForSection, ForRound, Free, Waiting, is_mine, home_of, with_home, with_remote, message_to, letter_messages, mail_messages, section_opens}
 use Rattle.crl_protocol.specs.Sectioning.{starts_or_waits, copy_bytes, starts_over_remote, starts_over_home, starts, after_home_end, closes, ends_over_remote, ends_over_home, ends_read, ends_write, flushes_remote, flushes}
-use Rattle.crl_protocol.specs.Calls.{answer_of, after_own_part, comes}
+use Rattle.crl_protocol.specs.Calls.{after_own_part, comes}
 use Rattle.crl_deeds.specs.NodeFacts.{RecordFits, NoOwn, QueueFits, AskingFits, CopyFits, WaitFits, IsMapped, Fits, free}
 use Rattle.crl_deeds.specs.TableFacts.{HomeGoes, HomeStarts, RemoteGoes, RemoteStarts}
 use Rattle.crl_deeds.proofs.Fits.Fields.{fits_turn, fits_home, fits_remote}

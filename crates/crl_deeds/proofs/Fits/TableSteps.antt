@@ -1,14 +1,12 @@
 -- What the events of a region's home and of another node's side leave: sizes stay, and no asks are posted.
 use Rattle.std.proofs.Common.{◌≡◌, ℕ, ◌+◌, ◌==◌, nat_lt, Bool, true, false, not, ◌&&◌, None, Some, Option, List, [], ◌∷◌, ◌++◌, length, if◌then◌else◌, refl, ap, ◌∙◌}
 use Rattle.std.specs.Bool.{MatchBool}
-use Rattle.std.specs.List.{AllByRecursion}
 use Rattle.std.proofs.lemmas.Bool.{and_parts, eqb-true, cond_both, MatchBool-at_true, MatchBool-at_false}
 use Rattle.crl_model.specs.declared.directory.Section.{Section}
 use Rattle.crl_model.specs.declared.directory.Section.TheVariants as section
 use Rattle.crl_model.specs.declared.directory.Asked.{Asked}
 use Rattle.crl_model.specs.declared.directory.Listing.{Listing}
 use Rattle.crl_protocol.specs.Places.{at}
-use Rattle.crl_protocol.specs.Mail.{Mail, Ask, Letter}
 use Rattle.crl_protocol.specs.Home.{Home, HomeStep, is_servable, is_to_mark, recall_or_yield, recalls_and_yields, open_own, grant_next, grant_for, opens_own_section, posts_first, serve, with_marks, home_takes_ask, bytes_after, return_fits, bytes_fit, home_takes_return, is_to_lower, home_takes_release, release_fits, own_ask, is_empty, is_reading, home_starts, home_ends_read, home_ends_write, one_section_less}
 use Rattle.crl_protocol.specs.Remote.{Copy, Remote, RemoteStep, remote_starts, starts_over, notes_due, is_newer, overtakes, recall_in, recall_over, remote_takes_recall, yield_in, yield_over, remote_takes_yield, leaves_over, lowers_over, is_closed, remote_ends_read, with_written, remote_ends_write, flushes_over, remote_flushes, gives_back, lowers, sends_nothing}
 use Rattle.crl_deeds.specs.NodeFacts.{NoOwn, OneOwn, CopyFits}

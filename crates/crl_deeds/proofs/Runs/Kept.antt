@@ -1,12 +1,12 @@
 -- What deeds keep of nodes that fit holds after each event, and in every run.
-use Rattle.std.proofs.Common.{◌≡◌, ℕ, true, List, [], ◌∷◌, subst}
+use Rattle.std.proofs.Common.{ℕ, List, [], ◌∷◌, subst}
 use Rattle.crl_model.specs.declared.event.Event.{Event}
 use Rattle.crl_protocol.specs.Parcels.{Piece, PartsGathered}
 use Rattle.crl_protocol.specs.Places.{Took}
 use Rattle.crl_protocol.specs.Node.{Node}
 use Rattle.crl_model.specs.Names.{at_node}
-use Rattle.crl_protocol.specs.World.{World, WorldStep, step, note, put_in, IsRunFrom, world_after}
-use Rattle.crl_deeds.specs.Deeds.{Calls, Hears}
+use Rattle.crl_protocol.specs.World.{World, WorldStep, step, IsRunFrom, world_after}
+use Rattle.crl_deeds.specs.Deeds.{Calls}
 use Rattle.crl_deeds.specs.NodeFacts.{ComesIn, Fits}
 use Rattle.crl_deeds.specs.Turns.{Turn, calls, hears, gathers, answers, carriage, rests, Kept}
 use Rattle.crl_deeds.proofs.Cases.Turns.{turn_of, all_took, each_at}

@@ -1,7 +1,6 @@
 -- What is known of every world of a run, and tokens of waits that have nothing to do with copies and rounds.
 use Rattle.std.proofs.Common.{◌≡◌, ℕ, zero, suc, ◌+◌, ◌-◌, ◌≤◌, ◌<◌, ◌==◌, true, None, Some, Option, List, [], ◌∷◌, ◌++◌, length, refl, ap, sym, ◌∙◌, subst, arith}
 use Rattle.std.proofs.lemmas.Bool.{cond_both, cond-true, eqb-true}
-use Rattle.std.proofs.Math.Logic.{◌⊎◌}
 use Rattle.std.specs.List.{AllByRecursion}
 use Rattle.crl_model.specs.declared.name.Name.{Name}
 use Rattle.crl_model.specs.declared.stage.Stage.{Stage}
@@ -10,17 +9,16 @@ use Rattle.crl_model.specs.declared.call.Call.{Call}
 use Rattle.crl_model.specs.declared.entry.What.{What}
 use Rattle.crl_model.specs.declared.event.Event.{Event}
 use Rattle.crl_model.specs.declared.message.Message.{Message}
-use Rattle.crl_model.specs.declared.message.Kind.{Kind}
-use Rattle.crl_protocol.specs.Parcels.{Piece, with_load, Key, PartsGathered}
+use Rattle.crl_protocol.specs.Parcels.{Piece, with_load, PartsGathered}
 use Rattle.crl_protocol.specs.Lifetimes.{Lifetime}
 use Rattle.crl_protocol.specs.Node.{Node, Activity, Outcome, is_mine, lifetime_of, with_lifetime, serials_used}
 use Rattle.crl_protocol.specs.Calls.{creates}
 use Rattle.crl_protocol.specs.World.{World, new_world, step, is_enabled, IsRunFrom, world_after}
 use Rattle.crl_protocol.specs.Places.{put, Took}
-use Rattle.crl_deeds.specs.Counts.{Counted, PlainKind, Plain, NoneYet, Known, SectionsFit}
+use Rattle.crl_deeds.specs.Counts.{Counted, Plain, NoneYet, Known, SectionsFit}
 use Rattle.crl_deeds.specs.Deeds.{FreeIf, Cause, Copies, Lives, Rounds, Notes, Idles, Deed, Calls, Hears}
 use Rattle.crl_deeds.specs.NodeFacts.{Leaves, ComesIn, Fits}
-use Rattle.crl_deeds.specs.Tokens.{Life, on_piece, sum, load, Tokens, Balance, Balanced, Span, came}
+use Rattle.crl_deeds.specs.Tokens.{Life, on_piece, sum, load, Balance, Balanced, came}
 use Rattle.crl_deeds.specs.Turns.{Came, HeldIn, HeldOut, Held, Local}
 use Rattle.crl_deeds.proofs.Cases.Turns.{turn_of, turn_count, held_turn, all_took}
 use Rattle.crl_deeds.proofs.Counts.Mappings.{counted_local, counted_start}

@@ -7,7 +7,6 @@ use Rattle.crl_model.specs.declared.name.Name.{Name}
 use Rattle.crl_model.specs.declared.stage.Stage.{Stage}
 use Rattle.crl_model.specs.declared.stage.Stage.TheVariants as stage
 use Rattle.crl_model.specs.declared.event.Event.{Event}
-use Rattle.crl_model.specs.declared.message.Message.{Message}
 use Rattle.crl_model.specs.declared.message.Kind.{Kind}
 use Rattle.crl_model.specs.declared.message.Kind.TheVariants as kind
 use Rattle.crl_model.specs.Names.{name_eq, at_node}

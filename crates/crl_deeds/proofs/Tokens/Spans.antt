@@ -3,23 +3,21 @@ use Rattle.std.proofs.Common.{◌≡◌, ℕ, zero, suc, ◌+◌, ◌-◌, ◌==
 use Rattle.std.proofs.lemmas.Bool.{cond_both}
 use Rattle.crl_model.specs.declared.name.Name.{Name}
 use Rattle.crl_model.specs.declared.collective.Fold.{Fold}
-use Rattle.crl_model.specs.declared.collective.Part.{Part}
 use Rattle.crl_model.specs.declared.call.Call.{Call}
-use Rattle.crl_model.specs.declared.call.CallKind.{CallKind}
 use Rattle.crl_model.specs.declared.entry.What.{What}
 use Rattle.crl_model.specs.declared.message.Message.{Message}
 use Rattle.crl_model.specs.declared.message.Kind.{Kind}
 use Rattle.crl_model.specs.declared.message.Kind.TheVariants as kind
 use Rattle.crl_pieces.specs.Pieces.{count, cut, Cell, fresh, left_from}
 use Rattle.crl_protocol.specs.Parcels.{grant_with, return_with, load_of, with_load, piece_of, pieces_of, Key, key_in}
-use Rattle.crl_protocol.specs.Mail.{Mail, Ask, Grant, Recall, Yield, Return, Release, Letter, kind_about}
+use Rattle.crl_protocol.specs.Mail.{Mail, Ask, Grant, Recall, Yield, Return, Release, Letter}
 use Rattle.crl_protocol.specs.Home.{Home, HomeStep}
 use Rattle.crl_protocol.specs.Remote.{Remote, RemoteStep, remote_flushes}
-use Rattle.crl_protocol.specs.Node.{Node, Answer, ForSection, ForRound, Activity, Free, Waiting, Ready, Outcome, letter_messages, mail_messages, message_to}
+use Rattle.crl_protocol.specs.Node.{Node, Activity, Free, Outcome, letter_messages, mail_messages, message_to}
 use Rattle.crl_protocol.specs.Calls.{results_from}
 use Rattle.crl_model.specs.FoldOf.{fold_of}
 use Rattle.crl_deeds.specs.Deeds.{FreeIf, Cause, parting, Copies, Rounds, Notes, Serves, CallsBack}
-use Rattle.crl_deeds.specs.NodeFacts.{IsAway, Leaves, Fits}
+use Rattle.crl_deeds.specs.NodeFacts.{Leaves, Fits}
 use Rattle.crl_deeds.specs.Tokens.{NoMail, Span, came, weigh, weighs, waited, Balance}
 use Rattle.crl_deeds.specs.Turns.{Came}
 use Rattle.crl_deeds.proofs.Fits.Waits.{own_waits, grant_waits}

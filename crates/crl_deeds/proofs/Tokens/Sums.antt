@@ -2,15 +2,13 @@
 use Rattle.std.proofs.Common.{◌≡◌, ℕ, zero, suc, ◌+◌, ◌≤◌, ◌<◌, ◌==◌, Bool, true, false, Some, List, [], ◌∷◌, ◌++◌, if◌then◌else◌, refl, ap, sym, ◌∙◌, arith}
 use Rattle.std.proofs.lemmas.Bool.{cond-true, cond-false, eqb-true, eqb-false, ne_eqb, cases_lt}
 use Rattle.std.proofs.Math.Logic.{◌⊎◌, inl, inr}
-use Rattle.crl_model.specs.declared.call.Call.{Call}
 use Rattle.crl_model.specs.declared.event.Event.{Event}
 use Rattle.crl_model.specs.declared.message.Message.{Message}
 use Rattle.crl_model.specs.Names.{at_node}
-use Rattle.crl_protocol.specs.Parcels.{Piece, with_load, pieces_of, pieces_in, Key, key_of, PartsGathered}
+use Rattle.crl_protocol.specs.Parcels.{Piece, pieces_of, pieces_in}
 use Rattle.crl_protocol.specs.Places.{Took, here, there}
-use Rattle.crl_protocol.specs.Node.{Node, new_node, Recorded, Note, Answer, Done, Activity, Free, Ready, Outcome, only}
+use Rattle.crl_protocol.specs.Node.{Node, new_node, Done, Activity, Free, Outcome, only}
 use Rattle.crl_protocol.specs.World.{World, WorldStep, new_world, boxes_from, pieces_in_boxes, note, put_in, commits, steps_node, carries}
-use Rattle.crl_deeds.specs.Deeds.{Calls, Hears, Deed}
 use Rattle.crl_deeds.specs.Tokens.{sum_from, sum, weigh, on_piece, weighs, Whole, load, waited, Tokens, Balance, Balanced}
 use Rattle.crl_deeds.specs.Turns.{Frame, Turn}
 use Rattle.crl_deeds.specs.Turns.{calls, hears, gathers, answers, carriage, rests}
