@@ -6,6 +6,7 @@ ghost use Rattle.crl_outbox.specs.Stacks.{IsStack};
 use crl_model::OutOfMemory;
 use crl_model::bytes::Bytes;
 use crl_pieces::PIECE_LEN;
+use crl_pieces::parts::count;
 use std::alloc::Global;
 use std::marker::Model;
 
@@ -66,13 +67,6 @@ impl Model for Sheets {
     ghost view = { λ s. s.size };
 
     ghost invariant = { λ s. AreSheets s.size s.sheets.items };
-}
-
-/// How many pieces so many bytes have.
-fn count(size: u32) -> u32
-    ensures { result ≡ pieces.count size }
-{
-    size.saturating_sub(1) / PIECE_LEN + 1
 }
 
 /// So many sheets for pieces of bytes of this size.

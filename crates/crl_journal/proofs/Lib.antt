@@ -1,0 +1,3 @@
+mod Growth
+pub mod Laws
+mod Telling

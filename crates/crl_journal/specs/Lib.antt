@@ -1,0 +1,3 @@
+pub mod JournalState
+pub mod Merging
+pub mod Told

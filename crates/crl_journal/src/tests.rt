@@ -1,0 +1,54 @@
+//! Tests: three journals are written and merged.
+ghost use Rattle.std.specs.Prelude.{◌≡◌, ◌<◌, ◌≤◌, length};
+
+use crate::{Journal, account};
+use crl_model::OutOfMemory;
+use crl_model::entry::{Entry, What};
+use crl_model::event::Event;
+use crl_model::name::Name;
+use std::alloc::Global;
+
+/// An entry that says that a region with this serial was unmapped.
+fn unmapped(serial: u32) -> Entry {
+    Entry {
+        node: 0,
+        what: What::Unmap {
+            name: Name::new(0, serial),
+        },
+    }
+}
+
+fn serial_of(entry: &Entry) -> u32 {
+    match &entry.what {
+        What::Unmap { name } => name.serial,
+        _ => 0,
+    }
+}
+
+/// A journal of such entries, by position and serial.
+fn journal(alloc: Global, records: &[(u64, u32)]) -> Result<Journal, OutOfMemory> {
+    let mut journal = Journal::new(alloc);
+    for (position, serial) in records {
+        journal.reserve(1, 1)?;
+        journal.record(*position, unmapped(*serial));
+        journal.note(*position, Event::Collect { node: 0 });
+    }
+    Ok(journal)
+}
+
+#[test]
+fn three_journals_are_merged(rt: HostRuntime) -> Result<(), OutOfMemory> {
+    let alloc = rt.alloc();
+    let one = journal(alloc, &[(1, 11), (1, 12), (6, 16)])?;
+    let two = journal(alloc, &[])?;
+    let three = journal(alloc, &[(0, 10), (3, 13), (3, 14), (3, 15)])?;
+    assert_eq!(rt; one.notes().len(), 3);
+    let account = account(alloc, &[one.records(), two.records(), three.records()])?;
+    let mut due = 10;
+    for entry in &account {
+        assert_eq!(rt; serial_of(entry), due);
+        due = if due < 100 { due + 1 } else { due };
+    }
+    assert_eq!(rt; account.len(), 7);
+    Ok(())
+}
