@@ -5,7 +5,7 @@ use Rattle.crl_model.specs.declared.directory.Section.{Section}
 use Rattle.crl_model.specs.declared.directory.Section.TheVariants as section
 use Rattle.crl_protocol.specs.Sectioning.{copy_bytes}
 use Rattle.crl_coherence.specs.Region.{Region}
-use Rattle.crl_coherence.specs.Coherent.{IsCoherent, MineFits, section_at, bytes_at_node}
+use Rattle.crl_coherence.specs.Coherent.{IsCoherent, MineFits, node_section, bytes_at_node}
 use Rattle.crl_coherence.specs.Directory.{between}
 use Rattle.crl_coherence.proofs.Stands as stands
 
@@ -22,7 +22,7 @@ at_side me g n k other opened =
     let c = stands.open_copy g.home.last g.array (between g n) opened (k.loose.pairs n other) in
     ap copy_bytes c.1 ∙ stands.copy_bytes g.home.last g.array (between g n) c.0 c.1 (k.loose.pairs n other)
 
-pub open_bytes : (me : ℕ) (g : Region) (n : ℕ) → IsCoherent me g → section_at me g n ≢ section.Closed → bytes_at_node me g n ≡ g.array
+pub open_bytes : (me : ℕ) (g : Region) (n : ℕ) → IsCoherent me g → node_section me g n ≢ section.Closed → bytes_at_node me g n ≡ g.array
 open_bytes me g n k = go (n == me) refl
   where
     go : (b : Bool) → (n == me) ≡ b → ◌≢◌ {A = Section} (if b then g.home.mine else (g.remotes n).here) section.Closed → (if b then g.home.bytes else copy_bytes (g.remotes n).copy) ≡ g.array

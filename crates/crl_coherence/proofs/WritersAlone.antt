@@ -3,7 +3,7 @@ use Rattle.std.proofs.Common.{◌≡◌, ◌≢◌, ℕ, ◌==◌, Bool, true, f
 use Rattle.std.proofs.lemmas.Bool.{eqb-true, eqb-false}
 use Rattle.crl_model.specs.declared.directory.Section.TheVariants.{Closed, Writing}
 use Rattle.crl_coherence.specs.Region.{Region}
-use Rattle.crl_coherence.specs.Coherent.{IsCoherent, section_at}
+use Rattle.crl_coherence.specs.Coherent.{IsCoherent, node_section}
 use Rattle.crl_coherence.proofs.Facts.{section_closed}
 use Rattle.crl_coherence.proofs.Opens.{reader_at, writer_at, reader_is, own_shut}
 use Rattle.crl_coherence.proofs.Regions.{unlisted_writing}
@@ -21,7 +21,7 @@ home_beside : (me : ℕ) (g : Region) (n : ℕ) → IsCoherent me g → n ≢ me
 home_beside me g n k other writes =
     let l = writer_at me g.array g.home g.home.queue g.remotes g.flight k.loose n other writes in own_shut me g.array g.home g.home.queue g.remotes g.flight k.loose n l.0 l.1 l.2
 
-pub writer_alone : (me : ℕ) (g : Region) (n m : ℕ) → IsCoherent me g → n ≢ m → section_at me g n ≡ Writing → section_at me g m ≡ Closed
+pub writer_alone : (me : ℕ) (g : Region) (n m : ℕ) → IsCoherent me g → n ≢ m → node_section me g n ≡ Writing → node_section me g m ≡ Closed
 writer_alone me g n m k apart = go (n == me) (m == me) refl refl
   where
     go : (b c : Bool) → (n == me) ≡ b → (m == me) ≡ c → (if b then g.home.mine else (g.remotes n).here) ≡ Writing → (if c then g.home.mine else (g.remotes m).here) ≡ Closed

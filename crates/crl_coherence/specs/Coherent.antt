@@ -62,8 +62,8 @@ created nodes size sizes = record {
 }
 
 -- the sections that are open at a node
-abbrev pub section_at : ℕ → Region → ℕ → Section
-section_at me g n = if n == me then g.home.mine else (g.remotes n).here
+abbrev pub node_section : ℕ → Region → ℕ → Section
+node_section me g n = if n == me then g.home.mine else (g.remotes n).here
 
 -- the bytes that a node has of the region
 abbrev pub bytes_at_node : ℕ → Region → ℕ → List ℕ

@@ -14,7 +14,7 @@ use Rattle.crl_protocol.specs.Sections.{is_writing}
 use Rattle.crl_protocol.specs.Handlers.{is_queued}
 use Rattle.crl_coherence.specs.Region.{Flying, Region, flies, MayStart, IsIdle}
 use Rattle.crl_coherence.specs.Pairs.{Places, Given, Back, Freed, Distinct, HasVersion, queued_of}
-use Rattle.crl_coherence.specs.Coherent.{HeadWaits, section_at, bytes_at_node, MayOpen}
+use Rattle.crl_coherence.specs.Coherent.{HeadWaits, node_section, bytes_at_node, MayOpen}
 use Rattle.crl_model.specs.declared.directory.Mark.TheVariants.{Plain, Recalled, Yielding}
 use Rattle.crl_coherence.specs.Directory.{between, Among, AskStands, VersionStands, HasNothing, ReleasedStands, IsCalled, RecallStands, YieldStands, IsForHead, HaveStands, ComesBack, GrantShows}
 
@@ -22,12 +22,12 @@ use Rattle.crl_coherence.specs.Directory.{between, Among, AskStands, VersionStan
 -- opens at another node by its own call or with a grant, and at the home by its call or while the queue is
 -- served, which a return or a release lets go on. The ask of another node opens none.
 pub record OpensRightly (me : ℕ) (g : Region) : Type 0 where
-  pub by_call : (n : ℕ) (write : Bool) → n ≢ me → MayStart write (g.remotes n).here → (g.remotes n).asking ≡ None → (remote_starts write (g.remotes n)).opened ≡ true → MayOpen write (section_at me g)
-  pub by_grant : (n version : ℕ) (granted : Granted) (rest : List Flying) → n ≢ me → Took (flies n (Grant version granted)) g.flight rest → (write : Bool) × ((g.remotes n).asking ≡ Some write) × MayOpen write (section_at me g)
-  pub at_home : (write : Bool) → MayStart write g.home.mine → IsIdle me g.home.queue → (home_starts me write g.home).opened ≡ true → MayOpen write (section_at me g)
+  pub by_call : (n : ℕ) (write : Bool) → n ≢ me → MayStart write (g.remotes n).here → (g.remotes n).asking ≡ None → (remote_starts write (g.remotes n)).opened ≡ true → MayOpen write (node_section me g)
+  pub by_grant : (n version : ℕ) (granted : Granted) (rest : List Flying) → n ≢ me → Took (flies n (Grant version granted)) g.flight rest → (write : Bool) × ((g.remotes n).asking ≡ Some write) × MayOpen write (node_section me g)
+  pub at_home : (write : Bool) → MayStart write g.home.mine → IsIdle me g.home.queue → (home_starts me write g.home).opened ≡ true → MayOpen write (node_section me g)
   pub by_ask : (ask : Asked) → ask.node ≢ me → (home_takes_ask me ask g.home).opened ≡ false
-  pub by_return : (n version : ℕ) (bytes : Option (List ℕ)) (rest : List Flying) → n ≢ me → Took (flies n (Return version bytes)) g.flight rest → (home_takes_return me n bytes g.home).opened ≡ true → (g.home.mine ≡ Closed) × MayOpen (is_writing (home_takes_return me n bytes g.home).home.mine) (section_at me g)
-  pub by_release : (n version : ℕ) (bytes : List ℕ) (rest : List Flying) → n ≢ me → Took (flies n (Release version bytes)) g.flight rest → (home_takes_release me n version bytes g.home).opened ≡ true → (g.home.mine ≡ Closed) × MayOpen (is_writing (home_takes_release me n version bytes g.home).home.mine) (section_at me g)
+  pub by_return : (n version : ℕ) (bytes : Option (List ℕ)) (rest : List Flying) → n ≢ me → Took (flies n (Return version bytes)) g.flight rest → (home_takes_return me n bytes g.home).opened ≡ true → (g.home.mine ≡ Closed) × MayOpen (is_writing (home_takes_return me n bytes g.home).home.mine) (node_section me g)
+  pub by_release : (n version : ℕ) (bytes : List ℕ) (rest : List Flying) → n ≢ me → Took (flies n (Release version bytes)) g.flight rest → (home_takes_release me n version bytes g.home).opened ≡ true → (g.home.mine ≡ Closed) × MayOpen (is_writing (home_takes_release me n version bytes g.home).home.mine) (node_section me g)
 
 -- The bytes with which a section opens are the array's.
 pub record ShowsTheArray (me : ℕ) (g : Region) : Type 0 where
@@ -55,8 +55,8 @@ pub record MessagesFit (me : ℕ) (g : Region) : Type 0 where
 -- called. Where no message is under way and a node waits for a section, another node has one open.
 pub record WhoWaitsIsBlocked (me : ℕ) (g : Region) : Type 0 where
   pub head : HeadWaits g.home g.home.queue
-  pub other : (n : ℕ) → g.flight ≡ [] → n ≢ me → (g.remotes n).asking ≢ None → (m : ℕ) × (m ≢ n) × (section_at me g m ≢ Closed)
-  pub home : g.flight ≡ [] → is_queued me g.home.queue ≡ true → (m : ℕ) × (m ≢ me) × (section_at me g m ≢ Closed)
+  pub other : (n : ℕ) → g.flight ≡ [] → n ≢ me → (g.remotes n).asking ≢ None → (m : ℕ) × (m ≢ n) × (node_section me g m ≢ Closed)
+  pub home : g.flight ≡ [] → is_queued me g.home.queue ≡ true → (m : ℕ) × (m ≢ me) × (node_section me g m ≢ Closed)
 
 -- A node waits exactly where its ask stands in one place: it is under way or queued, or its grant is under way.
 -- The home's own ask is queued. Who waits has no section open.
@@ -137,12 +137,12 @@ pub record BytesAreTheArray (me : ℕ) (g : Region) : Type 0 where
 
 -- While the section of node n is open the array stays, or it was a write section, which ended.
 abbrev pub KeepsTheArray : ℕ → Region → Region → Type 0
-KeepsTheArray me g h = (n : ℕ) → section_at me g n ≢ Closed → (h.array ≡ g.array) ⊎ ((section_at me g n ≡ Writing) × (section_at me h n ≡ Closed))
+KeepsTheArray me g h = (n : ℕ) → node_section me g n ≢ Closed → (h.array ≡ g.array) ⊎ ((node_section me g n ≡ Writing) × (node_section me h n ≡ Closed))
 
 -- while a section is open, what its node has of the region is the array's bytes
 abbrev pub HasTheArray : ℕ → Region → Type 0
-HasTheArray me g = (n : ℕ) → section_at me g n ≢ Closed → bytes_at_node me g n ≡ g.array
+HasTheArray me g = (n : ℕ) → node_section me g n ≢ Closed → bytes_at_node me g n ≡ g.array
 
 -- while a node's section is open to write, no other node has one open
 abbrev pub WritersAreAlone : ℕ → Region → Type 0
-WritersAreAlone me g = (n m : ℕ) → n ≢ m → section_at me g n ≡ Writing → section_at me g m ≡ Closed
+WritersAreAlone me g = (n m : ℕ) → n ≢ m → node_section me g n ≡ Writing → node_section me g m ≡ Closed

@@ -14,8 +14,9 @@ use Rattle.crl_coherence.specs.Region.{elsewhere}
 use Rattle.crl_regions.specs.View.{side, sight}
 use Rattle.crl_regions.specs.Steps.{GoesOn}
 use Rattle.crl_flight.specs.Flight.{Moves, still, moved}
-use Rattle.crl_regions.proofs.Moves.{boxes, flight_took, took_out, took_left, took_right, took_put}
+use Rattle.crl_regions.proofs.Moves.{boxes, flight_took, took_left, took_right, took_put}
 use Rattle.crl_regions.proofs.Lift.{finish}
+use Rattle.crl_deeds.proofs.Laws.{took_at}
 
 -- what holds of each node where one of them has another value
 pub of_node : {A : Type 0} (f : ℕ → A) (i : ℕ) (v : A) (P : ℕ → A → Type 0) → P i v → ((j : ℕ) → (j ≡ i → ⊥) → P j (f j)) → (j : ℕ) → P j (at_node f i v j)
@@ -41,7 +42,7 @@ arrived i e t w = at_node (between i e t w) t.taken.message.addressee (put_in t.
 pub leaves : (i place : ℕ) (e : Event) (t : Taken Piece) (w : World) → i < w.count → take_out place (w.nodes i).outbox ≡ Some t → Took t.taken (pieces_in_boxes w) (boxes_from 0 w.count (between i e t w))
 leaves i place e t w few out =
     flight_took t.taken w.count i w.nodes (between i e t w) few
-    (subst (λ (n : Node). Took t.taken (boxes (w.nodes i)) (boxes n)) (sym (node_here w.nodes i (sender i e t w))) (took_right (w.nodes i).inbox (took_out place (w.nodes i).outbox t out)))
+    (subst (λ (n : Node). Took t.taken (boxes (w.nodes i)) (boxes n)) (sym (node_here w.nodes i (sender i e t w))) (took_right (w.nodes i).inbox (took_at place (w.nodes i).outbox t out)))
     (λ l n. ap boxes (sym (node_there w.nodes i (sender i e t w) l n)))
 
 pub arrives : (i : ℕ) (e : Event) (t : Taken Piece) (w : World) → t.taken.message.addressee < w.count → Took t.taken (boxes_from 0 w.count (arrived i e t w)) (boxes_from 0 w.count (between i e t w))

@@ -31,19 +31,19 @@ use Rattle.crl_deeds.specs.Deeds.{Calls, Hears, Deed}
 use Rattle.crl_regions.specs.View.{UnderWay, flying, sight, table_of, tables_of, left_by, array_after}
 use Rattle.crl_regions.specs.MailFits.{Tables, FitsTables, MailFits, AllMailFits}
 use Rattle.crl_regions.specs.Steps.{GoesOn}
-use Rattle.crl_regions.proofs.Moves.{boxes, flight_took, flight_same, took_out, took_left}
+use Rattle.crl_regions.proofs.Moves.{boxes, flight_took, flight_same, took_left}
 use Rattle.crl_regions.proofs.Acts.{Comes, Acts, nothing}
 use Rattle.crl_regions.proofs.Lift.{finish}
 use Rattle.crl_regions.proofs.Sections.{Local}
 use Rattle.crl_regions.proofs.RegionDeeds.{Known, acts_deed, acts_call}
-use Rattle.crl_regions.proofs.Mails.{fair_deed}
+use Rattle.crl_regions.proofs.Mails.{mail_of_deed}
 use Rattle.crl_regions.proofs.MappedOrCached.{IsMappedOrCached, mapped_or_cached_deed}
 use Rattle.crl_regions.proofs.Asking.{WaitsAsking, asks_deed}
 use Rattle.crl_regions.proofs.Addressed.{PlainSent, Addressed}
 use Rattle.crl_regions.proofs.Carried.{of_node, node_here, node_there}
 use Rattle.crl_regions.proofs.AllNodesHold.{AllNodesHold, local, passes}
-use Rattle.crl_regions.proofs.Steps.{StepFits, whole_stepped}
-use Rattle.crl_deeds.proofs.Laws.{call_deed, message_deed, deed_frame}
+use Rattle.crl_regions.proofs.Steps.{StepFits, all_stepped}
+use Rattle.crl_deeds.proofs.Laws.{call_deed, message_deed, deed_frame, all_took, took_at}
 use Rattle.crl_deeds.specs.NodeFacts.{seen, OwnFits, Fits, ComesIn}
 use Rattle.crl_deeds.specs.Turns.{Frame, HeldIn}
 
@@ -57,7 +57,7 @@ pub record GoneOn (w v : World) (us : List Under) (arrays left : Name → List �
 of_outcome : (w : World) (arrays : Name → List ℕ) (i : ℕ) (e : Event) (inbox : List Piece) (parcels : PartsGathered) (us left : List Under) (o : Outcome) (came : Name → Option Flying) (written : Name → Option (List ℕ))
     → AllNodesHold w arrays us → StepFits w i e inbox parcels us left o came written → GoneOn w (steps_node i e o w).world us arrays (λ q. bytes_after (written q) (arrays q))
 of_outcome w arrays i e inbox parcels us left o came written k x =
-    let both = whole_stepped w arrays i e inbox parcels us left o came written k x in
+    let both = all_stepped w arrays i e inbox parcels us left o came written k x in
     record { under = left ++ map posted o.posts; whole = both.0; went = λ q h there. let l = both.1 q h there in (l.home, l.there, l.size, l.goes_on); made = both.2 }
 
 pub nothing_on : (w : World) (arrays : Name → List ℕ) (us : List Under) → AllNodesHold w arrays us → GoneOn w w us arrays arrays
@@ -97,7 +97,7 @@ call_on w arrays us i e c few free may k keeps =
       left_mail = k.mail;
       flies = stays_flying w i us k.flies;
       comes = λ q. refl;
-      mail = λ tables f. fair_deed i w.count tables (w.nodes i) (Calls c) _ d tt f;
+      mail = λ tables f. mail_of_deed i w.count tables (w.nodes i) (Calls c) _ d tt f;
     })
 
 acts_collected : (K : Name → ℕ → Type 0) (i : ℕ) (n : Node) (a : Activity) (q : Name) → let o = collects a n in Acts K q i None None n o.node o.posts
@@ -143,10 +143,6 @@ collect_on w arrays us i e few k keeps =
     })
 
 -- A message is handled.
-pub all_took : {A : Type 0} (P : A → Type 0) {x : A} {xs ys : List A} → Took x xs ys → AllByRecursion P xs → P x × AllByRecursion P ys
-all_took P here h = h
-all_took P (there t) h = let u = all_took P t h.1 in (u.0, (h.0, u.1))
-
 -- A message that is under way is handled at its addressee, whose gathering and inbox are these now.
 message_on : (w : World) (arrays : Name → List ℕ) (us left : List Under) (i : ℕ) (e : Event) (m : Message) (inbox : List Piece) (parcels : PartsGathered) → i < w.count → AllNodesHold w arrays us
     → m.addressee ≡ i → m.sender < w.count → AllByRecursion (ComesIn (w.nodes i).me) inbox → Took m (messages_of us) (messages_of left)
@@ -165,7 +161,7 @@ message_on w arrays us left i e m inbox parcels few k to from_few fitted took fl
       left_mail = parts.1;
       flies = flies;
       comes = λ q. comes_of q (flying q m) refl;
-      mail = λ after f. fair_deed i w.count after n (Hears m.sender m.kind) _ d from_few f;
+      mail = λ after f. mail_of_deed i w.count after n (Hears m.sender m.kind) _ d from_few f;
     })
   where
     n : Node
@@ -260,7 +256,7 @@ handle_on w arrays us i place e t few out k fits = go (comes us (pieces_in_boxes
     tables = tables_of w
 
     took : Took t.taken (w.nodes i).inbox t.rest
-    took = took_out place (w.nodes i).inbox t out
+    took = took_at place (w.nodes i).inbox t out
 
     came : HeldIn (PlainSent w.count) i t.taken
     came = (all_took (HeldIn (PlainSent w.count) i) took (k.addressed i).inbox).0

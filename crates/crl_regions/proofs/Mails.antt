@@ -39,24 +39,24 @@ pub record Sends (i count : ℕ) (n : Node) (tables : Tables) : Type 0 where
   pub live : (name : Name) → LiveFits (lifetime_of n name).stage (home_of n name)
 
 -- The mail of a home.
-letter_fair : (tables : Tables) (me to : ℕ) (name : Name) (m : Mail) → me ≡ name.home → HasTable (tables name) → OfHome m → (to == me) ≡ false
+letter_fits : (tables : Tables) (me to : ℕ) (name : Name) (m : Mail) → me ≡ name.home → HasTable (tables name) → OfHome m → (to == me) ≡ false
     → FitsTables tables me to (kind_about name m)
-letter_fair tables me to name (Grant version takes_grant) e t o other = (e, ap (λ k. to == k) (sym e) ∙ other, t)
-letter_fair tables me to name (Recall version) e t o other = (e, ap (λ k. to == k) (sym e) ∙ other, t)
-letter_fair tables me to name (Yield version) e t o other = (e, ap (λ k. to == k) (sym e) ∙ other, t)
-letter_fair tables me to name (Ask write have) e t o other = absurd o
-letter_fair tables me to name (Return version bytes) e t o other = absurd o
-letter_fair tables me to name (Release version bytes) e t o other = absurd o
+letter_fits tables me to name (Grant version takes_grant) e t o other = (e, ap (λ k. to == k) (sym e) ∙ other, t)
+letter_fits tables me to name (Recall version) e t o other = (e, ap (λ k. to == k) (sym e) ∙ other, t)
+letter_fits tables me to name (Yield version) e t o other = (e, ap (λ k. to == k) (sym e) ∙ other, t)
+letter_fits tables me to name (Ask write have) e t o other = absurd o
+letter_fits tables me to name (Return version bytes) e t o other = absurd o
+letter_fits tables me to name (Release version bytes) e t o other = absurd o
 
-letters_fair : (count : ℕ) (tables : Tables) (n : Node) (name : Name) (posts : List Letter) → n.me ≡ name.home → HasTable (tables name) → AllByRecursion (ToOther n.me count) posts
+letters_fit : (count : ℕ) (tables : Tables) (n : Node) (name : Name) (posts : List Letter) → n.me ≡ name.home → HasTable (tables name) → AllByRecursion (ToOther n.me count) posts
     → AllMailFits tables (letter_messages n name posts)
-letters_fair count tables n name [] e t h = tt
-letters_fair count tables n name (l ∷ posts) e t h = (letter_fair tables n.me l.to name l.mail e t h.0.0 h.0.1.1, letters_fair count tables n name posts e t h.1)
+letters_fit count tables n name [] e t h = tt
+letters_fit count tables n name (l ∷ posts) e t h = (letter_fits tables n.me l.to name l.mail e t h.0.0 h.0.1.1, letters_fit count tables n name posts e t h.1)
 
-pub home_fair : (i count : ℕ) (tables : Tables) (n : Node) (name : Name) (h : Home) (s : HomeStep) → home_of n name ≡ Some h → Sends i count n tables → NodesExistAfter n.me count s
+pub home_mail_fits : (i count : ℕ) (tables : Tables) (n : Node) (name : Name) (h : Home) (s : HomeStep) → home_of n name ≡ Some h → Sends i count n tables → NodesExistAfter n.me count s
     → AllMailFits tables (letter_messages n name s.posts)
-home_fair i count tables n name h s e f near =
-    let t = f.home_there name h e in letters_fair count tables n name s.posts (eqb-true n.me name.home (home_is n name h e)) (t.0, t.1) near.posts
+home_mail_fits i count tables n name h s e f near =
+    let t = f.home_there name h e in letters_fit count tables n name s.posts (eqb-true n.me name.home (home_is n name h e)) (t.0, t.1) near.posts
 
 -- The mail of another node.
 abbrev OfSide : Mail → Type 0
@@ -71,23 +71,23 @@ AllSide posts = AllByRecursion OfSide posts
 abbrev pub Posts : RemoteStep → Type 0
 Posts s = AllSide s.posts
 
-mail_fair : (tables : Tables) (me : ℕ) (name : Name) (m : Mail) → (me == name.home) ≡ false → HasTable (tables name) → OfSide m
+mail_fits : (tables : Tables) (me : ℕ) (name : Name) (m : Mail) → (me == name.home) ≡ false → HasTable (tables name) → OfSide m
     → FitsTables tables me name.home (kind_about name m)
-mail_fair tables me name (Ask write have) e t o = (refl, e, t)
-mail_fair tables me name (Return version bytes) e t o = (refl, e, t)
-mail_fair tables me name (Release version bytes) e t o = (refl, e, t)
-mail_fair tables me name (Grant version takes_grant) e t o = absurd o
-mail_fair tables me name (Recall version) e t o = absurd o
-mail_fair tables me name (Yield version) e t o = absurd o
+mail_fits tables me name (Ask write have) e t o = (refl, e, t)
+mail_fits tables me name (Return version bytes) e t o = (refl, e, t)
+mail_fits tables me name (Release version bytes) e t o = (refl, e, t)
+mail_fits tables me name (Grant version takes_grant) e t o = absurd o
+mail_fits tables me name (Recall version) e t o = absurd o
+mail_fits tables me name (Yield version) e t o = absurd o
 
-mails_fair : (tables : Tables) (n : Node) (name : Name) (posts : List Mail) → (n.me == name.home) ≡ false → HasTable (tables name) → AllSide posts
+mails_fit : (tables : Tables) (n : Node) (name : Name) (posts : List Mail) → (n.me == name.home) ≡ false → HasTable (tables name) → AllSide posts
     → AllMailFits tables (mail_messages n name posts)
-mails_fair tables n name [] e t h = tt
-mails_fair tables n name (m ∷ posts) e t h = (mail_fair tables n.me name m e t h.0, mails_fair tables n name posts e t h.1)
+mails_fit tables n name [] e t h = tt
+mails_fit tables n name (m ∷ posts) e t h = (mail_fits tables n.me name m e t h.0, mails_fit tables n name posts e t h.1)
 
-pub side_fair : (i count : ℕ) (tables : Tables) (n : Node) (name : Name) (r : Remote) (s : RemoteStep) → n.remotes name ≡ Some r → Sends i count n tables → Posts s → AllMailFits tables (mail_messages n name s.posts)
-side_fair i count tables n name r s e f p =
-    let t = f.side_there name r e in mails_fair tables n name s.posts (ap (λ k. k == name.home) f.me ∙ t.1) t.0 p
+pub side_mail_fits : (i count : ℕ) (tables : Tables) (n : Node) (name : Name) (r : Remote) (s : RemoteStep) → n.remotes name ≡ Some r → Sends i count n tables → Posts s → AllMailFits tables (mail_messages n name s.posts)
+side_mail_fits i count tables n name r s e f p =
+    let t = f.side_there name r e in mails_fit tables n name s.posts (ap (λ k. k == name.home) f.me ∙ t.1) t.0 p
 
 pub start_posts : (write : Bool) (copy : Option Copy) (r : Remote) → Posts (starts_over write copy r)
 start_posts write None r = (tt, tt)
@@ -144,13 +144,13 @@ flush_posts r = flush_over r.copy r
 abbrev pub Sent : Tables → Outcome → Type 0
 Sent tables o = AllMailFits tables o.posts
 
-pub purges_fair : (count : ℕ) (tables : Tables) (n : Node) (name : Name) (ms : List ℕ) → AllMailFits tables (map (λ m. message_to n m (kind.Purge name)) ms)
-purges_fair count tables n name [] = tt
-purges_fair count tables n name (m ∷ ms) = (tt, purges_fair count tables n name ms)
+pub purges_fit : (count : ℕ) (tables : Tables) (n : Node) (name : Name) (ms : List ℕ) → AllMailFits tables (map (λ m. message_to n m (kind.Purge name)) ms)
+purges_fit count tables n name [] = tt
+purges_fit count tables n name (m ∷ ms) = (tt, purges_fit count tables n name ms)
 
-pub results_fair : (count : ℕ) (tables : Tables) (n : Node) (m k round : ℕ) (fold : Fold) → AllMailFits tables (results_from n m k round fold)
-results_fair count tables n m zero round fold = tt
-results_fair count tables n m (suc k) round fold = (tt, results_fair count tables n (m + 1) k round fold)
+pub results_fit : (count : ℕ) (tables : Tables) (n : Node) (m k round : ℕ) (fold : Fold) → AllMailFits tables (results_from n m k round fold)
+results_fit count tables n m zero round fold = tt
+results_fit count tables n m (suc k) round fold = (tt, results_fit count tables n (m + 1) k round fold)
 
 pub told_sized : (s : Stage) (o : Option Home) (t : Option Home) → LiveFits s o → ((h : Home) → o ≡ Some h → (k : Home) × (t ≡ Some k) × (k.size ≡ h.size)) → ToldFits (told_by_stage s (size_of o)) t
 told_sized stage.Unknown o t l f = tt
@@ -183,55 +183,55 @@ unfolding remote_takes_recall remote_takes_yield
 back_posts r k name s (wholly q version) = recall_posts version r.copy r
 back_posts r k name s (to_share q version) = yield_posts version r.copy r
 
-fair_copies : (i count : ℕ) (tables : Tables) (n : Node) (cause : Cause) (o : Outcome) → Copies n cause o → IsFromNode count cause → Sends i count n tables → Sent tables o
+copies_fit : (i count : ℕ) (tables : Tables) (n : Node) (cause : Cause) (o : Outcome) → Copies n cause o → IsFromNode count cause → Sends i count n tables → Sent tables o
 unfolding remote_starts
-fair_copies i count tables n cause o (home_opens c write name h is e v x) g f = home_fair i count tables n name h _ e f (near_starts n.me count write h (subst (λ k. k < count) (sym f.me) f.few) (f.near name h e))
-fair_copies i count tables n cause o (home_waits c write name h is e v x) g f = home_fair i count tables n name h _ e f (near_starts n.me count write h (subst (λ k. k < count) (sym f.me) f.few) (f.near name h e))
-fair_copies i count tables n cause o (side_opens c write name r is e w v x) g f = side_fair i count tables n name r (starts_over write r.copy r) w f (start_posts write r.copy r)
-fair_copies i count tables n cause o (side_waits c write name r is e w v x) g f = side_fair i count tables n name r (starts_over write r.copy r) w f (start_posts write r.copy r)
-fair_copies i count tables n cause o (home_ends c name w ends lowers h is e) g f = home_fair i count tables n name h _ e f (ends_near n count _ c name w ends lowers h is (f.near name h e))
-fair_copies i count tables n cause o (side_ends c name w ends lowers r is e y) g f = side_fair i count tables n name r (lowers r) y f (ends_posts n _ c name w ends lowers r is)
-fair_copies i count tables n cause o (side_flushes name r other e closed) g f = side_fair i count tables n name r (remote_flushes r) e f (flush_posts r)
-fair_copies i count tables n cause o (home_serves from k name h s is e x) g f = home_fair i count tables n name h s e f (serves_near count n h from k name s is g (f.near name h e))
-fair_copies i count tables n cause o (home_serves_own from k name h s is e x) g f = home_fair i count tables n name h s e f (serves_near count n h from k name s is g (f.near name h e))
-fair_copies i count tables n cause o (grant_comes from name version what r e t) g f = tt
-fair_copies i count tables n cause o (side_called from k name r s is e) g f = side_fair i count tables n name r s e f (back_posts r k name s is)
+copies_fit i count tables n cause o (home_opens c write name h is e v x) g f = home_mail_fits i count tables n name h _ e f (near_starts n.me count write h (subst (λ k. k < count) (sym f.me) f.few) (f.near name h e))
+copies_fit i count tables n cause o (home_waits c write name h is e v x) g f = home_mail_fits i count tables n name h _ e f (near_starts n.me count write h (subst (λ k. k < count) (sym f.me) f.few) (f.near name h e))
+copies_fit i count tables n cause o (side_opens c write name r is e w v x) g f = side_mail_fits i count tables n name r (starts_over write r.copy r) w f (start_posts write r.copy r)
+copies_fit i count tables n cause o (side_waits c write name r is e w v x) g f = side_mail_fits i count tables n name r (starts_over write r.copy r) w f (start_posts write r.copy r)
+copies_fit i count tables n cause o (home_ends c name w ends lowers h is e) g f = home_mail_fits i count tables n name h _ e f (ends_near n count _ c name w ends lowers h is (f.near name h e))
+copies_fit i count tables n cause o (side_ends c name w ends lowers r is e y) g f = side_mail_fits i count tables n name r (lowers r) y f (ends_posts n _ c name w ends lowers r is)
+copies_fit i count tables n cause o (side_flushes name r other e closed) g f = side_mail_fits i count tables n name r (remote_flushes r) e f (flush_posts r)
+copies_fit i count tables n cause o (home_serves from k name h s is e x) g f = home_mail_fits i count tables n name h s e f (serves_near count n h from k name s is g (f.near name h e))
+copies_fit i count tables n cause o (home_serves_own from k name h s is e x) g f = home_mail_fits i count tables n name h s e f (serves_near count n h from k name s is g (f.near name h e))
+copies_fit i count tables n cause o (grant_comes from name version what r e t) g f = tt
+copies_fit i count tables n cause o (side_called from k name r s is e) g f = side_mail_fits i count tables n name r s e f (back_posts r k name s is)
 
-parting_fair : (i count : ℕ) (tables : Tables) (n : Node) (name : Name) (o : Option Remote) → n.remotes name ≡ o → Sends i count n tables → AllMailFits tables (parting n name o)
-parting_fair i count tables n name None e f = tt
-parting_fair i count tables n name (Some r) e f = side_fair i count tables n name r (remote_flushes r) e f (flush_posts r)
+parting_fits : (i count : ℕ) (tables : Tables) (n : Node) (name : Name) (o : Option Remote) → n.remotes name ≡ o → Sends i count n tables → AllMailFits tables (parting n name o)
+parting_fits i count tables n name None e f = tt
+parting_fits i count tables n name (Some r) e f = side_mail_fits i count tables n name r (remote_flushes r) e f (flush_posts r)
 
 unfit_sized : (s : Stage) (why : Refusal) (t : Told) (d : DeleteTold) (o : Option Home) → Unfit s why t d → ToldFits t o
 unfit_sized s why t d o never = tt
 unfit_sized s why t d o _ = tt
 
-fair_lives : (i count : ℕ) (tables : Tables) (n : Node) (cause : Cause) (o : Outcome) → Lives n cause o → Sends i count n tables → Sent tables o
-fair_lives i count tables n cause o (map_asks name e other c real) f = (tt, tt)
-fair_lives i count tables n cause o (map_told from name mine live) f =
+lives_fit : (i count : ℕ) (tables : Tables) (n : Node) (cause : Cause) (o : Outcome) → Lives n cause o → Sends i count n tables → Sent tables o
+lives_fit i count tables n cause o (map_asks name e other c real) f = (tt, tt)
+lives_fit i count tables n cause o (map_told from name mine live) f =
     (told_sized stage.Live (home_of n name) (tables name) (subst (λ s. LiveFits s (home_of n name)) live (f.live name)) (λ h e. f.home_there name h e), tt)
-fair_lives i count tables n cause o (map_refused from name why t d u) f = (unfit_sized _ why t d (tables name) u, tt)
-fair_lives i count tables n cause o (unmaps_doomed name m e one other doomed closed) f = parting_fair i count tables n name (n.remotes name) refl f
-fair_lives i count tables n cause o (unmaps_evicting name m old e one other sound closed kept) f = parting_fair i count tables n old (n.remotes old) refl f
-fair_lives i count tables n cause o (deletes_own name m ms mine live e) f = purges_fair count tables n name _
-fair_lives i count tables n cause o (deletes_for from name m ms mine live e) f = purges_fair count tables n name _
-fair_lives i count tables n cause o (delete_asks name other real) f = (tt, tt)
-fair_lives i count tables n cause o (deletes_alone_for from name mine live e) f = (tt, tt)
-fair_lives i count tables n cause o (delete_refused from name why t d u) f = (tt, tt)
-fair_lives i count tables n cause o (dooms from name m e) f = (tt, tt)
-fair_lives i count tables n cause o (drops from name size e c) f = all_append (MailFits tables) (parting n name (n.remotes name)) _ (parting_fair i count tables n name (n.remotes name) refl f) (tt, tt)
-fair_lives i count tables n cause o (warns from name e c) f = (tt, tt)
-fair_lives i count tables n cause o (ends_for from name deleter mine e other missing last) f = (tt, tt)
-fair_lives i count tables n cause o _ f = tt
+lives_fit i count tables n cause o (map_refused from name why t d u) f = (unfit_sized _ why t d (tables name) u, tt)
+lives_fit i count tables n cause o (unmaps_doomed name m e one other doomed closed) f = parting_fits i count tables n name (n.remotes name) refl f
+lives_fit i count tables n cause o (unmaps_evicting name m old e one other sound closed kept) f = parting_fits i count tables n old (n.remotes old) refl f
+lives_fit i count tables n cause o (deletes_own name m ms mine live e) f = purges_fit count tables n name _
+lives_fit i count tables n cause o (deletes_for from name m ms mine live e) f = purges_fit count tables n name _
+lives_fit i count tables n cause o (delete_asks name other real) f = (tt, tt)
+lives_fit i count tables n cause o (deletes_alone_for from name mine live e) f = (tt, tt)
+lives_fit i count tables n cause o (delete_refused from name why t d u) f = (tt, tt)
+lives_fit i count tables n cause o (dooms from name m e) f = (tt, tt)
+lives_fit i count tables n cause o (drops from name size e c) f = all_append (MailFits tables) (parting n name (n.remotes name)) _ (parting_fits i count tables n name (n.remotes name) refl f) (tt, tt)
+lives_fit i count tables n cause o (warns from name e c) f = (tt, tt)
+lives_fit i count tables n cause o (ends_for from name deleter mine e other missing last) f = (tt, tt)
+lives_fit i count tables n cause o _ f = tt
 
-fair_rounds : (count : ℕ) (tables : Tables) (n : Node) (cause : Cause) (o : Outcome) → Rounds n cause o → Sent tables o
-fair_rounds count tables n cause o (comes_away part other fits) = (tt, tt)
-fair_rounds count tables n cause o (comes_last part parts first fits all) = results_fair count tables n 1 (n.nodes - 1) _ _
-fair_rounds count tables n cause o (part_last from round part parts mine k e a all) = results_fair count tables n 1 (n.nodes - 1) _ _
-fair_rounds count tables n cause o (part_last_idle from round part parts idle a all) = results_fair count tables n 1 (n.nodes - 1) _ _
-fair_rounds count tables n cause o _ = tt
+rounds_fit : (count : ℕ) (tables : Tables) (n : Node) (cause : Cause) (o : Outcome) → Rounds n cause o → Sent tables o
+rounds_fit count tables n cause o (comes_away part other fits) = (tt, tt)
+rounds_fit count tables n cause o (comes_last part parts first fits all) = results_fit count tables n 1 (n.nodes - 1) _ _
+rounds_fit count tables n cause o (part_last from round part parts mine k e a all) = results_fit count tables n 1 (n.nodes - 1) _ _
+rounds_fit count tables n cause o (part_last_idle from round part parts idle a all) = results_fit count tables n 1 (n.nodes - 1) _ _
+rounds_fit count tables n cause o _ = tt
 
-pub fair_deed : (i count : ℕ) (tables : Tables) (n : Node) (cause : Cause) (o : Outcome) → Deed n cause o → IsFromNode count cause → Sends i count n tables → Sent tables o
-fair_deed i count tables n cause o (copies d) g f = fair_copies i count tables n cause o d g f
-fair_deed i count tables n cause o (lives d) g f = fair_lives i count tables n cause o d f
-fair_deed i count tables n cause o (rounds d) g f = fair_rounds count tables n cause o d
-fair_deed i count tables n cause o _ g f = tt
+pub mail_of_deed : (i count : ℕ) (tables : Tables) (n : Node) (cause : Cause) (o : Outcome) → Deed n cause o → IsFromNode count cause → Sends i count n tables → Sent tables o
+mail_of_deed i count tables n cause o (copies d) g f = copies_fit i count tables n cause o d g f
+mail_of_deed i count tables n cause o (lives d) g f = lives_fit i count tables n cause o d f
+mail_of_deed i count tables n cause o (rounds d) g f = rounds_fit count tables n cause o d
+mail_of_deed i count tables n cause o _ g f = tt

@@ -53,16 +53,6 @@ pub run_then : (me : ℕ) (g h k : Region) → Run me g h → Run me h k → Run
 run_then me g h k done s = s
 run_then me g h k (next {h = between} e r) s = next e (run_then me between h k r s)
 
--- what is taken out by its place is taken out
-took_behind : {A : Type 0} (x : A) (xs : List A) (t : Taken A) (o : Option (Taken A)) → behind x o ≡ Some t → ((u : Taken A) → o ≡ Some u → Took u.taken xs u.rest) → Took t.taken (x ∷ xs) t.rest
-took_behind x xs t None e h = cc
-took_behind x xs t (Some u) e h = let same : record { taken = u.taken; rest = x ∷ u.rest } ≡ t = cc in subst (λ (v : Taken _). Took v.taken (x ∷ xs) v.rest) same (there (h u refl))
-
-pub took_out : {A : Type 0} (place : ℕ) (xs : List A) (t : Taken A) → take_out place xs ≡ Some t → Took t.taken xs t.rest
-took_out place [] t e = cc
-took_out zero (x ∷ xs) t e = let same : record { taken = x; rest = xs } ≡ t = cc in subst (λ (u : Taken _). Took u.taken (x ∷ xs) u.rest) same here
-took_out (suc place) (x ∷ xs) t e = took_behind x xs t (take_out place xs) e (λ u w. took_out place xs u w)
-
 pub took_left : {A : Type 0} {x : A} {xs ys : List A} (zs : List A) → Took x xs ys → Took x (xs ++ zs) (ys ++ zs)
 took_left zs here = here
 took_left zs (there t) = there (took_left zs t)

@@ -11,7 +11,7 @@ use Rattle.crl_protocol.specs.Sectioning.{copy_bytes}
 use Rattle.crl_protocol.specs.Node.{Node, is_mine, home_of}
 use Rattle.crl_protocol.specs.World.{World}
 use Rattle.crl_flight.specs.Flight.{Under}
-use Rattle.crl_coherence.specs.Coherent.{section_at, bytes_at_node}
+use Rattle.crl_coherence.specs.Coherent.{node_section, bytes_at_node}
 use Rattle.crl_regions.specs.MailFits.{HasTable}
 use Rattle.crl_regions.specs.View.{side, table_of, table_or_blank, view}
 use Rattle.crl_regions.proofs.Acts.{expected}
@@ -36,7 +36,7 @@ side_section size None = refl
 side_section size (Some r) = refl
 
 pub section_noted : (w : World) (arrays : Name → List ℕ) (us : List Under) (array : List ℕ) (messages : List Message) (i : ℕ) (q : Name) → AllNodesHold w arrays us
-    → section_at q.home (view q array messages w) i ≡ sections.section_at q (w.nodes i).sections
+    → node_section q.home (view q array messages w) i ≡ sections.section_at q (w.nodes i).sections
 section_noted w arrays us array messages i q k = go (i == q.home) refl
   where
     g : Home

@@ -155,7 +155,7 @@ is_open (Some x) r (Some m) e (len, open_now) w = let closed = ap is_closed w in
 is_open (Some x) r None e f w = absurd f
 is_open None r m e f w = cc
 
-carried_section : (me : ℕ) (c k : Region) (n : ℕ) → IsCarried c k → region.section_at me c n ≡ region.section_at me k n
+carried_section : (me : ℕ) (c k : Region) (n : ℕ) → IsCarried c k → region.node_section me c n ≡ region.node_section me k n
 carried_section me c k n x = ap (λ (h : Home). if n == me then h.mine else (c.remotes n).here) x.home ∙ ap (λ (r : Remote). if n == me then k.home.mine else r.here) (x.remotes n)
 
 abbrev pub Shows : World → (Name → List ℕ) → Type 0

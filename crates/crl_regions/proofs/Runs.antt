@@ -24,7 +24,6 @@ use Rattle.crl_regions.proofs.Acts.{expected, CountFits}
 use Rattle.crl_regions.proofs.Addressed.{AddressesAt, PlainSent, addressed_local, addressed_start}
 use Rattle.crl_regions.proofs.Asking.{WaitsAsking}
 use Rattle.crl_regions.proofs.MappedOrCached.{IsMappedOrCached}
-use Rattle.crl_regions.proofs.Moves.{took_out}
 use Rattle.crl_regions.proofs.Lift.{run_of}
 use Rattle.crl_regions.proofs.Carried.{table_carried, boxes_move, carried_run, arrived_all}
 use Rattle.crl_regions.proofs.AllNodesHold.{AllNodesHold}
@@ -32,7 +31,7 @@ use Rattle.crl_regions.proofs.Steps.{all_grown}
 use Rattle.crl_regions.proofs.Records.{Shows, records_show, records_turn}
 use Rattle.crl_regions.proofs.Sections.{no_table as no_home}
 use Rattle.crl_regions.proofs.Events.{StepKeeps, GoneOn, nothing_on, is_freed, call_on, collect_on, handle_on}
-use Rattle.crl_deeds.proofs.Laws.{fits_start, fits_event, all_took, turn_of, turn_count, held_turn}
+use Rattle.crl_deeds.proofs.Laws.{fits_start, fits_event, all_took, turn_of, turn_count, held_turn, took_at}
 use Rattle.crl_deeds.specs.Turns.{Held, HeldOut}
 
 carry_on : (w : World) (arrays : Name → List ℕ) (us : List Under) (i place : ℕ) (e : Event) (t : Taken Piece) → i < w.count → take_out place (w.nodes i).outbox ≡ Some t → AllNodesHold w arrays us
@@ -64,7 +63,7 @@ carry_on w arrays us i place e t few out k keeps = record {
     was q h there = sym (table_carried q i e t w q.home) ∙ there
 
     less : t.taken.message.addressee < w.count
-    less = (all_took (HeldOut (PlainSent w.count)) (took_out place (w.nodes i).outbox t out) (k.addressed i).outbox).0.1.0.addressee
+    less = (all_took (HeldOut (PlainSent w.count)) (took_at place (w.nodes i).outbox t out) (k.addressed i).outbox).0.1.0.addressee
 
     ran : (q : Name) (h : Home) → GoesOn q.home (sight q h w.nodes (messages_of us) (arrays q)) (sight q h v.nodes (messages_of us) (arrays q))
     ran q h = carried_run q h (arrays q) (messages_of us) i e t w
@@ -113,8 +112,8 @@ nothing_boxed : (i k count capacity : ℕ) → boxes_from i k (new_node count ca
 nothing_boxed i zero count capacity = refl
 nothing_boxed i (suc k) count capacity = nothing_boxed (i + 1) k count capacity
 
-pub whole_start : (count capacity : ℕ) → AllNodesHold (new_world count capacity) (λ q. []) []
-whole_start count capacity = record {
+pub all_start : (count capacity : ℕ) → AllNodesHold (new_world count capacity) (λ q. []) []
+all_start count capacity = record {
   fits = fits_start count capacity;
   agrees = λ i q. ap (λ o. expected o None) (nothing_there count capacity i q);
   counts = λ i q. tt;
@@ -169,7 +168,7 @@ run_on w arrays (e ∷ es) h k =
     run_on (step e w).world (λ q. array_after q e w (arrays q)) es h.1 (record { under = g.under; whole = g.whole; shown = shown_on w arrays _ k.under e h.0 k.whole g k.shown })
 
 pub nodes_hold : (count capacity : ℕ) (run : List Event) → IsRunFrom (new_world count capacity) run → NodesHold (world_of count capacity run) (λ q. array_of q count capacity run)
-nodes_hold count capacity run r = run_on (new_world count capacity) (λ q. []) run r (record { under = []; whole = whole_start count capacity; shown = λ i q r e. absurd (cc) })
+nodes_hold count capacity run r = run_on (new_world count capacity) (λ q. []) run r (record { under = []; whole = all_start count capacity; shown = λ i q r e. absurd (cc) })
 
 count_stays : (es : List Event) (w : World) → IsRunFrom w es → (world_after w es).count ≡ w.count
 count_stays [] w r = refl
@@ -194,7 +193,7 @@ with_regions w us arrays before k h = let x = k.whole in record {
 }
 
 pub regions_start : (count capacity : ℕ) → RegionsHold (new_world count capacity) [] (λ q. [])
-regions_start count capacity = holds _ _ _ (whole_start count capacity) (λ i q r e. absurd (cc))
+regions_start count capacity = holds _ _ _ (all_start count capacity) (λ i q r e. absurd (cc))
 
 pub regions_step : AfterRuns EventsKeepRegions
 regions_step count capacity run r e may us arrays h =

@@ -27,6 +27,7 @@ use Rattle.crl_regions.specs.View.{mail_in, other_end, flown, flying, side, sigh
 use Rattle.crl_regions.proofs.Acts.{about_here}
 use Rattle.crl_regions.specs.MailFits.{Tables, HasTable, FitsTables, MailFits, AllMailFits}
 use Rattle.crl_regions.proofs.Messages.{Passes}
+use Rattle.crl_deeds.proofs.Laws.{all_took}
 
 -- What the mail of a message with bytes is.
 abbrev pub LoadMail : Load → ℕ → Mail → Type 0
@@ -154,10 +155,6 @@ pub took_message : {u : Under} {us others : List Under} → Took u us others →
 took_message here = here
 took_message (there t) = there (took_message t)
 
-all_of_took : {A : Type 0} (P : A → Type 0) {x : A} {xs ys : List A} → Took x xs ys → AllByRecursion P xs → P x × AllByRecursion P ys
-all_of_took P here h = h
-all_of_took P (there t) h = let u = all_of_took P t h.1 in (u.0, (h.0, u.1))
-
 all_by_took : {A : Type 0} (P : A → Type 0) (xs : List A) → ((x : A) (rest : List A) → Took x xs rest → P x) → AllByRecursion P xs
 all_by_took P [] h = tt
 all_by_took P (x ∷ xs) h = (h x xs here, all_by_took P xs (λ y rest t. h y (x ∷ rest) (there t)))
@@ -179,7 +176,7 @@ alone_in nodes tables arrays us fair coherent u others t key e =
     all_by_took (λ v. is_at u.message.addressee key v ≡ false) others (λ v rest s. not_true (is_at u.message.addressee key v) (λ w. both v rest s w))
   where
     parts : MailFits tables u.message × AllMailFits tables (messages_of others)
-    parts = all_of_took (MailFits tables) (took_message t) fair
+    parts = all_took (MailFits tables) (took_message t) fair
 
     one : KeyFacts tables u.message key
     one = key_facts tables u.message key u.message.kind refl e parts.0
@@ -190,7 +187,7 @@ alone_in nodes tables arrays us fair coherent u others t key e =
     both : (v : Under) (rest : List Under) → Took v others rest → is_at u.message.addressee key v ≡ true → ⊥
     both v rest s w =
         let h = and_parts (v.message.addressee == u.message.addressee) (is_key key (key_of v.message)) w in
-        let two = key_facts tables v.message key v.message.kind refl (key_is key (key_of v.message) h.1) (all_of_took (MailFits tables) (took_message s) parts.1).0 in
+        let two = key_facts tables v.message key v.message.kind refl (key_is key (key_of v.message) h.1) (all_took (MailFits tables) (took_message s) parts.1).0 in
         let same : other_end key.name v.message ≡ n = end_same key.name v.message u.message (sym two.sender ∙ one.sender) (eqb-true v.message.addressee u.message.addressee h.0) in
         clash key.name.home (sight key.name one.there.0 nodes (messages_of us) (arrays key.name)) n key.version key.load one.mail two.mail
         (find_all (flying key.name) (messages_of others)) (find_all (flying key.name) (messages_of rest)) (coherent key.name one.there.0 one.there.1) one.other one.load two.load

@@ -52,25 +52,25 @@ told_grown told.Deleted q before after g s = tt
 table_grown : (q : Name) (before after : Tables) → Grows before after → HasTable (before q) → HasTable (after q)
 table_grown q before after g t = let k = g q t.0 t.1 in (k.0, k.1)
 
-pub fair_grown : (before after : Tables) (from to : ℕ) (k : Kind) → Grows before after → FitsTables before from to k → FitsTables after from to k
-fair_grown before after from to (kind.Ask name write have) g f = (f.0, f.1, table_grown name before after g f.2)
-fair_grown before after from to (kind.Grant name version granted) g f = (f.0, f.1, table_grown name before after g f.2)
-fair_grown before after from to (kind.Recall name version) g f = (f.0, f.1, table_grown name before after g f.2)
-fair_grown before after from to (kind.Yield name version) g f = (f.0, f.1, table_grown name before after g f.2)
-fair_grown before after from to (kind.Return name version bytes) g f = (f.0, f.1, table_grown name before after g f.2)
-fair_grown before after from to (kind.Release name version bytes) g f = (f.0, f.1, table_grown name before after g f.2)
-fair_grown before after from to (kind.InfoIs name t) g f = told_grown t name before after g f
-fair_grown before after from to (kind.InfoAsk name) g f = tt
-fair_grown before after from to (kind.DeleteAsk name) g f = tt
-fair_grown before after from to (kind.DeleteIs name t) g f = tt
-fair_grown before after from to (kind.Purge name) g f = tt
-fair_grown before after from to (kind.Purged name) g f = tt
-fair_grown before after from to (kind.Come round part) g f = tt
-fair_grown before after from to (kind.Result round fold) g f = tt
+pub mail_grown : (before after : Tables) (from to : ℕ) (k : Kind) → Grows before after → FitsTables before from to k → FitsTables after from to k
+mail_grown before after from to (kind.Ask name write have) g f = (f.0, f.1, table_grown name before after g f.2)
+mail_grown before after from to (kind.Grant name version granted) g f = (f.0, f.1, table_grown name before after g f.2)
+mail_grown before after from to (kind.Recall name version) g f = (f.0, f.1, table_grown name before after g f.2)
+mail_grown before after from to (kind.Yield name version) g f = (f.0, f.1, table_grown name before after g f.2)
+mail_grown before after from to (kind.Return name version bytes) g f = (f.0, f.1, table_grown name before after g f.2)
+mail_grown before after from to (kind.Release name version bytes) g f = (f.0, f.1, table_grown name before after g f.2)
+mail_grown before after from to (kind.InfoIs name t) g f = told_grown t name before after g f
+mail_grown before after from to (kind.InfoAsk name) g f = tt
+mail_grown before after from to (kind.DeleteAsk name) g f = tt
+mail_grown before after from to (kind.DeleteIs name t) g f = tt
+mail_grown before after from to (kind.Purge name) g f = tt
+mail_grown before after from to (kind.Purged name) g f = tt
+mail_grown before after from to (kind.Come round part) g f = tt
+mail_grown before after from to (kind.Result round fold) g f = tt
 
 pub all_grown : (before after : Tables) (ms : List Message) → Grows before after → AllMailFits before ms → AllMailFits after ms
 all_grown before after [] g f = tt
-all_grown before after (m ∷ ms) g f = (fair_grown before after m.sender m.addressee m.kind g f.0, all_grown before after ms g f.1)
+all_grown before after (m ∷ ms) g f = (mail_grown before after m.sender m.addressee m.kind g f.0, all_grown before after ms g f.1)
 
 -- Of a region that isn't there no mail is under way.
 quiet_if : (tables : Tables) (name q : Name) (mail : Mail) → tables q ≡ None → HasTable (tables name) → if_about (name_eq name q) mail ≡ None
@@ -133,12 +133,12 @@ own_live : (b : Bool) (v : Seen) → OwnFits b v → LiveFits v.stage v.home
 own_live true v own = own.live
 own_live false v own = subst (λ s. LiveFits s v.home) (sym own.unknown) tt
 
-pub whole_stepped : (w : World) (arrays : Name → List ℕ) (i : ℕ) (e : Event) (inbox : List Piece) (parcels : PartsGathered) (us left : List Under) (o : Outcome) (came : Name → Option Flying) (written : Name → Option (List ℕ))
+pub all_stepped : (w : World) (arrays : Name → List ℕ) (i : ℕ) (e : Event) (inbox : List Piece) (parcels : PartsGathered) (us left : List Under) (o : Outcome) (came : Name → Option Flying) (written : Name → Option (List ℕ))
     → AllNodesHold w arrays us → StepFits w i e inbox parcels us left o came written
     → AllNodesHold (steps_node i e o w).world (λ q. bytes_after (written q) (arrays q)) (left ++ map posted o.posts)
     × ((q : Name) (h : Home) → table_of q w ≡ Some h → Lifted q i (came q) w.nodes (steps_node i e o w).world.nodes (messages_of us) (messages_of (left ++ map posted o.posts)) h (arrays q) (bytes_after (written q) (arrays q)))
     × ((q : Name) (h : Home) → table_of q w ≡ None → table_of q (steps_node i e o w).world ≡ Some h → (size : ℕ) × (created w.count size (λ j. size) ≡ sight q h (steps_node i e o w).world.nodes (messages_of (left ++ map posted o.posts)) (bytes_after (written q) (arrays q))))
-whole_stepped w arrays i e inbox parcels us left o came written k x = (
+all_stepped w arrays i e inbox parcels us left o came written k x = (
   record {
     fits = x.fits;
     agrees = of_node w.nodes i m (λ j n. (q : Name) → expected (home_of n q) (n.remotes q) ≡ section_at q n.sections) (λ q. agrees_now q (x.acts q)) (λ j other. k.agrees j);

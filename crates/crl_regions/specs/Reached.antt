@@ -43,7 +43,7 @@ EventsKeepRegions w = (e : Event) → is_enabled e w ≡ true → (us : List Und
 
 -- the sections that a node notes are those that the region's tables say are open there
 abbrev pub SectionsAreTheTables : World → Type 0
-SectionsAreTheTables w = (i : ℕ) (name : Name) (array : List ℕ) (messages : List Message) → region.section_at name.home (view name array messages w) i ≡ section_at name (w.nodes i).sections
+SectionsAreTheTables w = (i : ℕ) (name : Name) (array : List ℕ) (messages : List Message) → region.node_section name.home (view name array messages w) i ≡ section_at name (w.nodes i).sections
 
 -- while a node's section of a region is open to write, no other node has a section of it open
 abbrev pub WriteSectionsAreAlone : World → Type 0
