@@ -27,19 +27,20 @@ use Rattle.crl_coherence.proofs.Laws.{grant_opens, asked_quiet}
 use Rattle.crl_coherence.proofs.Laws.{return_opens, release_opens}
 use Rattle.crl_regions.specs.MailFits.{HasSize, FitsTables, MailFits, AllMailFits}
 use Rattle.crl_regions.specs.View.{UnderWay, mail_in, flown, flying, side, sight, table_of, tables_of}
-use Rattle.crl_regions.proofs.Acts.{expected, CountFits, about_here, home_is}
+use Rattle.crl_regions.proofs.Acts.{expected, about_here, home_is}
 use Rattle.crl_regions.proofs.Sections.{Local}
 use Rattle.crl_regions.proofs.MappedOrCached.{IsMappedOrCached}
 use Rattle.crl_regions.proofs.Addressed.{Addressed}
 use Rattle.crl_regions.proofs.Asking.{WaitsAsking}
 use Rattle.crl_regions.proofs.Messages.{Passes}
 use Rattle.crl_deeds.specs.NodeFacts.{AskingFits, Fits}
+use Rattle.crl_deeds.specs.Counts.{SectionsFit}
 
 -- us is what is under way, and the arrays are the bytes of each region in the single machine.
 pub record AllNodesHold (w : World) (arrays : Name → List ℕ) (us : List Under) : Type 0 where
   pub fits : (i : ℕ) → Fits i (w.nodes i)
   pub agrees : (i : ℕ) (q : Name) → expected (home_of (w.nodes i) q) ((w.nodes i).remotes q) ≡ section_at q (w.nodes i).sections
-  pub counts : (i : ℕ) (q : Name) → CountFits (section_at q (w.nodes i).sections)
+  pub sections : (i : ℕ) → SectionsFit (w.nodes i)
   pub cached : (i : ℕ) → IsMappedOrCached (w.nodes i)
   pub addressed : Addressed w
   pub asks : (i : ℕ) → WaitsAsking (w.nodes i)
@@ -52,7 +53,7 @@ pub local : (w : World) (arrays : Name → List ℕ) (us : List Under) (i : ℕ)
 local w arrays us i k = record {
   fits = k.fits i;
   agrees = k.agrees i;
-  counts = k.counts i;
+  reads = (k.sections i).each;
   cached = (k.cached i).cached;
   held = (k.cached i).held;
 }

@@ -19,7 +19,7 @@ use Rattle.crl_coherence.specs.Region as region
 use Rattle.crl_coherence.specs.Region.{Flying, Region, Happens, at_home, at_remote, IsIdle}
 use Rattle.crl_regions.specs.View.{left_if, left_in}
 use Rattle.crl_regions.proofs.Opened.{ended, read_ended, write_ended, read_left, write_left, flushes_same, noted_ended, ended_other}
-use Rattle.crl_regions.proofs.Acts.{expected, CountFits, Comes, Acts, home_is, home_here, home_there, moved_here, moved_there, forgotten_here}
+use Rattle.crl_regions.proofs.Acts.{expected, Comes, Acts, home_is, home_here, home_there, moved_here, moved_there, forgotten_here}
 use Rattle.crl_regions.proofs.Sections.{Local, idle_of, free_idle, free_asks, away, mine_is, here_is, home_event, side_event, reading_of, writing_of}
 use Rattle.crl_deeds.proofs.Laws.{by_name, name_self, home_bytes, remote_bytes, queue_of, asking_of, mapped_home, mapped_remote, read_goes, write_goes, read_ends, write_ends, flushes_goes, open_size}
 use Rattle.crl_deeds.specs.NodeFacts.{NoOwn, Fits}
@@ -33,20 +33,20 @@ SideEnds name i r s written = (g : Region) (rest : List Flying) → g.remotes i 
     → Happens name.home g (record (at_remote i s rest g) { array = bytes_after written g.array })
 
 home_ends : (K : Name → ℕ → Type 0) (i : ℕ) (n : Node) (name : Name) (h : Home) (s : HomeStep) (written : Bool → Option (List ℕ)) → written false ≡ None → home_of n name ≡ Some h
-    → s.home.size ≡ h.size → s.home.mine ≡ ended (section_at name n.sections) → CountFits (ended (section_at name n.sections)) → HomeEnds name h s (written true)
+    → s.home.size ≡ h.size → s.home.mine ≡ ended (section_at name n.sections) → HomeEnds name h s (written true)
     → (q : Name) → Acts K q i None (written (name_eq name q)) n (with_home name s.home (closes name n)) (letter_messages n name s.posts)
-home_ends K i n name h s written none e size mine count happens =
+home_ends K i n name h s written none e size mine happens =
     by_name name (λ b q. Acts K q i None (written b) n (with_home name s.home (closes name n)) (letter_messages n name s.posts))
-    (home_here K name i None (written true) n _ h s e refl refl size (mine ∙ sym (noted_ended name n.sections)) (subst (λ x. CountFits x) (sym (noted_ended name n.sections)) count) happens)
+    (home_here K name i None (written true) n _ h s e refl refl size (mine ∙ sym (noted_ended name n.sections)) happens)
     (λ q other. subst (λ x. Acts K q i None x n (with_home name s.home (closes name n)) (letter_messages n name s.posts)) (sym none) (home_there K name q i n _ h s e refl refl (ended_other name q n.sections other) other))
 
 side_moves : (K : Name → ℕ → Type 0) (i : ℕ) (n : Node) (x : Sections) (name : Name) (r : Remote) (s : RemoteStep) (written : Bool → Option (List ℕ)) → written false ≡ None → n.remotes name ≡ Some r
-    → n.me ≡ i → (i == name.home) ≡ false → s.remote.here ≡ section_at name x → CountFits (section_at name x) → ((q : Name) → name_eq name q ≡ false → section_at q x ≡ section_at q n.sections) → s.remote.size ≡ r.size
+    → n.me ≡ i → (i == name.home) ≡ false → s.remote.here ≡ section_at name x → ((q : Name) → name_eq name q ≡ false → section_at q x ≡ section_at q n.sections) → s.remote.size ≡ r.size
     → SideEnds name i r s (written true)
     → (q : Name) → Acts K q i None (written (name_eq name q)) n (with_remote name (Some s.remote) (record n { sections = x })) (mail_messages n name s.posts)
-side_moves K i n x name r s written none e me other_home here count others size happens =
+side_moves K i n x name r s written none e me other_home here others size happens =
     by_name name (λ b q. Acts K q i None (written b) n (with_remote name (Some s.remote) (record n { sections = x })) (mail_messages n name s.posts))
-    (moved_here K name i None (written true) n _ r s e (cond-true (name_eq name name) _ _ (name_self name)) refl me other_home here count size happens)
+    (moved_here K name i None (written true) n _ r s e (cond-true (name_eq name name) _ _ (name_self name)) refl me other_home here size happens)
     (λ q other. subst (λ w. Acts K q i None w n (with_remote name (Some s.remote) (record n { sections = x })) (mail_messages n name s.posts)) (sym none)
     (moved_there K name q i n _ s.posts (cond-false (name_eq name q) _ _ other) refl (others q other) other))
 
@@ -58,13 +58,7 @@ home_idle i n name h e free f =
     let none = free_idle n.me name h n.activity free (queue_of i n name h e f) in
     (me, none, λ g at_h. subst (λ k. IsIdle k g.home.queue) me (subst (λ (x : Home). IsIdle n.me x.queue) (sym at_h) (idle_of n.me h.queue none)))
 
--- A section ends. One to read was counted, and one to write has the region's size.
-less_fits : (count : ℕ) (s : Section) → s ≡ section.Reading (count + 1) → CountFits s → CountFits (ended s)
-less_fits count s e few =
-    let less : CountFits (one_section_less (section.Reading (count + 1))) =
-    cond_both (count + 1 == 1) section.Closed (section.Reading (count + 1 - 1)) CountFits (λ w. tt) (λ w. let f : count + 1 < 2 ^ 32 = subst (λ x. CountFits x) e few in omega arith) in
-    subst (λ x. CountFits (ended x)) (sym e) less
-
+-- A section to write has the region's size.
 size_of_open : (i : ℕ) (n : Node) (name : Name) → section_at name n.sections ≡ section.Writing → Fits i n → (k : Mapping) × (n.maps name ≡ Some k) × (length (bytes_at name n.sections) ≡ k.size)
 size_of_open i n name writing f = open_size (n.sections.records name) (n.maps name) (ap is_writing writing) (f.each name).sections
 
@@ -75,7 +69,6 @@ end_home K i n c name w ends lowers h (a_read q0 v) may e free l =
     let idle = home_idle i n name h e free l.fits in
     let mine : h.mine ≡ section.Reading (reading.0 + 1) = mine_is i n name h e l ∙ reading.1 in
     home_ends K i n name h (home_ends_read n.me h) (λ b. None) refl e (read_goes n.me h (home_bytes i n name h e l.fits)).size (read_ended n.me h idle.1 ∙ ap one_section_less mine ∙ sym (ap ended reading.1))
-    (less_fits reading.0 (section_at name n.sections) reading.1 (l.counts name))
     (λ g rest at_g comes. home_event n.me name.home h (λ k x. home_ends_read k x) g rest g.array idle.0 at_g
     (subst (λ x. Happens name.home g (at_home (home_ends_read name.home g.home) x g)) (sym comes) (region.home_end_read reading.0 (ap (λ (x : Home). x.mine) at_g ∙ mine) (idle.2 g at_g))))
 end_home K i n c name w ends lowers h (a_write q0 after v) may e free l =
@@ -84,7 +77,7 @@ end_home K i n c name w ends lowers h (a_write q0 after v) may e free l =
     let idle = home_idle i n name h e free l.fits in
     let mine : h.mine ≡ section.Writing = mine_is i n name h e l ∙ writing in
     let sized : length after ≡ h.size = eqb-true _ _ may ∙ size.2 ∙ mapped_home i n name h size.0 e size.1 l.fits in
-    home_ends K i n name h (home_ends_write n.me after h) (λ b. left_if b None after) refl e (write_goes n.me after h sized).size (write_ended n.me after h idle.1 ∙ sym (ap ended writing)) (subst (λ x. CountFits (ended x)) (sym writing) tt)
+    home_ends K i n name h (home_ends_write n.me after h) (λ b. left_if b None after) refl e (write_goes n.me after h sized).size (write_ended n.me after h idle.1 ∙ sym (ap ended writing))
     (λ g rest at_g comes. home_event n.me name.home h (λ k x. home_ends_write k after x) g rest after idle.0 at_g
     (subst (λ x. Happens name.home g (record (at_home (home_ends_write name.home after g.home) x g) { array = after })) (sym comes)
     (region.home_end_write after (ap (λ (x : Home). x.mine) at_g ∙ mine) (idle.2 g at_g) (sized ∙ sym (ap (λ (x : Home). x.size) at_g)))))
@@ -96,7 +89,7 @@ end_side K i n c name w ends lowers r (a_read q0 v) may e l =
     let other_home = away i n name r e l.fits in
     let here : r.here ≡ section.Reading (reading.0 + 1) = here_is i n name r e l ∙ reading.1 in
     side_moves K i n (section_ends name n.sections) name r (remote_ends_read r) (λ b. None) refl e l.fits.me other_home (read_left r ∙ ap one_section_less here ∙ sym (ap ended reading.1) ∙ sym (noted_ended name n.sections))
-    (subst (λ x. CountFits x) (sym (noted_ended name n.sections)) (less_fits reading.0 (section_at name n.sections) reading.1 (l.counts name))) (λ q other. ended_other name q n.sections other) (read_ends r (remote_bytes i n name r e l.fits)).size
+    (λ q other. ended_other name q n.sections other) (read_ends r (remote_bytes i n name r e l.fits)).size
     (λ g rest at_g sized comes. side_event name.home i r (λ x. remote_ends_read x) g rest g.array at_g
     (subst (λ x. Happens name.home g (at_remote i (remote_ends_read (g.remotes i)) x g)) (sym comes) (region.end_read i reading.0 (eqb-false i name.home other_home) (ap (λ (x : Remote). x.here) at_g ∙ here))))
 end_side K i n c name w ends lowers r (a_write q0 after v) may e l =
@@ -106,7 +99,7 @@ end_side K i n c name w ends lowers r (a_write q0 after v) may e l =
     let here : r.here ≡ section.Writing = here_is i n name r e l ∙ writing in
     let long = eqb-true _ _ may ∙ size.2 ∙ mapped_remote i n name r size.0 e size.1 l.fits in
     side_moves K i n (section_ends name n.sections) name r (remote_ends_write after r) (λ b. left_if b None after) refl e l.fits.me other_home (write_left after r ∙ sym (ap ended writing) ∙ sym (noted_ended name n.sections))
-    (subst (λ x. CountFits x) (sym (noted_ended name n.sections)) (subst (λ x. CountFits (ended x)) (sym writing) tt)) (λ q other. ended_other name q n.sections other) (write_ends after r long).size
+    (λ q other. ended_other name q n.sections other) (write_ends after r long).size
     (λ g rest at_g sized comes. side_event name.home i r (λ x. remote_ends_write after x) g rest after at_g
     (subst (λ x. Happens name.home g (record (at_remote i (remote_ends_write after (g.remotes i)) x g) { array = after })) (sym comes)
     (region.end_write i after (eqb-false i name.home other_home) (ap (λ (x : Remote). x.here) at_g ∙ here) (long ∙ sized))))
@@ -131,7 +124,7 @@ flush_side K i n name r e closed free l =
     let here : r.here ≡ section.Closed = here_is i n name r e l ∙ is_closed_at _ closed in
     let idle = free_asks name r n.activity free (asking_of i n name r e l.fits) in
     let other_home = away i n name r e l.fits in
-    side_moves K i n n.sections name r (remote_flushes r) (λ b. None) refl e l.fits.me other_home (flushes_same r ∙ here_is i n name r e l) (l.counts name) (λ p other. refl) (flushes_goes r (remote_bytes i n name r e l.fits)).size
+    side_moves K i n n.sections name r (remote_flushes r) (λ b. None) refl e l.fits.me other_home (flushes_same r ∙ here_is i n name r e l) (λ p other. refl) (flushes_goes r (remote_bytes i n name r e l.fits)).size
     (λ g rest at_g sized comes. side_event name.home i r (λ x. remote_flushes x) g rest g.array at_g
     (subst (λ x. Happens name.home g (at_remote i (remote_flushes (g.remotes i)) x g)) (sym comes)
     (region.flush i (eqb-false i name.home other_home) (ap (λ (x : Remote). x.here) at_g ∙ here) (ap (λ (x : Remote). x.asking) at_g ∙ idle))))

@@ -46,6 +46,7 @@ use Rattle.crl_regions.proofs.Steps.{StepFits, all_stepped}
 use Rattle.crl_deeds.proofs.Laws.{call_deed, message_deed, deed_frame, all_took, took_at}
 use Rattle.crl_deeds.specs.NodeFacts.{seen, OwnFits, Fits, ComesIn}
 use Rattle.crl_deeds.specs.Turns.{Frame, HeldIn}
+use Rattle.crl_deeds.specs.Counts.{SectionsFit}
 
 -- what is known of all nodes after an event, and what the event was of a region that was there, and of one that wasn't
 pub record GoneOn (w v : World) (us : List Under) (arrays left : Name → List ℕ) : Type 0 where
@@ -80,7 +81,7 @@ stays_flying w i us f =
 
 -- Node i takes a step from n on: what holds of each node by itself.
 abbrev pub StepKeeps : World → Type 0
-StepKeeps v = ((j : ℕ) → Fits j (v.nodes j)) × Addressed v
+StepKeeps v = ((j : ℕ) → Fits j (v.nodes j)) × Addressed v × ((j : ℕ) → SectionsFit (v.nodes j))
 
 pub call_on : (w : World) (arrays : Name → List ℕ) (us : List Under) (i : ℕ) (e : Event) (c : Call) → i < w.count → (w.nodes i).activity ≡ Free → is_call (w.nodes i) c (verdict (w.nodes i) c) ≡ true → AllNodesHold w arrays us
     → StepKeeps (steps_node i e (node_calls c (w.nodes i)) w).world → GoneOn w (steps_node i e (node_calls c (w.nodes i)) w).world us arrays (λ q. array_after q (event.Call i c) w (arrays q))
@@ -90,6 +91,7 @@ call_on w arrays us i e c few free may k keeps =
       few = few;
       fits = keeps.0;
       addressed = keeps.1;
+      sections = keeps.2;
       asks = asks_deed i (w.nodes i) (Calls c) _ d free (local w arrays us i k) (k.asks i);
       acts = λ q. acts_call (tables_of w) i (w.nodes i) c free may (local w arrays us i k) q;
       frame = deed_frame (w.nodes i) (Calls c) _ d;
@@ -132,6 +134,7 @@ collect_on w arrays us i e few k keeps =
       few = few;
       fits = keeps.0;
       addressed = keeps.1;
+      sections = keeps.2;
       asks = asks_collected (w.nodes i) (w.nodes i).activity refl (k.asks i);
       acts = λ q. acts_collected _ i (w.nodes i) (w.nodes i).activity q;
       frame = frame_collected (w.nodes i) (w.nodes i).activity;
@@ -153,6 +156,7 @@ message_on w arrays us left i e m inbox parcels few k to from_few fitted took fl
       few = few;
       fits = keeps.0;
       addressed = keeps.1;
+      sections = keeps.2;
       asks = asks_deed i n (Hears m.sender m.kind) _ d tt local_n (k.asks i);
       acts = λ q. subst (λ a. Acts (Known tables) q i (flying q (record { sender = m.sender; addressee = a; kind = m.kind })) None n (node_handles m.sender m.kind n).node (node_handles m.sender m.kind n).posts) (sym to)
           (acts_deed tables i n (Hears m.sender m.kind) _ d (mail_i, passes w arrays us i m inbox parcels _ k to parts.0 took) local_n q);
@@ -187,7 +191,7 @@ message_on w arrays us left i e m inbox parcels few k to from_few fitted took fl
     local_n = let l = local w arrays us i k in record {
       fits = record { me = l.fits.me; each = l.fits.each; cache = l.fits.cache; fresh = l.fits.fresh; inbox = fitted; outbox = l.fits.outbox };
       agrees = l.agrees;
-      counts = l.counts;
+      reads = l.reads;
       cached = l.cached;
       held = l.held;
     }
@@ -202,6 +206,7 @@ gathered_on w arrays us left i e inbox parcels few k same flies keeps =
       few = few;
       fits = keeps.0;
       addressed = keeps.1;
+      sections = keeps.2;
       asks = k.asks i;
       acts = λ q. nothing refl refl refl refl refl refl;
       frame = record { me = refl; nodes = refl; capacity = refl; inbox = refl; outbox = refl; parcels = refl };

@@ -77,7 +77,7 @@ lift K q i before after n m bb ba posts rest came written h array o there sized 
       finish q.home g g k elsewhere refl (λ j. sym (ap (λ x. side h.size x) (remotes_stay q i before after n m o f j))) (sym (ap (λ w. bytes_after w array) unwritten))
       (subst (λ l. Moves l k.flight) (ap (λ l. rest ++ l) p ∙ append_nil rest ∙ stays) moves);
 }
-lift K q i before after n m bb ba posts rest came written h array o there sized comes moves (home_acts h0 s e f size same p o1 o2 happens) = record {
+lift K q i before after n m bb ba posts rest came written h array o there sized comes moves (home_acts h0 s e f size same p o1 happens) = record {
   home = s.home;
   there = subst (λ j. home_of (after j) q ≡ Some s.home) (sym at_home) (o.home_after ∙ f);
   size = size ∙ ap (λ (x : Home). x.size) (sym table);
@@ -92,7 +92,7 @@ lift K q i before after n m bb ba posts rest came written h array o there sized 
 
     table : h ≡ h0
     table = let both : Some h ≡ Some h0 = sym there ∙ subst (λ j. home_of (before j) q ≡ home_of n q) (sym at_home) o.home_before ∙ e in cc
-lift K q i before after n m bb ba posts rest came written h array o there sized comes moves (side_acts r mails z e f p o1 o2 known happens) = record {
+lift K q i before after n m bb ba posts rest came written h array o there sized comes moves (side_acts r mails z e f p o1 known happens) = record {
   home = h;
   there = home_stays q i before after n m o e ∙ there;
   size = refl;

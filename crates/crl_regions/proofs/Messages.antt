@@ -27,7 +27,7 @@ use Rattle.crl_coherence.specs.Region as region
 use Rattle.crl_coherence.specs.Region.{Flying, Region, Happens, at_home, at_remote}
 use Rattle.crl_regions.specs.View.{if_about, flown, flying, side}
 use Rattle.crl_regions.proofs.Opened.{begun, Serves, asked_serves, returned_serves, released_serves, recalled_same, yields_same, noted_begun, noted_other}
-use Rattle.crl_regions.proofs.Acts.{expected, CountFits, Comes, Acts, nothing, side_acts, absent, acts_if, home_is, away_none, home_here, home_there, moved_here, moved_there}
+use Rattle.crl_regions.proofs.Acts.{expected, Comes, Acts, nothing, side_acts, absent, acts_if, home_is, away_none, home_here, home_there, moved_here, moved_there}
 use Rattle.crl_regions.proofs.Sections.{Local, away, mine_is, here_is, home_event, side_event}
 use Rattle.crl_regions.proofs.Calls.{IsLeft, unmapped_closed}
 use Rattle.crl_deeds.proofs.Laws.{by_name, name_self, append_nil, asking_of, home_bytes, remote_bytes, asked_goes, returned_goes, released_goes, recalled_goes, yields_goes}
@@ -53,10 +53,6 @@ opened_is : (mine : Section) → (mine ≡ section.Writing) ⊎ (mine ≡ sectio
 opened_is mine (inl w) = subst (λ x. begun (is_writing x) section.Closed ≡ x) (sym w) refl
 opened_is mine (inr w) = subst (λ x. begun (is_writing x) section.Closed ≡ x) (sym w) refl
 
-opened_count : (mine : Section) → (mine ≡ section.Writing) ⊎ (mine ≡ section.Reading 1) → CountFits mine
-opened_count mine (inl w) = subst (λ x. CountFits x) (sym w) tt
-opened_count mine (inr w) = let few : 1 < 2 ^ 32 = omega arith in subst (λ x. CountFits x) (sym w) few
-
 abbrev serve_outcome : Bool → Name → HomeStep → Node → Outcome
 serve_outcome opened name s n =
     if opened then (let o = opened_at (is_writing s.home.mine) name s.home.bytes (with_home name s.home n) in record { node = becomes_ready o.answer o.node; answer = Done; entries = o.entry ∷ []; posts = letter_messages n name s.posts })
@@ -74,8 +70,8 @@ acts_served : (K : Name → ℕ → Type 0) (i : ℕ) (from : ℕ) (n : Node) (n
 acts_served K i from n name h s mail opened v e other l x =
     by_name name (λ b q. let o = serve_outcome opened name s n in Acts K q i (coming q from i b mail) None n o.node o.posts)
     (acts_if K name i (coming name from i true mail) None n opened _ _
-    (λ w. home_here K name i _ None n _ h s e refl refl x.size (sym (after (v ∙ w))) (subst (λ x. CountFits x) (sym (after (v ∙ w))) (opened_count s.home.mine (x.serves.0 (v ∙ w)))) it)
-    (λ w. home_here K name i _ None n _ h s e refl refl x.size (x.serves.1 (v ∙ w) ∙ mine) (l.counts name) it))
+    (λ w. home_here K name i _ None n _ h s e refl refl x.size (sym (after (v ∙ w))) it)
+    (λ w. home_here K name i _ None n _ h s e refl refl x.size (x.serves.1 (v ∙ w) ∙ mine) it))
     (λ q there. acts_if K q i (coming q from i false mail) None n opened _ _
     (λ w. home_there K name q i n _ h s e refl refl (noted_other (is_writing s.home.mine) name q s.home.bytes n.sections there) there)
     (λ w. home_there K name q i n _ h s e refl refl refl there))
@@ -138,7 +134,7 @@ pub acts_nowhere : (tables : Tables) (K : Name → ℕ → Type 0) (i : ℕ) (fr
     → (q : Name) → Acts K q i (coming q from i (name_eq name q) mail) None n n []
 acts_nowhere tables K i from n name mail step goes l e blank happens =
     by_name name (λ b q. Acts K q i (coming q from i b mail) None n n [])
-    (side_acts (λ size. new_remote size) [] (away_none n name i l.fits.me goes.1) refl (λ size. ap (λ o. side size o) e) refl (nowhere_closed i n name goes.1 e l) (l.counts name) (λ known r w. known r w)
+    (side_acts (λ size. new_remote size) [] (away_none n name i l.fits.me goes.1) refl (λ size. ap (λ o. side size o) e) refl (nowhere_closed i n name goes.1 e l) (λ known r w. known r w)
     (λ g rest at_g sized took. subst (λ (s : RemoteStep). Happens name.home g (at_remote i s rest g)) (ap step (at_g ∙ ap (λ o. side g.home.size o) e) ∙ blank g.home.size)
     (happens g rest (from_home tables name i from mail g.flight rest goes took))))
     (λ q other. nothing refl refl refl refl refl refl)
@@ -149,7 +145,7 @@ acts_called : (tables : Tables) (K : Name → ℕ → Type 0) (i : ℕ) (from : 
     → n.remotes name ≡ Some r → (q : Name) → Acts K q i (coming q from i (name_eq name q) mail) None n (with_remote name (Some (step r).remote) n) (mail_messages n name (step r).posts)
 acts_called tables K i from n name mail step r goes l stays size happens e =
     by_name name (λ b q. Acts K q i (coming q from i b mail) None n (with_remote name (Some (step r).remote) n) (mail_messages n name (step r).posts))
-    (moved_here K name i _ None n _ r (step r) e (cond-true (name_eq name name) _ _ (name_self name)) refl l.fits.me goes.1 (stays ∙ here_is i n name r e l) (l.counts name) size
+    (moved_here K name i _ None n _ r (step r) e (cond-true (name_eq name name) _ _ (name_self name)) refl l.fits.me goes.1 (stays ∙ here_is i n name r e l) size
     (λ g rest at_g sized took. side_event name.home i r step g rest g.array at_g (happens g rest (from_home tables name i from mail g.flight rest goes took))))
     (λ q other. moved_there K name q i n _ (step r).posts (cond-false (name_eq name q) _ _ other) refl refl other)
 
@@ -176,11 +172,6 @@ granted_here what r e = go what r.asking refl e
     go (Exclusive bytes) None a e = let k = (and_parts (asks_to_write r.asking) _ e).0 in let j = ap asks_to_write a in cc
     go Upgrade None a e = let k = (and_parts (asks_to_write r.asking) _ e).0 in let j = ap asks_to_write a in cc
 
-granted_count : (o : Option Bool) → CountFits (section_asked o)
-granted_count None = tt
-granted_count (Some true) = tt
-granted_count (Some false) = let few : 1 < 2 ^ 32 = omega arith in few
-
 pub grant_side : (tables : Tables) (K : Name → ℕ → Type 0) (i : ℕ) (from : ℕ) (n : Node) (name : Name) (version : ℕ) (what : Granted) (r : Remote) → IsFromHome tables name from i → Local i n
     → Passes from (kind.Grant name version what) n → n.remotes name ≡ Some r → grant_fits what r ≡ true
     → (q : Name) → let s = remote_takes_grant version what r in let o = opened_at (asks_to_write r.asking) name (copy_bytes s.copy) (with_remote name (Some s) n) in Acts K q i (coming q from i (name_eq name q) (Grant version what)) None n (becomes_ready o.answer o.node) []
@@ -191,7 +182,7 @@ grant_side tables K i from n name version what r goes l takes e fits q =
     let after = noted_begun (asks_to_write r.asking) name (copy_bytes s.remote.copy) n.sections ∙ ap (λ x. begun (asks_to_write r.asking) x) closed in
     let here = granted_here what r fits ∙ sym after in
     by_name name (λ b p. let o = opened_at (asks_to_write r.asking) name (copy_bytes s.remote.copy) (with_remote name (Some s.remote) n) in Acts K p i (coming p from i b (Grant version what)) None n (becomes_ready o.answer o.node) [])
-    (moved_here K name i _ None n _ r s e (cond-true (name_eq name name) _ _ (name_self name)) refl l.fits.me goes.1 here (subst (λ x. CountFits x) here (granted_count r.asking)) refl
+    (moved_here K name i _ None n _ r s e (cond-true (name_eq name name) _ _ (name_self name)) refl l.fits.me goes.1 here refl
     (λ g rest at_g sized took. side_event name.home i r (λ x. record { remote = remote_takes_grant version what x; posts = []; opened = true }) g rest g.array at_g
     (region.grant_comes i version what rest (eqb-false i name.home goes.1) (from_home tables name i from (Grant version what) g.flight rest goes took))))
     (λ p other. moved_there K name p i n _ [] (cond-false (name_eq name p) _ _ other) refl (noted_other (asks_to_write r.asking) name p (copy_bytes s.remote.copy) n.sections other) other) q
@@ -238,7 +229,7 @@ pub acts_mapped : (K : Name → ℕ → Type 0) (i : ℕ) (n : Node) (name : Nam
 acts_mapped K i n name doomed size other_home e l tells q =
     by_name name (λ b q. Acts K q i None None n (becomes_ready (Mapped name size) (with_mapping name (Some (new_mapping size doomed)) (with_remote name (Some (new_remote size)) n))) [])
     (side_acts (λ z. new_remote size) [] (away_none n name i l.fits.me other_home) refl (λ z. ap (λ o. side z o) (cond-true (name_eq name name) _ _ (name_self name))) refl
-    (ap (λ o. expected None o) (cond-true (name_eq name name) (Some (new_remote size)) (n.remotes name) (name_self name)) ∙ sym (ap (λ o. expected None o) e) ∙ nowhere_closed i n name other_home e l) (l.counts name)
+    (ap (λ o. expected None o) (cond-true (name_eq name name) (Some (new_remote size)) (n.remotes name) (name_self name)) ∙ sym (ap (λ o. expected None o) e) ∙ nowhere_closed i n name other_home e l)
     (λ known x w. let same : new_remote size ≡ x = (let both : Some (new_remote size) ≡ Some x = sym (cond-true (name_eq name name) (Some (new_remote size)) (n.remotes name) (name_self name)) ∙ w in cc) in
     subst (λ z. K name z) (ap (λ (y : Remote). y.size) same) tells)
     (λ g rest at_g sized comes. appearing g rest (at_g ∙ ap (λ o. side g.home.size o) e) comes))

@@ -20,7 +20,7 @@ use Rattle.crl_regions.specs.MailFits.{HasSize}
 use Rattle.crl_regions.specs.Reached.{AfterRuns, EventsKeepRegions}
 use Rattle.crl_regions.specs.Steps.{RegionsHold, GoesOn, RegionsGoOn}
 use Rattle.crl_regions.specs.View.{sight, table_of, tables_of, table_or_blank, view, array_after, array_from, array_of}
-use Rattle.crl_regions.proofs.Acts.{expected, CountFits}
+use Rattle.crl_regions.proofs.Acts.{expected}
 use Rattle.crl_regions.proofs.Addressed.{AddressesAt, PlainSent, addressed_local, addressed_start}
 use Rattle.crl_regions.proofs.Asking.{WaitsAsking}
 use Rattle.crl_regions.proofs.MappedOrCached.{IsMappedOrCached}
@@ -31,8 +31,9 @@ use Rattle.crl_regions.proofs.Steps.{all_grown}
 use Rattle.crl_regions.proofs.Records.{Shows, records_show, records_turn}
 use Rattle.crl_regions.proofs.Sections.{no_table as no_home}
 use Rattle.crl_regions.proofs.Events.{StepKeeps, GoneOn, nothing_on, is_freed, call_on, collect_on, handle_on}
-use Rattle.crl_deeds.proofs.Laws.{fits_start, fits_event, all_took, turn_of, turn_count, held_turn, took_at}
+use Rattle.crl_deeds.proofs.Laws.{fits_start, fits_event, all_took, turn_of, turn_count, held_turn, took_at, kept_turn, sections_kept}
 use Rattle.crl_deeds.specs.Turns.{Held, HeldOut}
+use Rattle.crl_deeds.specs.Counts.{SectionsFit}
 
 carry_on : (w : World) (arrays : Name → List ℕ) (us : List Under) (i place : ℕ) (e : Event) (t : Taken Piece) → i < w.count → take_out place (w.nodes i).outbox ≡ Some t → AllNodesHold w arrays us
     → StepKeeps (carries i e (Some t) w).world → GoneOn w (carries i e (Some t) w).world us arrays arrays
@@ -41,7 +42,7 @@ carry_on w arrays us i place e t few out k keeps = record {
   whole = record {
     fits = keeps.0;
     agrees = arrived_all i e t w (λ j n. (q : Name) → expected (home_of n q) (n.remotes q) ≡ section_at q n.sections) k.agrees (λ h. h) (λ n h. h);
-    counts = arrived_all i e t w (λ j n. (q : Name) → CountFits (section_at q n.sections)) k.counts (λ h. h) (λ n h. h);
+    sections = keeps.2;
     cached = arrived_all i e t w (λ j n. IsMappedOrCached n) k.cached (λ h. h) (λ n h. h);
     addressed = keeps.1;
     asks = arrived_all i e t w (λ j n. WaitsAsking n) k.asks (λ h. h) (λ n h. h);
@@ -86,7 +87,7 @@ carried_on w arrays us i place e (Some t) few out k keeps = carry_on w arrays us
 keeps_after : (w : World) (arrays : Name → List ℕ) (us : List Under) (e : Event) → is_enabled e w ≡ true → AllNodesHold w arrays us → StepKeeps (step e w).world
 keeps_after w arrays us e h k =
     let turn = turn_of w e h in
-    (fits_event w e h k.fits, subst (λ c. Held (AddressesAt c) (PlainSent c) (step e w).world) (sym (turn_count w _ turn)) (held_turn (AddressesAt w.count) (PlainSent w.count) w _ turn (addressed_local w.count) k.addressed))
+    (fits_event w e h k.fits, subst (λ c. Held (AddressesAt c) (PlainSent c) (step e w).world) (sym (turn_count w _ turn)) (held_turn (AddressesAt w.count) (PlainSent w.count) w _ turn (addressed_local w.count) k.addressed), kept_turn SectionsFit sections_kept w _ turn k.fits k.sections)
 
 pub event_on : (w : World) (arrays : Name → List ℕ) (us : List Under) (e : Event) → is_enabled e w ≡ true → AllNodesHold w arrays us → Later w us e arrays
 unfolding step is_enabled
@@ -116,7 +117,7 @@ pub all_start : (count capacity : ℕ) → AllNodesHold (new_world count capacit
 all_start count capacity = record {
   fits = fits_start count capacity;
   agrees = λ i q. ap (λ o. expected o None) (nothing_there count capacity i q);
-  counts = λ i q. tt;
+  sections = λ i. record { each = λ q. tt; waiting = tt };
   cached = λ i. record { cached = λ q size c. absurd c; held = λ q r e m. absurd (cc); others = λ q size c. absurd c; once = tt };
   addressed = addressed_start count capacity;
   asks = λ i. tt;
@@ -182,7 +183,7 @@ pub with_regions : (w : World) (us : List Under) (arrays before : Name → List 
 with_regions w us arrays before k h = let x = k.whole in record {
   fits = x.fits;
   agrees = x.agrees;
-  counts = x.counts;
+  sections = x.sections;
   cached = x.cached;
   addressed = x.addressed;
   asks = x.asks;

@@ -18,16 +18,17 @@ use Rattle.crl_deeds.specs.Deeds.{opened_at}
 use Rattle.crl_coherence.specs.Region as region
 use Rattle.crl_coherence.specs.Region.{Flying, Region, Happens, at_home, at_remote, IsIdle, MayStart}
 use Rattle.crl_regions.proofs.Opened.{begun, home_begun, side_begun, noted_begun, noted_other}
-use Rattle.crl_regions.proofs.Acts.{expected, CountFits, Comes, Acts, acts_if, home_is, home_here, home_there, moved_here, moved_there}
+use Rattle.crl_regions.proofs.Acts.{expected, Comes, Acts, acts_if, home_is, home_here, home_there, moved_here, moved_there}
 use Rattle.crl_deeds.proofs.Laws.{by_name, name_self, home_bytes, queue_of, asking_of, not_mine, starts_fit, remote_start}
 use Rattle.crl_deeds.specs.NodeFacts.{NoOwn, QueueFits, AskingFits, IsCached, Fits}
+use Rattle.crl_deeds.specs.Counts.{FitsReads}
 
 -- What holds of node i: besides sizes and asks, the sections that it notes are those of its tables, and what it
 -- has of regions that aren't mapped is cached.
 pub record Local (i : ℕ) (n : Node) : Type 0 where
   pub fits : Fits i n
   pub agrees : (q : Name) → expected (home_of n q) (n.remotes q) ≡ section_at q n.sections
-  pub counts : (q : Name) → CountFits (section_at q n.sections)
+  pub reads : (q : Name) → FitsReads (section_at q n.sections)
   pub cached : (q : Name) (size : ℕ) → IsCached q size n.cache → n.maps q ≡ None
   pub held : (q : Name) (r : Remote) → n.remotes q ≡ Some r → n.maps q ≡ None → (size : ℕ) × IsCached q size n.cache
 
@@ -71,7 +72,7 @@ pub side_event : (k i : ℕ) (r : Remote) (step : Remote → RemoteStep) (g : Re
 side_event k i r step g rest array at_i happens = subst (λ x. Happens k g (record (at_remote i (step x) rest g) { array = array })) at_i happens
 
 -- What a verdict that refuses nothing says of the section.
-pub may_start : (write : Bool) (s : Section) → CountFits s → of_start write s ≡ None → MayStart write s
+pub may_start : (write : Bool) (s : Section) → FitsReads s → of_start write s ≡ None → MayStart write s
 may_start true section.Closed c e = tt
 may_start true (section.Reading count) c e = cc
 may_start true section.Writing c e = cc
@@ -80,7 +81,7 @@ may_start false (section.Reading count) c e = few (count == COUNT_LIMIT) refl e
   where
     few : (b : Bool) → (count == COUNT_LIMIT) ≡ b → (if b then Some TooMany else None) ≡ None → count + 1 < 2 ^ 32
     few true w v = cc
-    few false w v = let other = eqb-false count COUNT_LIMIT w in omega arith
+    few false w v = let other = eqb-false count COUNT_LIMIT w in let less = c.1 in omega arith
 may_start false section.Writing c e = cc
 
 pub reading_of : (s : Section) → of_end false s ≡ None → (count : ℕ) × (s ≡ section.Reading (count + 1))
@@ -99,12 +100,6 @@ closed_of section.Closed e = refl
 closed_of (section.Reading count) e = cc
 closed_of section.Writing e = cc
 
-count_begun : (write : Bool) (s : Section) → MayStart write s → CountFits (begun write s)
-count_begun true s may = tt
-count_begun false section.Closed may = let few : 1 < 2 ^ 32 = omega arith in few
-count_begun false (section.Reading count) may = may
-count_begun false section.Writing may = tt
-
 -- The start of a section at the home: it opens, or the node waits.
 abbrev home_start : Bool → Bool → Name → HomeStep → Node → Outcome
 home_start opened write name s n =
@@ -114,7 +109,7 @@ pub start_home : (K : Name → ℕ → Type 0) (i : ℕ) (n : Node) (write : Boo
     → (q : Name) → let o = home_start opened write name (home_starts n.me write h) n in Acts K q i None None n o.node o.posts
 start_home K i n write name h opened v e starts free l =
     let f = l.fits in
-    let may = may_start write (section_at name n.sections) (l.counts name) starts in
+    let may = may_start write (section_at name n.sections) (l.reads name) starts in
     let none = free_idle n.me name h n.activity free (queue_of i n name h e f) in
     let s = home_starts n.me write h in
     let goes = starts_fit n.me write h (home_bytes i n name h e f) none in
@@ -129,8 +124,8 @@ start_home K i n write name h opened v e starts free l =
     let noted = noted_begun write name s.home.bytes n.sections in
     by_name name (λ b q. let o = home_start opened write name s n in Acts K q i None None n o.node o.posts)
     (acts_if K name i None None n opened _ _
-    (λ w. home_here K name i None None n _ h s e refl refl goes.size (open_now.0 (v ∙ w) ∙ ap (λ x. begun write x) mine ∙ sym noted) (subst (λ x. CountFits x) (sym noted) (count_begun write _ may)) happens)
-    (λ w. home_here K name i None None n _ h s e refl refl goes.size (open_now.1 (v ∙ w) ∙ mine) (l.counts name) happens))
+    (λ w. home_here K name i None None n _ h s e refl refl goes.size (open_now.0 (v ∙ w) ∙ ap (λ x. begun write x) mine ∙ sym noted) happens)
+    (λ w. home_here K name i None None n _ h s e refl refl goes.size (open_now.1 (v ∙ w) ∙ mine) happens))
     (λ q other. acts_if K q i None None n opened _ _
     (λ w. home_there K name q i n _ h s e refl refl (noted_other write name q s.home.bytes n.sections other) other)
     (λ w. home_there K name q i n _ h s e refl refl refl other))
@@ -144,7 +139,7 @@ pub start_side : (K : Name → ℕ → Type 0) (i : ℕ) (n : Node) (write : Boo
     → (q : Name) → let o = side_start opened write name (remote_starts write r) n in Acts K q i None None n o.node o.posts
 start_side K i n write name r opened v e starts free l =
     let f = l.fits in
-    let may = may_start write (section_at name n.sections) (l.counts name) starts in
+    let may = may_start write (section_at name n.sections) (l.reads name) starts in
     let idle = free_asks name r n.activity free (asking_of i n name r e f) in
     let s = remote_starts write r in
     let other_home = away i n name r e f in
@@ -160,8 +155,8 @@ start_side K i n write name r opened v e starts free l =
     let noted = noted_begun write name (copy_bytes s.remote.copy) n.sections in
     by_name name (λ b q. let o = side_start opened write name s n in Acts K q i None None n o.node o.posts)
     (acts_if K name i None None n opened _ _
-    (λ w. moved_here K name i None None n _ r s e put refl f.me other_home (open_now.0 (v ∙ w) ∙ ap (λ x. begun write x) here ∙ sym noted) (subst (λ x. CountFits x) (sym noted) (count_begun write _ may)) size happens)
-    (λ w. moved_here K name i None None n _ r s e put refl f.me other_home (open_now.1 (v ∙ w) ∙ here) (l.counts name) size happens))
+    (λ w. moved_here K name i None None n _ r s e put refl f.me other_home (open_now.0 (v ∙ w) ∙ ap (λ x. begun write x) here ∙ sym noted) size happens)
+    (λ w. moved_here K name i None None n _ r s e put refl f.me other_home (open_now.1 (v ∙ w) ∙ here) size happens))
     (λ q other. acts_if K q i None None n opened _ _
     (λ w. moved_there K name q i n _ s.posts (cond-false (name_eq name q) _ _ other) refl (noted_other write name q (copy_bytes s.remote.copy) n.sections other) other)
     (λ w. moved_there K name q i n _ s.posts (cond-false (name_eq name q) _ _ other) refl refl other))

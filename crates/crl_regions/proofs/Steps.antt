@@ -26,7 +26,7 @@ use Rattle.crl_coherence.proofs.Laws.{runs_kept, created_kept}
 use Rattle.crl_regions.specs.View.{if_about, mail_in, other_end, flown, flying, side, sight, table_of, tables_of}
 use Rattle.crl_flight.specs.Flight.{Moves, still, moved}
 use Rattle.crl_regions.proofs.Moves.{boxes, flight_more}
-use Rattle.crl_regions.proofs.Acts.{expected, CountFits, Comes, Acts, nothing, home_acts, side_acts, absent, made}
+use Rattle.crl_regions.proofs.Acts.{expected, Comes, Acts, nothing, home_acts, side_acts, absent, made}
 use Rattle.crl_regions.proofs.Sections.{away}
 use Rattle.crl_regions.proofs.MappedOrCached.{IsMappedOrCached}
 use Rattle.crl_regions.proofs.Addressed.{Addressed, NodesExistIf}
@@ -39,6 +39,7 @@ use Rattle.crl_regions.proofs.AllNodesHold.{AllNodesHold, table_at}
 use Rattle.crl_deeds.proofs.Laws.{same_name, append_nil, all_append}
 use Rattle.crl_deeds.specs.NodeFacts.{Seen, seen, LiveFits, OwnFits, SizeIs, Fits}
 use Rattle.crl_deeds.specs.Turns.{Frame}
+use Rattle.crl_deeds.specs.Counts.{SectionsFit}
 
 -- Tables grow: one that is there stays there, with its size.
 abbrev pub Grows : (Name → Option Home) → (Name → Option Home) → Type 0
@@ -123,6 +124,7 @@ pub record StepFits (w : World) (i : ℕ) (e : Event) (inbox : List Piece) (parc
   pub frame : Frame (record (w.nodes i) { inbox = inbox; parcels = parcels }) o.node
   pub cached : IsMappedOrCached o.node
   pub addressed : Addressed (steps_node i e o w).world
+  pub sections : (j : ℕ) → SectionsFit ((steps_node i e o w).world.nodes j)
   pub asks : WaitsAsking o.node
   pub left_mail : AllMailFits (tables_of w) (messages_of left)
   pub flies : IsFlight left (boxes_from 0 w.count (at_node w.nodes i (record (w.nodes i) { inbox = inbox; parcels = parcels }))) (λ j. (at_node w.nodes i (record (w.nodes i) { inbox = inbox; parcels = parcels }) j).parcels)
@@ -142,7 +144,7 @@ all_stepped w arrays i e inbox parcels us left o came written k x = (
   record {
     fits = x.fits;
     agrees = of_node w.nodes i m (λ j n. (q : Name) → expected (home_of n q) (n.remotes q) ≡ section_at q n.sections) (λ q. agrees_now q (x.acts q)) (λ j other. k.agrees j);
-    counts = of_node w.nodes i m (λ j n. (q : Name) → CountFits (section_at q n.sections)) (λ q. counts_now q (x.acts q)) (λ j other. k.counts j);
+    sections = x.sections;
     cached = of_node w.nodes i m (λ j n. IsMappedOrCached n) x.cached (λ j other. k.cached j);
     addressed = x.addressed;
     asks = of_node w.nodes i m (λ j n. WaitsAsking n) x.asks (λ j other. k.asks j);
@@ -234,23 +236,16 @@ all_stepped w arrays i e inbox parcels us left o came written k x = (
 
     agrees_now : (q : Name) → Acts K q i (came q) (written q) n o.node o.posts → expected (home_of m q) (m.remotes q) ≡ section_at q m.sections
     agrees_now q (nothing a b f r p s) = ap (λ y. expected y (m.remotes q)) f ∙ ap (λ y. expected (home_of n q) y) r ∙ k.agrees i q ∙ sym s
-    agrees_now q (home_acts h t a b size r p mine count happens) = ap (λ y. expected y (m.remotes q)) b ∙ mine
-    agrees_now q (side_acts next ms none f a p here count s happens) = ap (λ y. expected y (m.remotes q)) (f ∙ none) ∙ here
+    agrees_now q (home_acts h t a b size r p mine happens) = ap (λ y. expected y (m.remotes q)) b ∙ mine
+    agrees_now q (side_acts next ms none f a p here s happens) = ap (λ y. expected y (m.remotes q)) (f ∙ none) ∙ here
     agrees_now q (absent a b f g r p s) = ap (λ y. expected y (m.remotes q)) (g ∙ sym f) ∙ ap (λ y. expected (home_of n q) y) r ∙ k.agrees i q ∙ sym s
     agrees_now q (made size a b here f g r p s) =
         ap (λ y. expected y (m.remotes q)) g ∙ sym (ap (λ y. expected y (n.remotes q)) f ∙ ap (λ y. expected None y) (no_side w arrays us q i k (at_home q here f))) ∙ k.agrees i q ∙ sym s
 
-    counts_now : (q : Name) → Acts K q i (came q) (written q) n o.node o.posts → CountFits (section_at q m.sections)
-    counts_now q (nothing a b f r p s) = subst (λ y. CountFits y) (sym s) (k.counts i q)
-    counts_now q (home_acts h t a b size r p mine count happens) = count
-    counts_now q (side_acts next ms none f a p here count s happens) = count
-    counts_now q (absent a b f g r p s) = subst (λ y. CountFits y) (sym s) (k.counts i q)
-    counts_now q (made size a b here f g r p s) = subst (λ y. CountFits y) (sym s) (k.counts i q)
-
     sizes_now : (q : Name) → Acts K q i (came q) (written q) n o.node o.posts → (r : Remote) → m.remotes q ≡ Some r → K q r.size
     sizes_now q (nothing a b f r p s) y g = k.sizes i q y (sym r ∙ g)
-    sizes_now q (home_acts h t a b size r p mine count happens) y g = k.sizes i q y (sym r ∙ g)
-    sizes_now q (side_acts next ms none f a p here count s happens) y g = s (λ z w. k.sizes i q z w) y g
+    sizes_now q (home_acts h t a b size r p mine happens) y g = k.sizes i q y (sym r ∙ g)
+    sizes_now q (side_acts next ms none f a p here s happens) y g = s (λ z w. k.sizes i q z w) y g
     sizes_now q (absent a b f u r p s) y g = k.sizes i q y (sym r ∙ g)
     sizes_now q (made size a b here f u r p s) y g = k.sizes i q y (sym r ∙ g)
 
@@ -272,8 +267,8 @@ all_stepped w arrays i e inbox parcels us left o came written k x = (
 
         go : Acts K q i (came q) (written q) n o.node o.posts → New q h
         go (nothing a b f r p s) = absurd (let u = was in let y = is_now in cc)
-        go (home_acts h0 t a b size r p mine count happens) = absurd (let u = was in let y = is_now in cc)
-        go (side_acts next ms z f a p here count s happens) = absurd (let u = was in let y = is_now in cc)
+        go (home_acts h0 t a b size r p mine happens) = absurd (let u = was in let y = is_now in cc)
+        go (side_acts next ms z f a p here s happens) = absurd (let u = was in let y = is_now in cc)
         go (absent a b f g r p s) = absurd (let u = was in let y = is_now in cc)
         go (made size a b c f g r p s) = (size, (let both : Some h ≡ Some (new_home n.nodes size) = sym is_now ∙ g in cc), here, a, b, r, p)
 
