@@ -17,8 +17,8 @@ use Rattle.crl_protocol.specs.Node.{Node, Outcome, ForSection, ForMap, ForDelete
 use Rattle.crl_protocol.specs.Handlers.{is_queued, purges_waiting}
 use Rattle.crl_deeds.specs.Deeds.{FreeIf, Cause, Serves, ask_comes, copy_returns, copy_lowers, CallsBack, wholly, to_share, Copies, Lives, Rounds, Notes, Deed, copies, lives, rounds, notes, home_opens, home_waits, side_opens, side_waits, home_ends, side_ends, side_flushes, home_serves, home_serves_own, grant_comes, side_called, made, used_up, map_asks, map_comes, map_denied, unmaps_doomed, unmaps_evicting, deletes_own, delete_asks, delete_comes, drops, warns, ends_own, comes_last, part_comes, part_last_idle, flushes_own}
 use Rattle.crl_regions.proofs.Sections.{Local}
-use Rattle.crl_deeds.proofs.Laws.{by_name, name_self, home_put}
-use Rattle.crl_deeds.specs.NodeFacts.{IsMapped, WaitFits}
+use Rattle.crl_deeds.proofs.Laws.{by_name, name_self, home_put, recalled_goes, yields_goes, remote_bytes}
+use Rattle.crl_deeds.specs.NodeFacts.{IsMapped, WaitFits, CopyFits}
 
 abbrev pub AsksFor : ℕ → Option Home → Option Remote → Type 0
 AsksFor me (Some h) r = is_queued me h.queue ≡ true
@@ -98,38 +98,9 @@ start_asks write None r o = λ e. cc
 start_asks false (Some copy) r o = cc
 start_asks true (Some copy) r o = cond_both copy.exclusive _ _ (λ (s : RemoteStep). s.opened ≡ false → s.remote.asking ≢ None) (λ w o. cc) (λ w o e. cc) o
 
-abbrev SameAsk : Remote → RemoteStep → Type 0
-SameAsk r s = s.remote.asking ≡ r.asking
-
-due_ask : (version : ℕ) (yields : Bool) (asking : Option Bool) (r : Remote) → (notes_due version yields asking r).asking ≡ r.asking
-due_ask version yields None r = refl
-due_ask version yields (Some write) r = cond_both (is_newer version r.due) _ _ (λ (x : Remote). x.asking ≡ r.asking) (λ w. refl) (λ w. refl)
-
-overtaken_ask : (version old : ℕ) (yields : Bool) (r : Remote) → SameAsk r (overtakes version old yields r)
-overtaken_ask version old yields r = cond_both _ _ _ (λ (x : Remote). x.asking ≡ r.asking) (λ w. due_ask version yields r.asking r) (λ w. refl)
-
-recall_in_ask : (here : Section) (copy : Copy) (r : Remote) → SameAsk r (recall_in here copy r)
-recall_in_ask section.Closed copy r = refl
-recall_in_ask (section.Reading count) copy r = refl
-recall_in_ask section.Writing copy r = refl
-
-recall_ask : (version : ℕ) (copy : Option Copy) (r : Remote) → SameAsk r (recall_over version copy r)
-recall_ask version None r = due_ask version false r.asking r
-recall_ask version (Some copy) r = cond_both (version == copy.version) _ _ (SameAsk r) (λ w. recall_in_ask r.here copy r) (λ w. overtaken_ask version copy.version false r)
-
-yield_in_ask : (here : Section) (copy : Copy) (r : Remote) → SameAsk r (yield_in here copy r)
-yield_in_ask section.Closed copy r = refl
-yield_in_ask (section.Reading count) copy r = refl
-yield_in_ask section.Writing copy r = refl
-
-yield_ask : (version : ℕ) (copy : Option Copy) (r : Remote) → SameAsk r (yield_over version copy r)
-yield_ask version None r = due_ask version true r.asking r
-yield_ask version (Some copy) r = cond_both ((version == copy.version) && copy.exclusive) _ _ (SameAsk r) (λ w. yield_in_ask r.here copy r) (λ w. overtaken_ask version copy.version true r)
-
-back_ask : (r : Remote) (k : Kind) (name : Name) (s : RemoteStep) → CallsBack r k name s → SameAsk r s
-unfolding remote_takes_recall remote_takes_yield
-back_ask r k name s (wholly q version) = recall_ask version r.copy r
-back_ask r k name s (to_share q version) = yield_ask version r.copy r
+back_ask : (r : Remote) (k : Kind) (name : Name) (s : RemoteStep) → CopyFits r.copy r.size → CallsBack r k name s → s.remote.asking ≡ r.asking
+back_ask r k name s c (wholly q version) = (recalled_goes version r c).asking
+back_ask r k name s c (to_share q version) = (yields_goes version r c).asking
 
 -- Where one table, or one side, changes.
 home_changed : (n : Node) (name : Name) (h g : Home) → home_of n name ≡ Some h → (is_queued n.me h.queue ≡ true → is_queued n.me g.queue ≡ true) → (q : Name) → AsksAt n q → AsksFor n.me (home_of (with_home name g n) q) (n.remotes q)
@@ -149,21 +120,21 @@ side_changed n name r s e same q =
     by_name name (λ b p. AsksAt n p → AsksFor n.me (home_of n p) (if b then Some s else n.remotes p)) (λ x. side_asks n.me (home_of n name) r s same (subst (λ o. AsksFor n.me (home_of n name) o) e x)) (λ p other x. x) q
 
 -- Deeds.
-asks_copies : (n : Node) (cause : Cause) (o : Outcome) → Copies n cause o → FreeIf cause n → WaitsAsking n → WaitsAsking o.node
+asks_copies : (i : ℕ) (n : Node) (cause : Cause) (o : Outcome) → Copies n cause o → FreeIf cause n → Local i n → WaitsAsking n → WaitsAsking o.node
 unfolding remote_starts
-asks_copies n cause o (home_opens c write name h is e v x) free a = asks_free o.node n.activity free
-asks_copies n cause o (home_waits c write name h is e v x) free a = home_here n name h _ e (start_queued n.me write h x)
-asks_copies n cause o (side_opens c write name r is e f v x) free a = asks_free o.node n.activity free
-asks_copies n cause o (side_waits c write name r is none e v x) free a =
+asks_copies i n cause o (home_opens c write name h is e v x) free l a = asks_free o.node n.activity free
+asks_copies i n cause o (home_waits c write name h is e v x) free l a = home_here n name h _ e (start_queued n.me write h x)
+asks_copies i n cause o (side_opens c write name r is e f v x) free l a = asks_free o.node n.activity free
+asks_copies i n cause o (side_waits c write name r is none e v x) free l a =
     subst (λ h. AsksFor n.me h (at_name n.remotes name (Some (starts_over write r.copy r).remote) name)) (sym none)
     (subst (λ s. AsksFor n.me None s) (sym (cond-true (name_eq name name) _ _ (name_self name))) (start_asks write r.copy r x))
-asks_copies n cause o (home_ends c name w ends lowers h is e) free a = asks_free o.node n.activity free
-asks_copies n cause o (side_ends c name w ends lowers r is e f) free a = asks_free o.node n.activity free
-asks_copies n cause o (side_flushes name r other e closed) free a = asks_free o.node n.activity free
-asks_copies n cause o (home_serves from k name h s is e x) free a = asks_if n o.node n.activity a (λ q waits asks. home_changed n name h s.home e (serves_queued n h from k name s is x) q asks)
-asks_copies n cause o (home_serves_own from k name h s is e x) free a = tt
-asks_copies n cause o (grant_comes from name version g r e t) free a = tt
-asks_copies n cause o (side_called from k name r s is e) free a = asks_if n o.node n.activity a (λ q waits asks. side_changed n name r s.remote e (back_ask r k name s is) q asks)
+asks_copies i n cause o (home_ends c name w ends lowers h is e) free l a = asks_free o.node n.activity free
+asks_copies i n cause o (side_ends c name w ends lowers r is e f) free l a = asks_free o.node n.activity free
+asks_copies i n cause o (side_flushes name r other e closed) free l a = asks_free o.node n.activity free
+asks_copies i n cause o (home_serves from k name h s is e x) free l a = asks_if n o.node n.activity a (λ q waits asks. home_changed n name h s.home e (serves_queued n h from k name s is x) q asks)
+asks_copies i n cause o (home_serves_own from k name h s is e x) free l a = tt
+asks_copies i n cause o (grant_comes from name version g r e t) free l a = tt
+asks_copies i n cause o (side_called from k name r s is e) free l a = asks_if n o.node n.activity a (λ q waits asks. side_changed n name r s.remote e (back_ask r k name s (remote_bytes i n name r e l.fits) is) q asks)
 
 asks_lives : (i : ℕ) (n : Node) (cause : Cause) (o : Outcome) → Lives n cause o → FreeIf cause n → Local i n → WaitsAsking n → WaitsAsking o.node
 asks_lives i n cause o (made size e) free l a = asks_free o.node n.activity free
@@ -203,7 +174,7 @@ asks_notes n c w m (flushes_own name mine closed) a = a
 asks_notes n c w m _ a = a
 
 pub asks_deed : (i : ℕ) (n : Node) (cause : Cause) (o : Outcome) → Deed n cause o → FreeIf cause n → Local i n → WaitsAsking n → WaitsAsking o.node
-asks_deed i n cause o (copies c) free l a = asks_copies n cause o c free a
+asks_deed i n cause o (copies c) free l a = asks_copies i n cause o c free l a
 asks_deed i n cause o (lives c) free l a = asks_lives i n cause o c free l a
 asks_deed i n cause o (rounds c) free l a = asks_rounds n cause o c a
 asks_deed i n cause o (notes c) free l a = asks_notes n _ _ _ c a

@@ -97,23 +97,23 @@ start_posts true (Some copy) r = cond_both copy.exclusive _ _ Posts (λ w. tt) (
 overtaken_posts : (version old : ℕ) (yields : Bool) (r : Remote) → Posts (overtakes version old yields r)
 overtaken_posts version old yields r = tt
 
-recall_in_fits : (here : Section) (copy : Copy) (r : Remote) → Posts (recall_in here copy r)
-recall_in_fits section.Closed copy r = (tt, tt)
-recall_in_fits (section.Reading count) copy r = tt
-recall_in_fits section.Writing copy r = tt
+recall_in_posts : (here : Section) (copy : Copy) (r : Remote) → Posts (recall_in here copy r)
+recall_in_posts section.Closed copy r = (tt, tt)
+recall_in_posts (section.Reading count) copy r = tt
+recall_in_posts section.Writing copy r = tt
 
 pub recall_posts : (version : ℕ) (copy : Option Copy) (r : Remote) → Posts (recall_over version copy r)
 recall_posts version None r = tt
-recall_posts version (Some copy) r = cond_both (version == copy.version) _ _ Posts (λ w. recall_in_fits r.here copy r) (λ w. tt)
+recall_posts version (Some copy) r = cond_both (version == copy.version) _ _ Posts (λ w. recall_in_posts r.here copy r) (λ w. tt)
 
-yield_in_fits : (here : Section) (copy : Copy) (r : Remote) → Posts (yield_in here copy r)
-yield_in_fits section.Closed copy r = (tt, tt)
-yield_in_fits (section.Reading count) copy r = (tt, tt)
-yield_in_fits section.Writing copy r = tt
+yield_in_posts : (here : Section) (copy : Copy) (r : Remote) → Posts (yield_in here copy r)
+yield_in_posts section.Closed copy r = (tt, tt)
+yield_in_posts (section.Reading count) copy r = (tt, tt)
+yield_in_posts section.Writing copy r = tt
 
 pub yield_posts : (version : ℕ) (copy : Option Copy) (r : Remote) → Posts (yield_over version copy r)
 yield_posts version None r = tt
-yield_posts version (Some copy) r = cond_both ((version == copy.version) && copy.exclusive) _ _ Posts (λ w. yield_in_fits r.here copy r) (λ w. tt)
+yield_posts version (Some copy) r = cond_both ((version == copy.version) && copy.exclusive) _ _ Posts (λ w. yield_in_posts r.here copy r) (λ w. tt)
 
 leave_posts : (copy : Option Copy) (r : Remote) → Posts (leaves_over copy r)
 leave_posts None r = tt
