@@ -13,7 +13,7 @@ use Rattle.crl_protocol.specs.Mail.{Mail, Ask, Grant, Return, Release, kind_abou
 use Rattle.crl_protocol.specs.Home.{Home, home_takes_ask, home_takes_return, home_takes_release, return_fits, release_fits}
 use Rattle.crl_protocol.specs.Remote.{Copy, Remote, grant_fits}
 use Rattle.crl_protocol.specs.Sections.{section_at}
-use Rattle.crl_protocol.specs.Node.{Node, Activity, Waiting, ForSection, at_serial, home_of}
+use Rattle.crl_protocol.specs.Node.{Node, Activity, Waiting, ForSection, at_serial, home_of, is_mine, lifetime_of}
 use Rattle.crl_protocol.specs.Handlers.{is_queued, is_queued_in}
 use Rattle.crl_protocol.specs.World.{World}
 use Rattle.crl_protocol.specs.Parcels.{Piece, PartsGathered}
@@ -32,8 +32,9 @@ use Rattle.crl_regions.proofs.Sections.{Local}
 use Rattle.crl_regions.proofs.MappedOrCached.{IsMappedOrCached}
 use Rattle.crl_regions.proofs.Addressed.{Addressed}
 use Rattle.crl_regions.proofs.Asking.{WaitsAsking}
+use Rattle.crl_regions.proofs.Sizes.{SizesFit, OwnTables}
 use Rattle.crl_regions.proofs.Messages.{Passes}
-use Rattle.crl_deeds.specs.NodeFacts.{AskingFits, Fits}
+use Rattle.crl_deeds.specs.NodeFacts.{AskingFits, Fits, Seen, seen, OwnFits, LiveFits}
 use Rattle.crl_deeds.specs.Counts.{SectionsFit}
 
 -- us is what is under way, and the arrays are the bytes of each region in the single machine.
@@ -45,6 +46,7 @@ pub record AllNodesHold (w : World) (arrays : Name → List ℕ) (us : List Unde
   pub addressed : Addressed w
   pub asks : (i : ℕ) → WaitsAsking (w.nodes i)
   pub sizes : (i : ℕ) (q : Name) (r : Remote) → (w.nodes i).remotes q ≡ Some r → HasSize r.size (table_of q w)
+  pub named_sizes : (i : ℕ) → SizesFit (tables_of w) (w.nodes i)
   pub mail : AllMailFits (tables_of w) (messages_of us)
   pub flies : UnderWay w us
   pub coherent : (q : Name) (h : Home) → table_of q w ≡ Some h → IsCoherent q.home (sight q h w.nodes (messages_of us) (arrays q))
@@ -62,6 +64,16 @@ local w arrays us i k = record {
 pub table_at : (w : World) (arrays : Name → List ℕ) (us : List Under) (i : ℕ) (name : Name) (h : Home) → AllNodesHold w arrays us → home_of (w.nodes i) name ≡ Some h → (i ≡ name.home) × (table_of name w ≡ Some h)
 table_at w arrays us i name h k e =
     let same : i ≡ name.home = sym (k.fits i).me ∙ eqb-true (w.nodes i).me name.home (home_is (w.nodes i) name h e) in (same, subst (λ j. home_of (w.nodes j) name ≡ Some h) same e)
+
+own_live : (b : Bool) (v : Seen) → OwnFits b v → LiveFits v.stage v.home
+own_live true v own = own.live
+own_live false v own = subst (λ s. LiveFits s v.home) (sym own.unknown) tt
+
+pub live_at : (w : World) (arrays : Name → List ℕ) (us : List Under) (i : ℕ) → AllNodesHold w arrays us → (name : Name) → LiveFits (lifetime_of (w.nodes i) name).stage (home_of (w.nodes i) name)
+live_at w arrays us i k name = own_live (is_mine (w.nodes i) name) (seen (w.nodes i) name) ((k.fits i).each name).own
+
+pub own_tables : (w : World) (arrays : Name → List ℕ) (us : List Under) (i : ℕ) → AllNodesHold w arrays us → OwnTables (tables_of w) (w.nodes i)
+own_tables w arrays us i k = record { there = λ name h e. (table_at w arrays us i name h k e).1; live = live_at w arrays us i k }
 
 -- Mail under way is under way in the region.
 pub to_home_took : (name : Name) (m : Message) (mail : Mail) (messages rest : List Message) → m.kind ≡ kind_about name mail → (m.sender == name.home) ≡ false → Took m messages rest

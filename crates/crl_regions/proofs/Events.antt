@@ -38,10 +38,11 @@ use Rattle.crl_regions.proofs.Sections.{Local}
 use Rattle.crl_regions.proofs.RegionDeeds.{Known, acts_deed, acts_call}
 use Rattle.crl_regions.proofs.Mails.{mail_of_deed}
 use Rattle.crl_regions.proofs.MappedOrCached.{IsMappedOrCached, mapped_or_cached_deed}
+use Rattle.crl_regions.proofs.Sizes.{SizesFit, sizes_deed}
 use Rattle.crl_regions.proofs.Asking.{WaitsAsking, asks_deed}
 use Rattle.crl_regions.proofs.Addressed.{PlainSent, Addressed}
 use Rattle.crl_regions.proofs.Carried.{of_node, node_here, node_there}
-use Rattle.crl_regions.proofs.AllNodesHold.{AllNodesHold, local, passes}
+use Rattle.crl_regions.proofs.AllNodesHold.{AllNodesHold, local, passes, own_tables}
 use Rattle.crl_regions.proofs.Steps.{StepFits, all_stepped}
 use Rattle.crl_deeds.proofs.Laws.{call_deed, message_deed, deed_frame, all_took, took_at}
 use Rattle.crl_deeds.specs.NodeFacts.{seen, OwnFits, Fits, ComesIn}
@@ -93,6 +94,7 @@ call_on w arrays us i e c few free may k keeps =
       addressed = keeps.1;
       sections = keeps.2;
       asks = asks_deed i (w.nodes i) (Calls c) _ d free (local w arrays us i k) (k.asks i);
+      named_sizes = sizes_deed (tables_of w) i (w.nodes i) (Calls c) _ d tt (own_tables w arrays us i k) (k.named_sizes i);
       acts = λ q. acts_call (tables_of w) i (w.nodes i) c free may (local w arrays us i k) q;
       frame = deed_frame (w.nodes i) (Calls c) _ d;
       cached = mapped_or_cached_deed (w.nodes i) (Calls c) _ d (own_nothing i (w.nodes i) (k.fits i)) (k.fits i).fresh (k.cached i);
@@ -117,6 +119,11 @@ cached_collected n Free h = h
 cached_collected n (Waiting awaited) h = h
 cached_collected n (Ready answer) h = h
 
+sizes_collected : (tables : Tables) (n : Node) (a : Activity) → SizesFit tables n → SizesFit tables (collects a n).node
+sizes_collected tables n Free h = h
+sizes_collected tables n (Waiting awaited) h = h
+sizes_collected tables n (Ready answer) h = record { mapped = h.mapped; cached = h.cached }
+
 asks_collected : (n : Node) (a : Activity) → n.activity ≡ a → WaitsAsking n → WaitsAsking (collects a n).node
 asks_collected n Free e h = h
 asks_collected n (Waiting awaited) e h = h
@@ -136,6 +143,7 @@ collect_on w arrays us i e few k keeps =
       addressed = keeps.1;
       sections = keeps.2;
       asks = asks_collected (w.nodes i) (w.nodes i).activity refl (k.asks i);
+      named_sizes = sizes_collected (tables_of w) (w.nodes i) (w.nodes i).activity (k.named_sizes i);
       acts = λ q. acts_collected _ i (w.nodes i) (w.nodes i).activity q;
       frame = frame_collected (w.nodes i) (w.nodes i).activity;
       cached = cached_collected (w.nodes i) (w.nodes i).activity (k.cached i);
@@ -158,6 +166,7 @@ message_on w arrays us left i e m inbox parcels few k to from_few fitted took fl
       addressed = keeps.1;
       sections = keeps.2;
       asks = asks_deed i n (Hears m.sender m.kind) _ d tt local_n (k.asks i);
+      named_sizes = sizes_deed tables i n (Hears m.sender m.kind) _ d mail_i (let own = own_tables w arrays us i k in record { there = own.there; live = own.live }) (let h = k.named_sizes i in record { mapped = h.mapped; cached = h.cached });
       acts = λ q. subst (λ a. Acts (Known tables) q i (flying q (record { sender = m.sender; addressee = a; kind = m.kind })) None n (node_handles m.sender m.kind n).node (node_handles m.sender m.kind n).posts) (sym to)
           (acts_deed tables i n (Hears m.sender m.kind) _ d (mail_i, passes w arrays us i m inbox parcels _ k to parts.0 took) local_n q);
       frame = deed_frame n (Hears m.sender m.kind) _ d;
@@ -208,6 +217,7 @@ gathered_on w arrays us left i e inbox parcels few k same flies keeps =
       addressed = keeps.1;
       sections = keeps.2;
       asks = k.asks i;
+      named_sizes = (let h = k.named_sizes i in record { mapped = h.mapped; cached = h.cached });
       acts = λ q. nothing refl refl refl refl refl refl;
       frame = record { me = refl; nodes = refl; capacity = refl; inbox = refl; outbox = refl; parcels = refl };
       cached = k.cached i;

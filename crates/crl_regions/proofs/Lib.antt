@@ -23,4 +23,5 @@ mod RegionDeeds
 mod Runs
 mod Sections
 mod Single
+mod Sizes
 mod Steps

@@ -35,7 +35,7 @@ use Rattle.crl_regions.proofs.Single.{alone_in}
 use Rattle.crl_regions.proofs.Runs.{nodes_hold, with_regions, regions_in_runs}
 use Rattle.crl_deeds.specs.NodeFacts.{NoOwn, QueueFits, AskingFits}
 use Rattle.crl_deeds.specs.Turns.{HeldIn}
-use Rattle.crl_deeds.proofs.Laws.{all_took}
+use Rattle.crl_deeds.proofs.Laws.{all_took, is_cached}
 
 -- The sections that a node notes are those of the region.
 pub sections_are_tables : AfterRuns SectionsAreTheTables
@@ -54,7 +54,11 @@ write_alone count capacity run r q i j apart writes =
 
 -- A size that a node has is the region's.
 pub sizes_known : AfterRuns SizesAreKnown
-sizes_known count capacity run r i q x e = (nodes_hold count capacity run r).whole.sizes i q x e
+sizes_known count capacity run r = let k = (nodes_hold count capacity run r).whole in record {
+  record_of = λ i q x e. k.sizes i q x e;
+  mapped = λ i q m e. (k.named_sizes i).mapped q m e;
+  cached = λ i q size e. (k.named_sizes i).cached q size (is_cached q ((world_of count capacity run).nodes i).cache size e);
+}
 
 -- A node that asks waits for that section.
 asks_waits : (size : ℕ) (o : Option Remote) (q : Name) (a : Activity) → AskingFits q o a → (side size o).asking ≢ None → a ≡ Waiting (ForSection q)

@@ -23,11 +23,12 @@ use Rattle.crl_regions.specs.View.{sight, table_of, tables_of, table_or_blank, v
 use Rattle.crl_regions.proofs.Acts.{expected}
 use Rattle.crl_regions.proofs.Addressed.{AddressesAt, PlainSent, addressed_local, addressed_start}
 use Rattle.crl_regions.proofs.Asking.{WaitsAsking}
+use Rattle.crl_regions.proofs.Sizes.{SizesFit}
 use Rattle.crl_regions.proofs.MappedOrCached.{IsMappedOrCached}
 use Rattle.crl_regions.proofs.Lift.{run_of}
 use Rattle.crl_regions.proofs.Carried.{table_carried, boxes_move, carried_run, arrived_all}
 use Rattle.crl_regions.proofs.AllNodesHold.{AllNodesHold}
-use Rattle.crl_regions.proofs.Steps.{all_grown}
+use Rattle.crl_regions.proofs.Steps.{Grows, sizes_grown, all_grown}
 use Rattle.crl_regions.proofs.Records.{Shows, records_show, records_turn}
 use Rattle.crl_regions.proofs.Sections.{no_table as no_home}
 use Rattle.crl_regions.proofs.Events.{StepKeeps, GoneOn, nothing_on, is_freed, call_on, collect_on, handle_on}
@@ -46,9 +47,10 @@ carry_on w arrays us i place e t few out k keeps = record {
     cached = arrived_all i e t w (λ j n. IsMappedOrCached n) k.cached (λ h. h) (λ n h. h);
     addressed = keeps.1;
     asks = arrived_all i e t w (λ j n. WaitsAsking n) k.asks (λ h. h) (λ n h. h);
+    named_sizes = arrived_all i e t w (λ j n. SizesFit (tables_of v) n) (λ j. sizes_grown (tables_of w) (tables_of v) (w.nodes j) (w.nodes j) grows refl refl (k.named_sizes j)) (λ h. record { mapped = h.mapped; cached = h.cached }) (λ n h. record { mapped = h.mapped; cached = h.cached });
     sizes = arrived_all i e t w (λ j n. (q : Name) (r : Remote) → n.remotes q ≡ Some r → HasSize r.size (table_of q v))
         (λ j q r f. let s = k.sizes j q r f in (s.0, table_carried q i e t w q.home ∙ s.1, s.2)) (λ h. h) (λ n h. h);
-    mail = all_grown (tables_of w) (tables_of v) (messages_of us) (λ q h there. (h, table_carried q i e t w q.home ∙ there, refl)) k.mail;
+    mail = all_grown (tables_of w) (tables_of v) (messages_of us) grows k.mail;
     flies = flight_as us _ _ _ (λ j key. arrived_all i e t w (λ l n. n.parcels key ≡ (w.nodes l).parcels key) (λ l. refl) (λ h. h) (λ n h. h) j)
         (carried_fly us _ _ _ k.flies (boxes_move i place e t w few out less));
     coherent = λ q h there. runs_kept q.home _ _ (run_of q.home _ _ (ran q h)) (k.coherent q h (was q h there));
@@ -59,6 +61,9 @@ carry_on w arrays us i place e t few out k keeps = record {
   where
     v : World
     v = (carries i e (Some t) w).world
+
+    grows : Grows (tables_of w) (tables_of v)
+    grows q h there = (h, table_carried q i e t w q.home ∙ there, refl)
 
     was : (q : Name) (h : Home) → table_of q v ≡ Some h → table_of q w ≡ Some h
     was q h there = sym (table_carried q i e t w q.home) ∙ there
@@ -121,6 +126,7 @@ all_start count capacity = record {
   cached = λ i. record { cached = λ q size c. absurd c; held = λ q r e m. absurd (cc); others = λ q size c. absurd c; once = tt };
   addressed = addressed_start count capacity;
   asks = λ i. tt;
+  named_sizes = λ i. record { mapped = λ q m e. absurd (cc); cached = λ q size c. absurd c };
   sizes = λ i q r e. absurd (cc);
   mail = tt;
   flies = record { boxed = subst (λ (l : List Piece). Moves [] l) (sym (nothing_boxed 0 count count capacity)) still; each = tt; came = λ i key. refl };
@@ -187,6 +193,7 @@ with_regions w us arrays before k h = let x = k.whole in record {
   cached = x.cached;
   addressed = x.addressed;
   asks = x.asks;
+  named_sizes = x.named_sizes;
   sizes = x.sizes;
   mail = h.mail;
   flies = h.under_way;

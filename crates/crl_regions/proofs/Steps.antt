@@ -32,12 +32,14 @@ use Rattle.crl_regions.proofs.MappedOrCached.{IsMappedOrCached}
 use Rattle.crl_regions.proofs.Addressed.{Addressed, NodesExistIf}
 use Rattle.crl_regions.specs.MailFits.{Tables, HasTable, ToldFits, FitsTables, MailFits, AllMailFits}
 use Rattle.crl_regions.proofs.Asking.{WaitsAsking}
+use Rattle.crl_regions.proofs.Sizes.{SizesFit}
+use Rattle.crl_protocol.specs.Lifetimes.{Mapping}
 use Rattle.crl_regions.proofs.Mails.{Sends}
 use Rattle.crl_regions.proofs.Carried.{of_node, node_here, node_there}
 use Rattle.crl_regions.proofs.Lift.{Lifted, Outcomes, lift, run_of}
-use Rattle.crl_regions.proofs.AllNodesHold.{AllNodesHold, table_at}
+use Rattle.crl_regions.proofs.AllNodesHold.{AllNodesHold, table_at, live_at}
 use Rattle.crl_deeds.proofs.Laws.{same_name, append_nil, all_append}
-use Rattle.crl_deeds.specs.NodeFacts.{Seen, seen, LiveFits, OwnFits, SizeIs, Fits}
+use Rattle.crl_deeds.specs.NodeFacts.{Seen, seen, LiveFits, OwnFits, SizeIs, Fits, IsCached}
 use Rattle.crl_deeds.specs.Turns.{Frame}
 use Rattle.crl_deeds.specs.Counts.{SectionsFit}
 
@@ -68,6 +70,12 @@ mail_grown before after from to (kind.Purge name) g f = tt
 mail_grown before after from to (kind.Purged name) g f = tt
 mail_grown before after from to (kind.Come round part) g f = tt
 mail_grown before after from to (kind.Result round fold) g f = tt
+
+pub sizes_grown : (before after : Tables) (n m : Node) → Grows before after → m.maps ≡ n.maps → m.cache ≡ n.cache → SizesFit before n → SizesFit after m
+sizes_grown before after n m g maps cache h = record {
+  mapped = λ q x e. let s = h.mapped q x (sym (ap (λ (f : Name → Option Mapping). f q) maps) ∙ e) in let k = g q s.0 s.1 in (k.0, k.1, k.2 ∙ s.2);
+  cached = λ q size c. let s = h.cached q size (subst (IsCached q size) cache c) in let k = g q s.0 s.1 in (k.0, k.1, k.2 ∙ s.2);
+}
 
 pub all_grown : (before after : Tables) (ms : List Message) → Grows before after → AllMailFits before ms → AllMailFits after ms
 all_grown before after [] g f = tt
@@ -126,14 +134,11 @@ pub record StepFits (w : World) (i : ℕ) (e : Event) (inbox : List Piece) (parc
   pub addressed : Addressed (steps_node i e o w).world
   pub sections : (j : ℕ) → SectionsFit ((steps_node i e o w).world.nodes j)
   pub asks : WaitsAsking o.node
+  pub named_sizes : SizesFit (tables_of w) o.node
   pub left_mail : AllMailFits (tables_of w) (messages_of left)
   pub flies : IsFlight left (boxes_from 0 w.count (at_node w.nodes i (record (w.nodes i) { inbox = inbox; parcels = parcels }))) (λ j. (at_node w.nodes i (record (w.nodes i) { inbox = inbox; parcels = parcels }) j).parcels)
   pub comes : (q : Name) → Comes (came q) (find_all (flying q) (messages_of us)) (find_all (flying q) (messages_of left))
   pub mail : (tables : Tables) → Sends i w.count (record (w.nodes i) { inbox = inbox; parcels = parcels }) tables → AllMailFits tables o.posts
-
-own_live : (b : Bool) (v : Seen) → OwnFits b v → LiveFits v.stage v.home
-own_live true v own = own.live
-own_live false v own = subst (λ s. LiveFits s v.home) (sym own.unknown) tt
 
 pub all_stepped : (w : World) (arrays : Name → List ℕ) (i : ℕ) (e : Event) (inbox : List Piece) (parcels : PartsGathered) (us left : List Under) (o : Outcome) (came : Name → Option Flying) (written : Name → Option (List ℕ))
     → AllNodesHold w arrays us → StepFits w i e inbox parcels us left o came written
@@ -148,6 +153,7 @@ all_stepped w arrays i e inbox parcels us left o came written k x = (
     cached = of_node w.nodes i m (λ j n. IsMappedOrCached n) x.cached (λ j other. k.cached j);
     addressed = x.addressed;
     asks = of_node w.nodes i m (λ j n. WaitsAsking n) x.asks (λ j other. k.asks j);
+    named_sizes = of_node w.nodes i m (λ j n. SizesFit after n) (sizes_grown before after o.node m grows refl refl x.named_sizes) (λ j other. sizes_grown before after (w.nodes j) (w.nodes j) grows refl refl (k.named_sizes j));
     sizes = of_node w.nodes i m (λ j n. (q : Name) (r : Remote) → n.remotes q ≡ Some r → (h : Home) × (table_of q v ≡ Some h) × (h.size ≡ r.size)) (λ q r f. known q r.size (sizes_now q (x.acts q) r f))
         (λ j other q r f. known q r.size (k.sizes j q r f));
     mail = subst (λ ms. AllMailFits after ms) (sym (messages_posted left o.posts)) (all_append (MailFits after) (messages_of left) o.posts (all_grown before after (messages_of left) grows x.left_mail) (x.mail after sends));
@@ -228,7 +234,7 @@ all_stepped w arrays i e inbox parcels us left o came written k x = (
       near = λ name h f. subst (NodesExistIf (w.nodes i).me w.count) f ((k.addressed i).node.1.homes name);
       home_there = λ name h f. grows name h (table_at w arrays us i name h k f).1;
       side_there = λ name r f. let s = k.sizes i name r f in let g = grows name s.0 s.1 in ((g.0, g.1), away i (w.nodes i) name r f (k.fits i));
-      live = λ name. own_live (is_mine (w.nodes i) name) (seen (w.nodes i) name) ((k.fits i).each name).own;
+      live = live_at w arrays us i k;
     }
 
     at_home : (q : Name) → (q.home == i) ≡ true → home_of n q ≡ None → table_of q w ≡ None

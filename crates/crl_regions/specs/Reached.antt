@@ -9,6 +9,7 @@ use Rattle.crl_model.specs.declared.message.Message.{Message}
 use Rattle.crl_protocol.specs.Places.{Took}
 use Rattle.crl_protocol.specs.Parcels.{Piece, Key, key_of}
 use Rattle.crl_protocol.specs.Remote.{Remote}
+use Rattle.crl_protocol.specs.Lifetimes.{Mapping, cached_size}
 use Rattle.crl_protocol.specs.Node.{Waiting, ForSection}
 use Rattle.crl_protocol.specs.Sections.{section_at}
 use Rattle.crl_protocol.specs.Handlers.{is_queued}
@@ -49,9 +50,12 @@ SectionsAreTheTables w = (i : ℕ) (name : Name) (array : List ℕ) (messages : 
 abbrev pub WriteSectionsAreAlone : World → Type 0
 WriteSectionsAreAlone w = (name : Name) (i j : ℕ) → i ≢ j → section_at name (w.nodes i).sections ≡ Writing → section_at name (w.nodes j).sections ≡ Closed
 
--- a node with a record of a region that isn't its own knows the region's size
-abbrev pub SizesAreKnown : World → Type 0
-SizesAreKnown w = (i : ℕ) (name : Name) (r : Remote) → (w.nodes i).remotes name ≡ Some r → HasSize r.size (table_of name w)
+-- The size that a node has of a region is the region's: in its record of another node's region, where it maps it, and in
+-- its cache.
+pub record SizesAreKnown (w : World) : Type 0 where
+  pub record_of : (i : ℕ) (name : Name) (r : Remote) → (w.nodes i).remotes name ≡ Some r → HasSize r.size (table_of name w)
+  pub mapped : (i : ℕ) (name : Name) (m : Mapping) → (w.nodes i).maps name ≡ Some m → HasSize m.size (table_of name w)
+  pub cached : (i : ℕ) (name : Name) (size : ℕ) → cached_size name (w.nodes i).cache ≡ Some size → HasSize size (table_of name w)
 
 -- A node that asks for a section of a region waits for it: another node with its ask, and the home with its own in the
 -- queue.

@@ -48,7 +48,8 @@ pub fn write_sections_are_alone()
     ensures { AfterRuns WriteSectionsAreAlone }
 {}
 
-/// A node with a record of a region that isn't its own knows the region's size.
+/// The size that a node has of a region is the region's: in its record of another node's region, where it maps it, and in
+/// its cache.
 pub fn sizes_are_known()
     ensures { AfterRuns SizesAreKnown }
 {}
