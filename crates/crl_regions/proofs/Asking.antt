@@ -5,14 +5,12 @@ use Rattle.crl_model.specs.declared.name.Name.{Name}
 use Rattle.crl_model.specs.declared.call.Call.{Call}
 use Rattle.crl_model.specs.declared.entry.What.{What}
 use Rattle.crl_model.specs.declared.directory.Asked.{Asked}
-use Rattle.crl_model.specs.declared.directory.Section.{Section}
-use Rattle.crl_model.specs.declared.directory.Section.TheVariants as section
 use Rattle.crl_model.specs.declared.message.Kind.{Kind}
 use Rattle.crl_model.specs.Names.{name_eq, at_name}
 use Rattle.crl_protocol.specs.Places.{at}
 use Rattle.crl_protocol.specs.Mail.{Letter}
 use Rattle.crl_protocol.specs.Home.{Home, HomeStep, is_servable, open_own, grant_next, grant_for, posts_first, opens_own_section, serve, home_takes_ask, home_takes_return, home_takes_release, is_to_lower, own_ask, is_empty, is_reading, home_starts}
-use Rattle.crl_protocol.specs.Remote.{Copy, Remote, RemoteStep, starts_over, remote_starts, is_newer, notes_due, overtakes, recall_in, recall_over, remote_takes_recall, yield_in, yield_over, remote_takes_yield}
+use Rattle.crl_protocol.specs.Remote.{Copy, Remote, RemoteStep, starts_over, remote_starts}
 use Rattle.crl_protocol.specs.Node.{Node, Outcome, ForSection, ForMap, ForDelete, ForRound, Activity, Free, Waiting, Ready, is_mine, home_of, with_home}
 use Rattle.crl_protocol.specs.Handlers.{is_queued, purges_waiting}
 use Rattle.crl_deeds.specs.Deeds.{FreeIf, Cause, Serves, ask_comes, copy_returns, copy_lowers, CallsBack, wholly, to_share, Copies, Lives, Rounds, Notes, Deed, copies, lives, rounds, notes, home_opens, home_waits, side_opens, side_waits, home_ends, side_ends, side_flushes, home_serves, home_serves_own, grant_comes, side_called, made, used_up, map_asks, map_comes, map_denied, unmaps_doomed, unmaps_evicting, deletes_own, delete_asks, delete_comes, drops, warns, ends_own, comes_last, part_comes, part_last_idle, flushes_own}

@@ -8,7 +8,7 @@ use Rattle.crl_model.specs.declared.event.Event.{Event}
 use Rattle.crl_model.specs.declared.event.Event.TheVariants as event
 use Rattle.crl_model.specs.declared.message.Message.{Message}
 use Rattle.crl_model.specs.Names.{at_node}
-use Rattle.crl_protocol.specs.Places.{find_all, Took, here, there, Taken, take_out}
+use Rattle.crl_protocol.specs.Places.{find_all, Took, Taken, take_out}
 use Rattle.crl_protocol.specs.Home.{Home, bytes_after}
 use Rattle.crl_protocol.specs.Node.{Node, Outcome, only, Done, is_mine, home_of, Activity, Free, Waiting, Ready}
 use Rattle.crl_protocol.specs.Verdict.{verdict}

@@ -1,7 +1,7 @@
 -- Messages of a list that stand at other places, and the messages of all nodes where one node's change.
 use Rattle.std.proofs.Common.{◌≡◌, ℕ, zero, suc, ◌+◌, ◌<◌, None, Some, Option, List, [], ◌∷◌, ◌++◌, refl, ap, sym, ◌∙◌, subst, append_assoc, arith}
 use Rattle.crl_protocol.specs.Parcels.{Piece}
-use Rattle.crl_protocol.specs.Places.{find_all, Took, here, there, Taken, behind, take_out}
+use Rattle.crl_protocol.specs.Places.{find_all, Took, here, there}
 use Rattle.crl_protocol.specs.Node.{Node}
 use Rattle.crl_protocol.specs.World.{boxes_from}
 use Rattle.crl_flight.specs.Flight.{Moves, still, moved}

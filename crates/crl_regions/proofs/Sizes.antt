@@ -1,18 +1,18 @@
 -- The sizes under which a node maps regions, and keeps them in its cache, are those of the regions.
-use Rattle.std.proofs.Common.{◌≡◌, ◌⊎◌, inl, inr, ℕ, ◌==◌, nat_lt, Bool, true, false, None, Some, Option, List, [], ◌∷◌, ◌++◌, length, if◌then◌else◌, refl, ap, sym, ◌∙◌, subst}
+use Rattle.std.proofs.Common.{◌≡◌, ◌⊎◌, inl, inr, ℕ, ◌==◌, nat_lt, None, Some, Option, List, [], ◌∷◌, length, if◌then◌else◌, refl, subst}
 use Rattle.std.proofs.lemmas.Bool.{cond_both}
 use Rattle.crl_model.specs.declared.name.Name.{Name}
 use Rattle.crl_model.specs.declared.stage.Stage.{Stage}
 use Rattle.crl_model.specs.declared.stage.Stage.TheVariants as stage
 use Rattle.crl_model.specs.declared.call.Call.{Call}
 use Rattle.crl_model.specs.declared.entry.What.{What}
-use Rattle.crl_model.specs.Names.{name_eq, at_name}
+use Rattle.crl_model.specs.Names.{at_name}
 use Rattle.crl_protocol.specs.Home.{Home}
 use Rattle.crl_protocol.specs.Lifetimes.{Mapping, Cached, CacheStep, cache_with, push_out}
-use Rattle.crl_protocol.specs.Node.{Node, Outcome, is_mine, home_of, lifetime_of}
+use Rattle.crl_protocol.specs.Node.{Node, Outcome, home_of, lifetime_of}
 use Rattle.crl_protocol.specs.Calls.{size_of}
 use Rattle.crl_deeds.specs.NodeFacts.{IsCached, LiveFits}
-use Rattle.crl_deeds.specs.Deeds.{Cause, Calls, Hears, Copies, Lives, Rounds, Notes, Deed, copies, lives, rounds, notes, home_opens, made, maps_more, maps_own, maps_cached, map_comes, unmaps_one, unmaps_own, unmaps_doomed, unmaps_keeping, unmaps_evicting, dooms, drops, comes_away, flushes_own}
+use Rattle.crl_deeds.specs.Deeds.{Cause, Calls, Hears, Copies, Lives, Rounds, Notes, Deed, copies, lives, rounds, notes, home_opens, maps_more, maps_own, maps_cached, map_comes, unmaps_one, unmaps_own, unmaps_doomed, unmaps_keeping, unmaps_evicting, dooms, drops, comes_away, flushes_own}
 use Rattle.crl_deeds.proofs.Laws.{by_name, is_cached, kept_dropped, kept_more}
 use Rattle.crl_regions.specs.MailFits.{Tables, HasSize, FitsTables}
 

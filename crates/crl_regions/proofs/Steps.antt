@@ -14,7 +14,7 @@ use Rattle.crl_protocol.specs.Mail.{Mail}
 use Rattle.crl_protocol.specs.Home.{Home, new_home, bytes_after}
 use Rattle.crl_protocol.specs.Remote.{Remote, new_remote}
 use Rattle.crl_protocol.specs.Sections.{section_at}
-use Rattle.crl_protocol.specs.Node.{Node, Outcome, is_mine, home_of}
+use Rattle.crl_protocol.specs.Node.{Node, Outcome, home_of}
 use Rattle.crl_protocol.specs.World.{World, boxes_from, pieces_in_boxes, commits, steps_node}
 use Rattle.crl_protocol.specs.Parcels.{Piece, Key, PartsGathered, pieces_in}
 use Rattle.crl_flight.specs.Flight.{Under, posted, IsFlight, messages_of}
@@ -39,7 +39,7 @@ use Rattle.crl_regions.proofs.Carried.{of_node, node_here, node_there}
 use Rattle.crl_regions.proofs.Lift.{Lifted, Outcomes, lift, run_of}
 use Rattle.crl_regions.proofs.AllNodesHold.{AllNodesHold, table_at, live_at}
 use Rattle.crl_deeds.proofs.Laws.{same_name, append_nil, all_append}
-use Rattle.crl_deeds.specs.NodeFacts.{Seen, seen, LiveFits, OwnFits, SizeIs, Fits, IsCached}
+use Rattle.crl_deeds.specs.NodeFacts.{SizeIs, Fits, IsCached}
 use Rattle.crl_deeds.specs.Turns.{Frame}
 use Rattle.crl_deeds.specs.Counts.{SectionsFit}
 
