@@ -5,6 +5,7 @@ mod FullRounds
 mod Histories
 pub mod Laws
 mod Listing
+mod Named
 mod Runs
 mod Sections
 mod States
