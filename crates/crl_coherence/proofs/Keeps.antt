@@ -10,7 +10,7 @@ use Rattle.crl_protocol.specs.Mail.{Return, Release}
 use Rattle.crl_protocol.specs.Home.{Home, bytes_after, is_to_lower, shared_listing, serve, home_takes_return, home_takes_release, home_ends_write}
 use Rattle.crl_protocol.specs.Remote.{Copy, Remote, with_written, leaves_over, lowers_over, sends_nothing, remote_ends_write}
 use Rattle.crl_coherence.specs.Region.{Flying, Region, flies, IsIdle, at_home, at_remote, Happens, ask_comes, return_comes, release_comes, home_start, home_end_read, home_end_write, grant_comes, recall_comes, yield_comes, start, end_read, end_write, flush, forget, appears, carry, elsewhere}
-use Rattle.crl_coherence.specs.Coherent.{IsCoherent, MineFits, section_at}
+use Rattle.crl_coherence.specs.Coherent.{IsCoherent, MineFits, node_section}
 use Rattle.crl_coherence.proofs.Lists.{same_or}
 use Rattle.crl_coherence.proofs.Mails.{set_here}
 use Rattle.crl_coherence.proofs.Opens.{open_here, open_there, reader_at, writer_at, reader_is, own_shut}
@@ -63,9 +63,9 @@ own_write_shut me bytes h idle = serve_mine me (record h { bytes = bytes; mine =
 
 -- the array after the event is that before it, or the section that is open at node n ended and wrote it
 abbrev pub IsLeft : ℕ → Region → Region → ℕ → Type 0
-IsLeft me g h n = (h.array ≡ g.array) ⊎ ((section_at me g n ≡ Writing) × (section_at me h n ≡ Closed))
+IsLeft me g h n = (h.array ≡ g.array) ⊎ ((node_section me g n ≡ Writing) × (node_section me h n ≡ Closed))
 
-own_end : (me : ℕ) (g : Region) (n : ℕ) (bytes : List ℕ) → IsCoherent me g → g.home.mine ≡ Writing → IsIdle me g.home.queue → section_at me g n ≢ Closed
+own_end : (me : ℕ) (g : Region) (n : ℕ) (bytes : List ℕ) → IsCoherent me g → g.home.mine ≡ Writing → IsIdle me g.home.queue → node_section me g n ≢ Closed
     → IsLeft me g (record (at_home (home_ends_write me bytes g.home) g.flight g) { array = bytes }) n
 own_end me g n bytes k writing idle is_open = elim (same_or n me) [
   | inl e ↦ inr (open_here me n g.home.mine g.remotes e ∙ writing, open_here me n (home_ends_write me bytes g.home).home.mine g.remotes e ∙ own_write_shut me bytes g.home idle)
@@ -75,7 +75,7 @@ own_end me g n bytes k writing idle is_open = elim (same_or n me) [
     none : (l : Listing) × (at n g.home.listed ≡ Some l) → ⊥
     none u = let m : MineFits Writing u.0.exclusive = subst (λ s. MineFits s u.0.exclusive) writing (k.loose.mine n u.0 u.1) in elim m [ ]
 
-other_end : (me : ℕ) (g : Region) (n m : ℕ) (bytes : List ℕ) → IsCoherent me g → m ≢ me → (g.remotes m).here ≡ Writing → section_at me g n ≢ Closed
+other_end : (me : ℕ) (g : Region) (n m : ℕ) (bytes : List ℕ) → IsCoherent me g → m ≢ me → (g.remotes m).here ≡ Writing → node_section me g n ≢ Closed
     → IsLeft me g (record (at_remote m (remote_ends_write bytes (g.remotes m)) g.flight g) { array = bytes }) n
 other_end me g n m bytes k other writing is_open = elim (same_or n m) [
   | inl e ↦ subst (λ x. IsLeft me g (record (at_remote m (remote_ends_write bytes (g.remotes m)) g.flight g) { array = bytes }) x) (sym e) (inr (
@@ -91,7 +91,7 @@ other_end me g n m bytes k other writing is_open = elim (same_or n m) [
     writer : (l : Listing) × (at m g.home.listed ≡ Some l) × (l.exclusive ≡ true)
     writer = writer_at me g.array g.home g.home.queue g.remotes g.flight k.loose m other writing
 
-pub array_left : (me : ℕ) (g h : Region) (n : ℕ) → IsCoherent me g → Happens me g h → section_at me g n ≢ Closed → IsLeft me g h n
+pub array_left : (me : ℕ) (g h : Region) (n : ℕ) → IsCoherent me g → Happens me g h → node_section me g n ≢ Closed → IsLeft me g h n
 array_left me g h n k (ask_comes m write have rest other took) is_open = inl refl
 array_left me g h n k (return_comes m version bytes rest other took) is_open = inl refl
 array_left me g h n k (release_comes m version bytes rest other took) is_open = inl refl

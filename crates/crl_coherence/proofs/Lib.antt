@@ -1,13 +1,15 @@
 mod Calls
-pub mod Events
+mod Events
 mod Facts
-pub mod Fits
+mod Fits
 mod Forgets
 mod HomeEvents
-pub mod Keeps
-pub mod Lists
+mod Keeps
+pub mod Laws
+mod Lists
 mod Mails
-pub mod Opens
+mod OpenBytes
+mod Opens
 mod OwnEvents
 mod Owned
 mod Pairs
@@ -22,4 +24,6 @@ mod RemoteYields
 mod Rounds
 mod Serve
 mod Stands
+mod Statements
 mod Waits
+mod WritersAlone

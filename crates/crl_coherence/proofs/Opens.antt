@@ -13,7 +13,7 @@ use Rattle.crl_protocol.specs.Home.{Home, blocks, is_servable, lets_open, is_emp
 use Rattle.crl_protocol.specs.Remote.{Copy, Remote, starts_over, remote_starts, remote_takes_grant}
 use Rattle.crl_coherence.specs.Region.{Flying, Region, flies, MayStart}
 use Rattle.crl_coherence.specs.Pairs.{pair_of, of_node, granted_in}
-use Rattle.crl_coherence.specs.Coherent.{IsLoose, IsCoherent, HeadWaits, MineFits, section_at, MayRead, MayWrite, MayOpen}
+use Rattle.crl_coherence.specs.Coherent.{IsLoose, IsCoherent, HeadWaits, MineFits, node_section, MayRead, MayWrite, MayOpen}
 use Rattle.crl_coherence.proofs.Lists.{same_or, took_some, took_all}
 use Rattle.crl_coherence.proofs.Calls.{clear_at}
 use Rattle.crl_coherence.proofs.Facts.{grants_one, reader_listed, writer_listed, copy_listed, grant_listed, grant_shows, section_closed, not_writing}
@@ -118,7 +118,7 @@ module _ (me : ℕ) (array : List ℕ) (h : Home) (q : List Asked) (remotes : �
 
 -- a call of another node
 abbrev pub CallOpens : ℕ → Region → ℕ → Bool → Type 0
-CallOpens me g n write = MayOpen write (section_at me g) × ((copy : Copy) × ((g.remotes n).copy ≡ Some copy) × (copy.bytes ≡ g.array))
+CallOpens me g n write = MayOpen write (node_section me g) × ((copy : Copy) × ((g.remotes n).copy ≡ Some copy) × (copy.bytes ≡ g.array))
 
 not_opened : (write : Bool) (c : Copy) (r : Remote) → (starts_over write (Some c) r).opened ≡ true → write ≡ true → c.exclusive ≡ true
 not_opened write c r e w = grind arith
@@ -138,7 +138,7 @@ call_opens me g n write k other may idle opened = go (g.remotes n).copy refl ope
     s : ((g.remotes n).here ≢ Writing) × (write ≡ true → (g.remotes n).here ≡ Closed)
     s = start_here write (g.remotes n).here may
 
-    opens : (w : Bool) (l : Listing) → write ≡ w → at n g.home.listed ≡ Some l → (write ≡ true → l.exclusive ≡ true) → MayOpen w (section_at me g)
+    opens : (w : Bool) (l : Listing) → write ≡ w → at n g.home.listed ≡ Some l → (write ≡ true → l.exclusive ≡ true) → MayOpen w (node_section me g)
     opens false l e f x = may_read me g.array g.home g.home.queue g.remotes g.flight k.loose n l f s.0
     opens true l e f x = may_write me g.array g.home g.home.queue g.remotes g.flight k.loose n l f (x e) (s.1 e)
 
@@ -159,7 +159,7 @@ only_grant me g n version granted rest k other took =
     (grants_one g.home.last g.array (pair_of g.home.listed g.home.queue g.remotes g.flight n) (k.loose.pairs n other))).0
 
 pub grant_opens : (me : ℕ) (g : Region) (n version : ℕ) (granted : Granted) (rest : List Flying) → IsCoherent me g → n ≢ me → Took (flies n (Grant version granted)) g.flight rest
-    → (write : Bool) × ((g.remotes n).asking ≡ Some write) × MayOpen write (section_at me g)
+    → (write : Bool) × ((g.remotes n).asking ≡ Some write) × MayOpen write (node_section me g)
 grant_opens me g n version granted rest k other took =
     let one = only_grant me g n version granted rest k other took in
     let x = grant_listed g.home.last g.array (pair_of g.home.listed g.home.queue g.remotes g.flight n) (record { version = version; what = granted }) one (k.loose.pairs n other) in
@@ -193,7 +193,7 @@ ask_quiet me h [] a w other = go (is_servable h a) (a.node == me) (grind arith)
 
 -- a call of the home
 abbrev pub HomeOpens : ℕ → Region → Bool → HomeStep → Type 0
-HomeOpens me g write s = s.opened ≡ true → MayOpen write (section_at me g) × (s.home.bytes ≡ g.array)
+HomeOpens me g write s = s.opened ≡ true → MayOpen write (node_section me g) × (s.home.bytes ≡ g.array)
 
 pub home_opens : (me : ℕ) (g : Region) (write : Bool) → IsCoherent me g → HomeOpens me g write (home_starts me write g.home)
 unfolding home_starts
@@ -222,7 +222,7 @@ home_opens me g write k = go (not write && is_reading g.home.mine) refl (is_empt
         → HomeOpens me g write (if b then record { home = record g.home { mine = one_section_more g.home.mine }; posts = []; opened = true }
         else if c then record { home = open_own g.home (own_ask me write); posts = []; opened = true }
         else serve me g.home (g.home.queue ++ own_ask me write ∷ []))
-    go true e c f = λ o. (subst (λ w. MayOpen w (section_at me g)) (sym (is_read e)) (home_reads me g.array g.home g.home.queue g.remotes g.flight k.loose (shared e) (reads e)), k.loose.bytes (shared e))
+    go true e c f = λ o. (subst (λ w. MayOpen w (node_section me g)) (sym (is_read e)) (home_reads me g.array g.home g.home.queue g.remotes g.flight k.loose (shared e) (reads e)), k.loose.bytes (shared e))
     go false e true f = λ o. let s : is_servable g.home (own_ask me write) ≡ true = grind arith in
         (own_opens me g.array g.home g.home.queue g.remotes g.flight k.loose (own_ask me write) refl s, own_bytes me g.array g.home g.home.queue g.remotes g.flight k.loose (own_ask me write) refl s)
     go false e false f = λ o. let w = waits g.home.queue k.head f in cc

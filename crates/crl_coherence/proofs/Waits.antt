@@ -14,7 +14,7 @@ use Rattle.crl_protocol.specs.Remote.{Copy, is_recall_due, is_yield_due}
 use Rattle.crl_protocol.specs.Handlers.{is_queued}
 use Rattle.crl_coherence.specs.Region.{Region}
 use Rattle.crl_coherence.specs.Pairs.{HomeAndNode, PairHolds, RecallFits, MarkFits, LeavingFits, pair_of, of_node, asked_in, granted_in, recalled_in, yields_in, returned_in, released_in, queued_of}
-use Rattle.crl_coherence.specs.Coherent.{IsCoherent, HeadWaits, OwnAsk, section_at}
+use Rattle.crl_coherence.specs.Coherent.{IsCoherent, HeadWaits, OwnAsk, node_section}
 use Rattle.crl_coherence.proofs.Lists.{same_or, picked_some}
 use Rattle.crl_coherence.proofs.Calls.{blocker}
 
@@ -114,12 +114,12 @@ queued : (last : ℕ) (array : List ℕ) (p : HomeAndNode) → p.remote.asking �
 queued last array p waits none h e = let a = h.ask in grind arith
 
 abbrev pub IsHeld : ℕ → Region → ℕ → Type 0
-IsHeld me g n = (m : ℕ) × (m ≢ n) × (section_at me g m ≢ Closed)
+IsHeld me g n = (m : ℕ) × (m ≢ n) × (node_section me g m ≢ Closed)
 
-section_own : (me : ℕ) (g : Region) → section_at me g me ≡ g.home.mine
+section_own : (me : ℕ) (g : Region) → node_section me g me ≡ g.home.mine
 section_own me g = grind arith
 
-section_other : (me : ℕ) (g : Region) (m : ℕ) → m ≢ me → section_at me g m ≡ (g.remotes m).here
+section_other : (me : ℕ) (g : Region) (m : ℕ) → m ≢ me → node_section me g m ≡ (g.remotes m).here
 section_other me g m h = grind arith
 
 pub waits_other : (me : ℕ) (g : Region) (n : ℕ) → IsCoherent me g → g.flight ≡ [] → n ≢ me → (g.remotes n).asking ≢ None → IsHeld me g n

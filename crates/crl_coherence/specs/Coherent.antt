@@ -10,6 +10,7 @@ use Rattle.crl_protocol.specs.Places.{at, find_all}
 use Rattle.crl_protocol.specs.Home.{Home, blocks, is_servable, mark_for, new_home}
 use Rattle.crl_protocol.specs.Remote.{Remote, new_remote}
 use Rattle.crl_protocol.specs.Sections.{is_writing}
+use Rattle.crl_protocol.specs.Sectioning.{copy_bytes}
 use Rattle.crl_coherence.specs.Region.{Flying, Region}
 use Rattle.crl_coherence.specs.Pairs.{PairHolds, Owns, pair_of, queued_of}
 
@@ -61,8 +62,12 @@ created nodes size sizes = record {
 }
 
 -- the sections that are open at a node
-abbrev pub section_at : ℕ → Region → ℕ → Section
-section_at me g n = if n == me then g.home.mine else (g.remotes n).here
+abbrev pub node_section : ℕ → Region → ℕ → Section
+node_section me g n = if n == me then g.home.mine else (g.remotes n).here
+
+-- the bytes that a node has of the region
+abbrev pub bytes_at_node : ℕ → Region → ℕ → List ℕ
+bytes_at_node me g n = if n == me then g.home.bytes else copy_bytes (g.remotes n).copy
 
 -- A section may open as the single machine has it: to read, no write section is open anywhere; to write, no
 -- section at all.

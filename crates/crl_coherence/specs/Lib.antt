@@ -1,4 +1,5 @@
 pub mod Coherent
 pub mod Directory
+pub mod Facts
 pub mod Pairs
 pub mod Region

@@ -1,6 +1,7 @@
-pub mod Orders
-pub mod Loads
-pub mod Arriving
-pub mod Flying
-pub mod Coming
-pub mod Weighing
+mod Arriving
+mod Coming
+mod Flying
+pub mod Laws
+mod Loads
+mod Orders
+mod Weighing

@@ -12,12 +12,11 @@ use Rattle.crl_protocol.specs.Home.{Home, HomeStep, new_home, bytes_after}
 use Rattle.crl_protocol.specs.Remote.{Remote, RemoteStep, new_remote, remote_flushes}
 use Rattle.crl_protocol.specs.Sections.{section_at}
 use Rattle.crl_protocol.specs.Node.{Node, Outcome, at_serial, is_mine, home_of, with_home, message_to, letter_messages, mail_messages}
-use Rattle.crl_deeds.specs.NodeFacts.{SizeIs}
-use Rattle.crl_deeds.proofs.Laws.{name_self, home_put}
 use Rattle.crl_coherence.specs.Region.{Flying, Region, Happens, sent, sent_by, at_home, at_remote}
-use Rattle.crl_coherence.proofs.Lists.{picked_none, picked_some, more_none}
-use Rattle.crl_regions.proofs.Near.{Near}
+use Rattle.crl_coherence.proofs.Laws.{picked_none, picked_some, more_none}
 use Rattle.crl_regions.specs.View.{if_about, mail_in, other_end, flown, flying, side}
+use Rattle.crl_deeds.proofs.Laws.{name_self, home_put}
+use Rattle.crl_deeds.specs.NodeFacts.{SizeIs}
 
 -- a message that comes is taken out of those under way, and without one they stay
 abbrev pub Comes : Option Flying → List Flying → List Flying → Type 0
@@ -30,16 +29,6 @@ expected (Some h) r = h.mine
 expected None (Some r) = r.here
 expected None None = section.Closed
 
-abbrev pub CountFits : Section → Type 0
-CountFits section.Closed = Unit {0}
-CountFits (section.Reading count) = count < 2 ^ 32
-CountFits section.Writing = Unit {0}
-
--- the node of a message that comes is one of so many
-abbrev pub FromNear : ℕ → Option Flying → Type 0
-FromNear count None = Unit {0}
-FromNear count (Some f) = f.node < count
-
 -- An outcome of node i, with the message that came and the bytes that a write section leaves, does one of these
 -- to a region: nothing; an event at its home; an event at a node other than the home; where the region isn't there,
 -- nothing either; or it makes the region.
@@ -47,11 +36,11 @@ pub data Acts (K : Name → ℕ → Type 0) (q : Name) (i : ℕ) (came : Option 
   nothing : came ≡ None → written ≡ None → home_of m q ≡ home_of n q → m.remotes q ≡ n.remotes q → find_all (flying q) posts ≡ []
       → section_at q m.sections ≡ section_at q n.sections → Acts K q i came written n m posts
   home_acts : (h : Home) (s : HomeStep) → home_of n q ≡ Some h → home_of m q ≡ Some s.home → s.home.size ≡ h.size → m.remotes q ≡ n.remotes q → find_all (flying q) posts ≡ sent s.posts
-      → s.home.mine ≡ section_at q m.sections → CountFits (section_at q m.sections) → ((count : ℕ) → i < count → FromNear count came → Near q.home count h → Near q.home count s.home)
+      → s.home.mine ≡ section_at q m.sections
       → ((g : Region) (rest : List Flying) → g.home ≡ h → Comes came g.flight rest → Happens q.home g (record (at_home s rest g) { array = bytes_after written g.array }))
       → Acts K q i came written n m posts
   side_acts : (after : ℕ → Remote) (mail_messages : List Mail) → home_of n q ≡ None → home_of m q ≡ home_of n q → ((size : ℕ) → side size (m.remotes q) ≡ after size) → find_all (flying q) posts ≡ sent_by i mail_messages
-      → expected None (m.remotes q) ≡ section_at q m.sections → CountFits (section_at q m.sections)
+      → expected None (m.remotes q) ≡ section_at q m.sections
       → (((r0 : Remote) → n.remotes q ≡ Some r0 → K q r0.size) → (r : Remote) → m.remotes q ≡ Some r → K q r.size)
       → ((g : Region) (rest : List Flying) → g.remotes i ≡ side g.home.size (n.remotes q) → SizeIs (n.remotes q) g.home.size → Comes came g.flight rest
       → Happens q.home g (record g { remotes = at_node g.remotes i (after g.home.size); flight = rest ++ sent_by i mail_messages; array = bytes_after written g.array }))
@@ -122,8 +111,8 @@ home_is n name h e = go (is_mine n name) refl e
 pub acts_sending : (K : Name → ℕ → Type 0) (q : Name) (i : ℕ) (came : Option Flying) (written : Option (List ℕ)) (n m : Node) (posts : List Message) (x : Message) → flying q x ≡ None
     → Acts K q i came written n m posts → Acts K q i came written n m (posts ++ x ∷ [])
 acts_sending K q i came written n m posts x e (nothing a b c d f o) = nothing a b c d (more_none (flying q) posts x e ∙ f) o
-acts_sending K q i came written n m posts x e (home_acts h s a b c d f o p near happens) = home_acts h s a b c d (more_none (flying q) posts x e ∙ f) o p near happens
-acts_sending K q i came written n m posts x e (side_acts after mail_messages z a b f o p known happens) = side_acts after mail_messages z a b (more_none (flying q) posts x e ∙ f) o p known happens
+acts_sending K q i came written n m posts x e (home_acts h s a b c d f o happens) = home_acts h s a b c d (more_none (flying q) posts x e ∙ f) o happens
+acts_sending K q i came written n m posts x e (side_acts after mail_messages z a b f o known happens) = side_acts after mail_messages z a b (more_none (flying q) posts x e ∙ f) o known happens
 acts_sending K q i came written n m posts x e (absent a b c d f g o) = absent a b c d f (more_none (flying q) posts x e ∙ g) o
 acts_sending K q i came written n m posts x e (made size a b c d f g k o) = made size a b c d f g (more_none (flying q) posts x e ∙ k) o
 
@@ -134,11 +123,11 @@ away_none n name i me other = cond-false (is_mine n name) _ _ (ne_eqb name.home 
 -- A step at the home, for the name and for all others.
 pub home_here : (K : Name → ℕ → Type 0) (name : Name) (i : ℕ) (came : Option Flying) (written : Option (List ℕ)) (n m : Node) (h : Home) (s : HomeStep) → home_of n name ≡ Some h
     → home_of m name ≡ home_of (with_home name s.home n) name → m.remotes name ≡ n.remotes name → s.home.size ≡ h.size
-    → s.home.mine ≡ section_at name m.sections → CountFits (section_at name m.sections) → ((count : ℕ) → i < count → FromNear count came → Near name.home count h → Near name.home count s.home)
+    → s.home.mine ≡ section_at name m.sections
     → ((g : Region) (rest : List Flying) → g.home ≡ h → Comes came g.flight rest → Happens name.home g (record (at_home s rest g) { array = bytes_after written g.array }))
     → Acts K name i came written n m (letter_messages n name s.posts)
-home_here K name i came written n m h s e there same size mine count near happens =
-    home_acts h s e (there ∙ (home_put n name h s.home e name ∙ cond-true (name_eq name name) _ _ (name_self name))) size same (letters_here n name s.posts (home_is n name h e)) mine count near happens
+home_here K name i came written n m h s e there same size mine happens =
+    home_acts h s e (there ∙ (home_put n name h s.home e name ∙ cond-true (name_eq name name) _ _ (name_self name))) size same (letters_here n name s.posts (home_is n name h e)) mine happens
 
 pub home_there : (K : Name → ℕ → Type 0) (name q : Name) (i : ℕ) (n m : Node) (h : Home) (s : HomeStep) → home_of n name ≡ Some h → home_of m q ≡ home_of (with_home name s.home n) q
     → m.remotes q ≡ n.remotes q → section_at q m.sections ≡ section_at q n.sections → name_eq name q ≡ false → Acts K q i None None n m (letter_messages n name s.posts)
@@ -147,11 +136,11 @@ home_there K name q i n m h s e there same sections other =
 
 -- a step at another node's side
 pub moved_here : (K : Name → ℕ → Type 0) (name : Name) (i : ℕ) (came : Option Flying) (written : Option (List ℕ)) (n m : Node) (r : Remote) (s : RemoteStep) → n.remotes name ≡ Some r → m.remotes name ≡ Some s.remote
-    → home_of m name ≡ home_of n name → n.me ≡ i → (i == name.home) ≡ false → s.remote.here ≡ section_at name m.sections → CountFits (section_at name m.sections) → s.remote.size ≡ r.size
+    → home_of m name ≡ home_of n name → n.me ≡ i → (i == name.home) ≡ false → s.remote.here ≡ section_at name m.sections → s.remote.size ≡ r.size
     → ((g : Region) (rest : List Flying) → g.remotes i ≡ r → r.size ≡ g.home.size → Comes came g.flight rest → Happens name.home g (record (at_remote i s rest g) { array = bytes_after written g.array }))
     → Acts K name i came written n m (mail_messages n name s.posts)
-moved_here K name i came written n m r s e after home me other here count size happens =
-    side_acts (λ size. s.remote) s.posts (away_none n name i me other) home (λ size. ap (λ o. side size o) after) (mails_here n name i s.posts me other) (ap (λ o. expected None o) after ∙ here) count
+moved_here K name i came written n m r s e after home me other here size happens =
+    side_acts (λ size. s.remote) s.posts (away_none n name i me other) home (λ size. ap (λ o. side size o) after) (mails_here n name i s.posts me other) (ap (λ o. expected None o) after ∙ here)
     (λ known x w. let same : s.remote ≡ x = (let both : Some s.remote ≡ Some x = sym after ∙ w in cc) in subst (λ z. K name z) (sym size ∙ ap (λ (y : Remote). y.size) same) (known r e))
     (λ g rest at_i sized comes. happens g rest (at_i ∙ ap (λ o. side g.home.size o) e) (subst (λ o. SizeIs o g.home.size) e sized) comes)
 
@@ -163,6 +152,6 @@ pub forgotten_here : (K : Name → ℕ → Type 0) (name : Name) (i : ℕ) (n m 
     → ((g : Region) → g.remotes i ≡ r → Happens name.home g (record (at_remote i (remote_flushes r) g.flight g) { remotes = at_node g.remotes i (new_remote g.home.size) }))
     → Acts K name i None None n m (mail_messages n name (remote_flushes r).posts)
 forgotten_here K name i n m r e after home me other closed happens =
-    side_acts (λ size. new_remote size) (remote_flushes r).posts (away_none n name i me other) home (λ size. ap (λ o. side size o) after) (mails_here n name i (remote_flushes r).posts me other) (ap (λ o. expected None o) after ∙ closed) (subst (λ x. CountFits x) closed tt) (λ known x w. absurd (let none = after in cc))
+    side_acts (λ size. new_remote size) (remote_flushes r).posts (away_none n name i me other) home (λ size. ap (λ o. side size o) after) (mails_here n name i (remote_flushes r).posts me other) (ap (λ o. expected None o) after ∙ closed) (λ known x w. absurd (let none = after in cc))
     (λ g rest at_i sized comes. subst (λ x. Happens name.home g (record g { remotes = at_node g.remotes i (new_remote g.home.size); flight = x ++ sent_by i (remote_flushes r).posts; array = g.array }))
     (sym comes) (happens g (at_i ∙ ap (λ o. side g.home.size o) e)))

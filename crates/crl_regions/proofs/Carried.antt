@@ -1,20 +1,22 @@
 -- A message that is carried from box to box.
-use Rattle.std.proofs.Common.{◌≡◌, ℕ, ◌<◌, ◌==◌, nat_lt, Bool, true, false, Some, List, ◌∷◌, ◌++◌, refl, ap, sym, subst, arith}
-use Rattle.std.proofs.lemmas.Bool.{cond_both, cond-true, cond-false, eqb-true, eq-eqb, ne_eqb, ltb-true, ltb-false}
+use Rattle.std.proofs.Common.{◌≡◌, ℕ, ◌<◌, ◌==◌, Some, List, refl, ap, sym, subst}
+use Rattle.std.proofs.lemmas.Bool.{cond_both, cond-true, cond-false, eqb-true, eq-eqb, ne_eqb}
 use Rattle.crl_model.specs.declared.name.Name.{Name}
 use Rattle.crl_model.specs.declared.event.Event.{Event}
 use Rattle.crl_model.specs.declared.message.Message.{Message}
 use Rattle.crl_protocol.specs.Parcels.{Piece}
 use Rattle.crl_model.specs.Names.{at_node}
-use Rattle.crl_protocol.specs.Places.{Took, here, Taken, take_out}
+use Rattle.crl_protocol.specs.Places.{Took, Taken, take_out}
 use Rattle.crl_protocol.specs.Home.{Home}
 use Rattle.crl_protocol.specs.Node.{Node, home_of}
 use Rattle.crl_protocol.specs.World.{World, pieces_in_boxes, boxes_from, note, put_in}
-use Rattle.crl_coherence.specs.Region.{elsewhere, Run}
-use Rattle.crl_regions.specs.View.{AreLost, side, sight}
+use Rattle.crl_coherence.specs.Region.{elsewhere}
+use Rattle.crl_regions.specs.View.{side, sight}
+use Rattle.crl_regions.specs.Steps.{GoesOn}
 use Rattle.crl_flight.specs.Flight.{Moves, still, moved}
-use Rattle.crl_regions.proofs.Moves.{boxes, flight_took, flight_same, took_out, took_left, took_right, took_put}
+use Rattle.crl_regions.proofs.Moves.{boxes, flight_took, took_left, took_right, took_put}
 use Rattle.crl_regions.proofs.Lift.{finish}
+use Rattle.crl_deeds.proofs.Laws.{took_at}
 
 -- what holds of each node where one of them has another value
 pub of_node : {A : Type 0} (f : ℕ → A) (i : ℕ) (v : A) (P : ℕ → A → Type 0) → P i v → ((j : ℕ) → (j ≡ i → ⊥) → P j (f j)) → (j : ℕ) → P j (at_node f i v j)
@@ -40,7 +42,7 @@ arrived i e t w = at_node (between i e t w) t.taken.message.addressee (put_in t.
 pub leaves : (i place : ℕ) (e : Event) (t : Taken Piece) (w : World) → i < w.count → take_out place (w.nodes i).outbox ≡ Some t → Took t.taken (pieces_in_boxes w) (boxes_from 0 w.count (between i e t w))
 leaves i place e t w few out =
     flight_took t.taken w.count i w.nodes (between i e t w) few
-    (subst (λ (n : Node). Took t.taken (boxes (w.nodes i)) (boxes n)) (sym (node_here w.nodes i (sender i e t w))) (took_right (w.nodes i).inbox (took_out place (w.nodes i).outbox t out)))
+    (subst (λ (n : Node). Took t.taken (boxes (w.nodes i)) (boxes n)) (sym (node_here w.nodes i (sender i e t w))) (took_right (w.nodes i).inbox (took_at place (w.nodes i).outbox t out)))
     (λ l n. ap boxes (sym (node_there w.nodes i (sender i e t w) l n)))
 
 pub arrives : (i : ℕ) (e : Event) (t : Taken Piece) (w : World) → t.taken.message.addressee < w.count → Took t.taken (boxes_from 0 w.count (arrived i e t w)) (boxes_from 0 w.count (between i e t w))
@@ -65,23 +67,13 @@ side_carried q i e t w j =
     before : (k : ℕ) → (between i e t w k).remotes q ≡ (w.nodes k).remotes q
     before = of_node w.nodes i (sender i e t w) (λ k n. n.remotes q ≡ (w.nodes k).remotes q) refl (λ k ne. refl)
 
--- The piece is at another place. Where its addressee is no node of the world, it is lost.
-pub boxes_move : (i place : ℕ) (e : Event) (t : Taken Piece) (w : World) (lost : List Piece) → i < w.count → take_out place (w.nodes i).outbox ≡ Some t → AreLost w.count lost
-    → (after : List Piece) × AreLost w.count after × Moves (pieces_in_boxes w ++ lost) (boxes_from 0 w.count (arrived i e t w) ++ after)
-boxes_move i place e t w lost few out strays = go (nat_lt t.taken.message.addressee w.count) refl
-  where
-    gone : Took t.taken (pieces_in_boxes w ++ lost) (boxes_from 0 w.count (between i e t w) ++ lost)
-    gone = took_left lost (leaves i place e t w few out)
-
-    go : (b : Bool) → nat_lt t.taken.message.addressee w.count ≡ b → (after : List Piece) × AreLost w.count after × Moves (pieces_in_boxes w ++ lost) (boxes_from 0 w.count (arrived i e t w) ++ after)
-    go true b = (lost, strays, moved t.taken _ gone (took_left lost (arrives i e t w (ltb-true t.taken.message.addressee w.count b))) still)
-    go false b =
-        let same = flight_same w.count (between i e t w) (arrived i e t w)
-        (λ l few_l. ap boxes (sym (node_there (between i e t w) t.taken.message.addressee (put_in t.taken (between i e t w t.taken.message.addressee)) l (λ same. let past = ltb-false t.taken.message.addressee w.count b in omega arith)))) in
-        (t.taken ∷ lost, (ltb-false t.taken.message.addressee w.count b, strays), subst (λ l. Moves (pieces_in_boxes w ++ lost) (l ++ (t.taken ∷ lost))) same (moved t.taken _ gone (took_right (boxes_from 0 w.count (between i e t w)) here) still))
+-- The piece is at another place.
+pub boxes_move : (i place : ℕ) (e : Event) (t : Taken Piece) (w : World) → i < w.count → take_out place (w.nodes i).outbox ≡ Some t → t.taken.message.addressee < w.count
+    → Moves (pieces_in_boxes w) (boxes_from 0 w.count (arrived i e t w))
+boxes_move i place e t w few out less = moved t.taken _ (leaves i place e t w few out) (arrives i e t w less) still
 
 pub carried_run : (q : Name) (h : Home) (array : List ℕ) (messages : List Message) (i : ℕ) (e : Event) (t : Taken Piece) (w : World)
-    → Run q.home (sight q h w.nodes messages array) (sight q h (arrived i e t w) messages array)
+    → GoesOn q.home (sight q h w.nodes messages array) (sight q h (arrived i e t w) messages array)
 carried_run q h array messages i e t w =
     let g = sight q h w.nodes messages array in
     finish q.home g g _ elsewhere refl (λ j. ap (λ o. side h.size o) (sym (side_carried q i e t w j))) refl still

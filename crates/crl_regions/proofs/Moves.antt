@@ -4,10 +4,10 @@ use Rattle.crl_protocol.specs.Parcels.{Piece}
 use Rattle.crl_protocol.specs.Places.{find_all, Took, here, there, Taken, behind, take_out}
 use Rattle.crl_protocol.specs.Node.{Node}
 use Rattle.crl_protocol.specs.World.{boxes_from}
-use Rattle.crl_deeds.proofs.Laws.{append_nil}
 use Rattle.crl_flight.specs.Flight.{Moves, still, moved}
 use Rattle.crl_coherence.specs.Region.{Flying, Region, carry, Run, done, next}
-use Rattle.crl_coherence.proofs.Lists.{took_some, took_none}
+use Rattle.crl_coherence.proofs.Laws.{took_some, took_none}
+use Rattle.crl_deeds.proofs.Laws.{append_nil}
 
 pub moves_then : {A : Type 0} {xs ys zs : List A} → Moves xs ys → Moves ys zs → Moves xs zs
 moves_then still n = n
@@ -52,16 +52,6 @@ run_moves me g after m = go g.flight after m
 pub run_then : (me : ℕ) (g h k : Region) → Run me g h → Run me h k → Run me g k
 run_then me g h k done s = s
 run_then me g h k (next {h = between} e r) s = next e (run_then me between h k r s)
-
--- what is taken out by its place is taken out
-took_behind : {A : Type 0} (x : A) (xs : List A) (t : Taken A) (o : Option (Taken A)) → behind x o ≡ Some t → ((u : Taken A) → o ≡ Some u → Took u.taken xs u.rest) → Took t.taken (x ∷ xs) t.rest
-took_behind x xs t None e h = cc
-took_behind x xs t (Some u) e h = let same : record { taken = u.taken; rest = x ∷ u.rest } ≡ t = cc in subst (λ (v : Taken _). Took v.taken (x ∷ xs) v.rest) same (there (h u refl))
-
-pub took_out : {A : Type 0} (place : ℕ) (xs : List A) (t : Taken A) → take_out place xs ≡ Some t → Took t.taken xs t.rest
-took_out place [] t e = cc
-took_out zero (x ∷ xs) t e = let same : record { taken = x; rest = xs } ≡ t = cc in subst (λ (u : Taken _). Took u.taken (x ∷ xs) u.rest) same here
-took_out (suc place) (x ∷ xs) t e = took_behind x xs t (take_out place xs) e (λ u w. took_out place xs u w)
 
 pub took_left : {A : Type 0} {x : A} {xs ys : List A} (zs : List A) → Took x xs ys → Took x (xs ++ zs) (ys ++ zs)
 took_left zs here = here

@@ -137,31 +137,31 @@ noted version yields (Some write) r = cond_both (is_newer version r.due) _ _ (λ
 overtaken : (version old : ℕ) (yields : Bool) (r : Remote) → Same r (overtakes version old yields r)
 overtaken version old yields r = cond_both (nat_lt old version) _ _ (λ (x : Remote). x.here ≡ r.here) (λ w. noted version yields r.asking r) (λ w. refl)
 
-recall_in_fits : (here : Section) (copy : Copy) (r : Remote) → Same r (recall_in here copy r)
-recall_in_fits section.Closed copy r = refl
-recall_in_fits (section.Reading count) copy r = refl
-recall_in_fits section.Writing copy r = refl
+recall_in_same : (here : Section) (copy : Copy) (r : Remote) → Same r (recall_in here copy r)
+recall_in_same section.Closed copy r = refl
+recall_in_same (section.Reading count) copy r = refl
+recall_in_same section.Writing copy r = refl
 
-recall_over_fits : (version : ℕ) (copy : Option Copy) (r : Remote) → Same r (recall_over version copy r)
-recall_over_fits version None r = noted version false r.asking r
-recall_over_fits version (Some copy) r = cond_both (version == copy.version) _ _ (Same r) (λ w. recall_in_fits r.here copy r) (λ w. overtaken version copy.version false r)
+recall_over_same : (version : ℕ) (copy : Option Copy) (r : Remote) → Same r (recall_over version copy r)
+recall_over_same version None r = noted version false r.asking r
+recall_over_same version (Some copy) r = cond_both (version == copy.version) _ _ (Same r) (λ w. recall_in_same r.here copy r) (λ w. overtaken version copy.version false r)
 
 pub recalled_same : (version : ℕ) (r : Remote) → Same r (remote_takes_recall version r)
 unfolding remote_takes_recall
-recalled_same version r = recall_over_fits version r.copy r
+recalled_same version r = recall_over_same version r.copy r
 
-yield_in_fits : (here : Section) (copy : Copy) (r : Remote) → Same r (yield_in here copy r)
-yield_in_fits section.Closed copy r = refl
-yield_in_fits (section.Reading count) copy r = refl
-yield_in_fits section.Writing copy r = refl
+yield_in_same : (here : Section) (copy : Copy) (r : Remote) → Same r (yield_in here copy r)
+yield_in_same section.Closed copy r = refl
+yield_in_same (section.Reading count) copy r = refl
+yield_in_same section.Writing copy r = refl
 
-yield_over_fits : (version : ℕ) (copy : Option Copy) (r : Remote) → Same r (yield_over version copy r)
-yield_over_fits version None r = noted version true r.asking r
-yield_over_fits version (Some copy) r = cond_both ((version == copy.version) && copy.exclusive) _ _ (Same r) (λ w. yield_in_fits r.here copy r) (λ w. overtaken version copy.version true r)
+yield_over_same : (version : ℕ) (copy : Option Copy) (r : Remote) → Same r (yield_over version copy r)
+yield_over_same version None r = noted version true r.asking r
+yield_over_same version (Some copy) r = cond_both ((version == copy.version) && copy.exclusive) _ _ (Same r) (λ w. yield_in_same r.here copy r) (λ w. overtaken version copy.version true r)
 
 pub yields_same : (version : ℕ) (r : Remote) → Same r (remote_takes_yield version r)
 unfolding remote_takes_yield
-yields_same version r = yield_over_fits version r.copy r
+yields_same version r = yield_over_same version r.copy r
 
 flush_over : (copy : Option Copy) (r : Remote) → Same r (flushes_over copy r)
 flush_over None r = refl

@@ -17,16 +17,17 @@ use Rattle.crl_protocol.specs.Home.{Home, is_listed, bytes_fit, return_fits}
 use Rattle.crl_protocol.specs.Remote.{Remote, grant_fits, asks_to_read, asks_to_write}
 use Rattle.crl_protocol.specs.Node.{Node, home_of}
 use Rattle.crl_flight.specs.Flight.{Under, is_key, is_at, messages_of}
-use Rattle.crl_flight.proofs.Loads.{key_same}
+use Rattle.crl_flight.proofs.Laws.{key_same}
 use Rattle.crl_flight.specs.Coming.{Alone}
 use Rattle.crl_coherence.specs.Region.{Flying, Region, flies}
 use Rattle.crl_coherence.specs.Pairs.{Freed, HomeAndNode, PairHolds, pair_of, of_node, granted_in, returned_in, released_in, HasVersion, Distinct}
 use Rattle.crl_coherence.specs.Coherent.{IsCoherent}
-use Rattle.crl_coherence.proofs.Lists.{NoTwo, took_some, took_all, took_nothing}
+use Rattle.crl_coherence.proofs.Laws.{NoTwo, took_some, took_all, took_nothing}
 use Rattle.crl_regions.specs.View.{mail_in, other_end, flown, flying, side, sight}
 use Rattle.crl_regions.proofs.Acts.{about_here}
-use Rattle.crl_regions.proofs.Fair.{HasTable, FairKind, Fair, AllFair}
+use Rattle.crl_regions.specs.MailFits.{Tables, HasTable, FitsTables, MailFits, AllMailFits}
 use Rattle.crl_regions.proofs.Messages.{Passes}
+use Rattle.crl_deeds.proofs.Laws.{all_took}
 
 -- What the mail of a message with bytes is.
 abbrev pub LoadMail : Load → ℕ → Mail → Type 0
@@ -59,7 +60,7 @@ of_release v (Yield version) e = absurd e
 of_release v (Grant version granted) e = absurd e
 of_release v (Return version bytes) e = absurd e
 
-pub record KeyFacts (tables : Name → Option Home) (m : Message) (key : Key) : Type 0 where
+pub record KeyFacts (tables : Tables) (m : Message) (key : Key) : Type 0 where
   pub mail : Mail
   pub is : flying key.name m ≡ Some (flies (other_end key.name m) mail)
   pub load : LoadMail key.load key.version mail
@@ -73,7 +74,7 @@ from_home name m e other f = eqb-false m.addressee name.home other (sym (cond-tr
 to_home : (name : Name) (m : Message) → (m.sender == name.home) ≡ false → other_end name m ≢ name.home
 to_home name m other f = eqb-false m.sender name.home other (sym (cond-false (m.sender == name.home) m.addressee m.sender other) ∙ f)
 
-facts_of : (tables : Name → Option Home) (m : Message) (key k : Key) (mail : Mail) → ◌≡◌ {A = Option Key} (Some k) (Some key) → m.kind ≡ kind_about k.name mail → LoadMail k.load k.version mail → k.sender ≡ m.sender → other_end k.name m ≢ k.name.home → HasTable (tables k.name)
+facts_of : (tables : Tables) (m : Message) (key k : Key) (mail : Mail) → ◌≡◌ {A = Option Key} (Some k) (Some key) → m.kind ≡ kind_about k.name mail → LoadMail k.load k.version mail → k.sender ≡ m.sender → other_end k.name m ≢ k.name.home → HasTable (tables k.name)
     → KeyFacts tables m key
 facts_of tables m key k mail same e load sender other t =
     let w : k ≡ key = cc in
@@ -86,28 +87,28 @@ facts_of tables m key k mail same e load sender other t =
       there = t;
     })
 
-pub key_facts : (count : ℕ) (tables : Name → Option Home) (m : Message) (key : Key) (x : Kind) → m.kind ≡ x → key_in m.sender x ≡ Some key → FairKind count tables m.sender m.addressee x → KeyFacts tables m key
-key_facts count tables m key (kind.Grant name version (Shared bytes)) e k f =
-    facts_of tables m key (record { sender = m.sender; name = name; load = OfGrant; version = version }) (Grant version (Shared bytes)) k e refl refl (from_home name m f.0 f.1) f.3
-key_facts count tables m key (kind.Grant name version (Exclusive bytes)) e k f =
-    facts_of tables m key (record { sender = m.sender; name = name; load = OfGrant; version = version }) (Grant version (Exclusive bytes)) k e refl refl (from_home name m f.0 f.1) f.3
-key_facts count tables m key (kind.Return name version (Some bytes)) e k f =
-    facts_of tables m key (record { sender = m.sender; name = name; load = OfReturn; version = version }) (Return version (Some bytes)) k e refl refl (to_home name m f.1) f.3
-key_facts count tables m key (kind.Release name version bytes) e k f =
-    facts_of tables m key (record { sender = m.sender; name = name; load = OfRelease; version = version }) (Release version bytes) k e refl refl (to_home name m f.1) f.3
-key_facts count tables m key (kind.Grant name version Upgrade) e k f = cc
-key_facts count tables m key (kind.Return name version None) e k f = cc
-key_facts count tables m key (kind.InfoAsk name) e k f = cc
-key_facts count tables m key (kind.InfoIs name t) e k f = cc
-key_facts count tables m key (kind.Ask name write have) e k f = cc
-key_facts count tables m key (kind.Recall name version) e k f = cc
-key_facts count tables m key (kind.Yield name version) e k f = cc
-key_facts count tables m key (kind.DeleteAsk name) e k f = cc
-key_facts count tables m key (kind.DeleteIs name t) e k f = cc
-key_facts count tables m key (kind.Purge name) e k f = cc
-key_facts count tables m key (kind.Purged name) e k f = cc
-key_facts count tables m key (kind.Come round p) e k f = cc
-key_facts count tables m key (kind.Result round fold) e k f = cc
+pub key_facts : (tables : Tables) (m : Message) (key : Key) (x : Kind) → m.kind ≡ x → key_in m.sender x ≡ Some key → FitsTables tables m.sender m.addressee x → KeyFacts tables m key
+key_facts tables m key (kind.Grant name version (Shared bytes)) e k f =
+    facts_of tables m key (record { sender = m.sender; name = name; load = OfGrant; version = version }) (Grant version (Shared bytes)) k e refl refl (from_home name m f.0 f.1) f.2
+key_facts tables m key (kind.Grant name version (Exclusive bytes)) e k f =
+    facts_of tables m key (record { sender = m.sender; name = name; load = OfGrant; version = version }) (Grant version (Exclusive bytes)) k e refl refl (from_home name m f.0 f.1) f.2
+key_facts tables m key (kind.Return name version (Some bytes)) e k f =
+    facts_of tables m key (record { sender = m.sender; name = name; load = OfReturn; version = version }) (Return version (Some bytes)) k e refl refl (to_home name m f.1) f.2
+key_facts tables m key (kind.Release name version bytes) e k f =
+    facts_of tables m key (record { sender = m.sender; name = name; load = OfRelease; version = version }) (Release version bytes) k e refl refl (to_home name m f.1) f.2
+key_facts tables m key (kind.Grant name version Upgrade) e k f = cc
+key_facts tables m key (kind.Return name version None) e k f = cc
+key_facts tables m key (kind.InfoAsk name) e k f = cc
+key_facts tables m key (kind.InfoIs name t) e k f = cc
+key_facts tables m key (kind.Ask name write have) e k f = cc
+key_facts tables m key (kind.Recall name version) e k f = cc
+key_facts tables m key (kind.Yield name version) e k f = cc
+key_facts tables m key (kind.DeleteAsk name) e k f = cc
+key_facts tables m key (kind.DeleteIs name t) e k f = cc
+key_facts tables m key (kind.Purge name) e k f = cc
+key_facts tables m key (kind.Purged name) e k f = cc
+key_facts tables m key (kind.Come round p) e k f = cc
+key_facts tables m key (kind.Result round fold) e k f = cc
 
 grants_one : (last : ℕ) (array : List ℕ) (p : HomeAndNode) → PairHolds last array p → NoTwo p.grants
 grants_one last array p h y z ws e = let k = h.ask in let o = h.places in grind arith
@@ -154,10 +155,6 @@ pub took_message : {u : Under} {us others : List Under} → Took u us others →
 took_message here = here
 took_message (there t) = there (took_message t)
 
-all_of_took : {A : Type 0} (P : A → Type 0) {x : A} {xs ys : List A} → Took x xs ys → AllByRecursion P xs → P x × AllByRecursion P ys
-all_of_took P here h = h
-all_of_took P (there t) h = let u = all_of_took P t h.1 in (u.0, (h.0, u.1))
-
 all_by_took : {A : Type 0} (P : A → Type 0) (xs : List A) → ((x : A) (rest : List A) → Took x xs rest → P x) → AllByRecursion P xs
 all_by_took P [] h = tt
 all_by_took P (x ∷ xs) h = (h x xs here, all_by_took P xs (λ y rest t. h y (x ∷ rest) (there t)))
@@ -173,16 +170,16 @@ key_is key (Some k) e = ap (λ x. Some x) (sym (key_same key k e))
 end_same : (q : Name) (m l : Message) → m.sender ≡ l.sender → m.addressee ≡ l.addressee → other_end q m ≡ other_end q l
 end_same q m l e f = ap (λ s. if s == q.home then m.addressee else s) e ∙ ap (λ a. if l.sender == q.home then a else l.sender) f
 
-pub alone_in : (count : ℕ) (nodes : ℕ → Node) (tables : Name → Option Home) (arrays : Name → List ℕ) (us : List Under) → AllFair count tables (messages_of us)
+pub alone_in : (nodes : ℕ → Node) (tables : Tables) (arrays : Name → List ℕ) (us : List Under) → AllMailFits tables (messages_of us)
     → ((q : Name) (h : Home) → tables q ≡ Some h → IsCoherent q.home (sight q h nodes (messages_of us) (arrays q))) → Alone us
-alone_in count nodes tables arrays us fair coherent u others t key e =
+alone_in nodes tables arrays us fair coherent u others t key e =
     all_by_took (λ v. is_at u.message.addressee key v ≡ false) others (λ v rest s. not_true (is_at u.message.addressee key v) (λ w. both v rest s w))
   where
-    parts : Fair count tables u.message × AllFair count tables (messages_of others)
-    parts = all_of_took (Fair count tables) (took_message t) fair
+    parts : MailFits tables u.message × AllMailFits tables (messages_of others)
+    parts = all_took (MailFits tables) (took_message t) fair
 
     one : KeyFacts tables u.message key
-    one = key_facts count tables u.message key u.message.kind refl e parts.0
+    one = key_facts tables u.message key u.message.kind refl e parts.0
 
     n : ℕ
     n = other_end key.name u.message
@@ -190,7 +187,7 @@ alone_in count nodes tables arrays us fair coherent u others t key e =
     both : (v : Under) (rest : List Under) → Took v others rest → is_at u.message.addressee key v ≡ true → ⊥
     both v rest s w =
         let h = and_parts (v.message.addressee == u.message.addressee) (is_key key (key_of v.message)) w in
-        let two = key_facts count tables v.message key v.message.kind refl (key_is key (key_of v.message) h.1) (all_of_took (Fair count tables) (took_message s) parts.1).0 in
+        let two = key_facts tables v.message key v.message.kind refl (key_is key (key_of v.message) h.1) (all_took (MailFits tables) (took_message s) parts.1).0 in
         let same : other_end key.name v.message ≡ n = end_same key.name v.message u.message (sym two.sender ∙ one.sender) (eqb-true v.message.addressee u.message.addressee h.0) in
         clash key.name.home (sight key.name one.there.0 nodes (messages_of us) (arrays key.name)) n key.version key.load one.mail two.mail
         (find_all (flying key.name) (messages_of others)) (find_all (flying key.name) (messages_of rest)) (coherent key.name one.there.0 one.there.1) one.other one.load two.load
@@ -213,32 +210,32 @@ home_sized o g len e f = ap home_size e ∙ ap (λ x. Some x) (sym f)
 return_sized : (from version : ℕ) (bytes : List ℕ) (g : Home) → return_fits from version (Some bytes) g ≡ true → length bytes ≡ g.size
 return_sized from version bytes g e = eqb-true (length bytes) g.size (and_parts (is_listed version (at from g.listed)) (bytes_fit (Some bytes) (at from g.listed) g.size) e).1
 
-pub size_known : (count i : ℕ) (tables : Name → Option Home) (n : Node) (from : ℕ) (key : Key) (x : Kind) → key_in from x ≡ Some key → FairKind count tables from i x → Passes from x n
+pub size_known : (i : ℕ) (tables : Tables) (n : Node) (from : ℕ) (key : Key) (x : Kind) → key_in from x ≡ Some key → FitsTables tables from i x → Passes from x n
     → ((name : Name) (h : Home) → tables name ≡ Some h → name.home ≡ i → home_of n name ≡ Some h) → size_for key.load key.name n ≡ Some (length (load_of x))
-size_known count i tables n from key (kind.Grant name version (Shared bytes)) k f p home =
+size_known i tables n from key (kind.Grant name version (Shared bytes)) k f p home =
     let same : record { sender = from; name = name; load = OfGrant; version = version } ≡ key = cc in
     subst (λ (y : Key). size_for y.load y.name n ≡ Some (length bytes)) same (shared_size bytes p.0 (n.remotes name) p.1)
-size_known count i tables n from key (kind.Grant name version (Exclusive bytes)) k f p home =
+size_known i tables n from key (kind.Grant name version (Exclusive bytes)) k f p home =
     let same : record { sender = from; name = name; load = OfGrant; version = version } ≡ key = cc in
     subst (λ (y : Key). size_for y.load y.name n ≡ Some (length bytes)) same (exclusive_size bytes p.0 (n.remotes name) p.1)
-size_known count i tables n from key (kind.Return name version (Some bytes)) k f p home =
+size_known i tables n from key (kind.Return name version (Some bytes)) k f p home =
     let same : record { sender = from; name = name; load = OfReturn; version = version } ≡ key = cc in
-    let there = home name f.3.0 f.3.1 f.0 in
-    subst (λ (y : Key). size_for y.load y.name n ≡ Some (length bytes)) same (home_sized (home_of n name) f.3.0 (length bytes) there (return_sized from version bytes f.3.0 (p f.3.0 there).0))
-size_known count i tables n from key (kind.Release name version bytes) k f p home =
+    let there = home name f.2.0 f.2.1 f.0 in
+    subst (λ (y : Key). size_for y.load y.name n ≡ Some (length bytes)) same (home_sized (home_of n name) f.2.0 (length bytes) there (return_sized from version bytes f.2.0 (p f.2.0 there).0))
+size_known i tables n from key (kind.Release name version bytes) k f p home =
     let same : record { sender = from; name = name; load = OfRelease; version = version } ≡ key = cc in
-    let there = home name f.3.0 f.3.1 f.0 in
-    subst (λ (y : Key). size_for y.load y.name n ≡ Some (length bytes)) same (home_sized (home_of n name) f.3.0 (length bytes) there (eqb-true (length bytes) f.3.0.size (p f.3.0 there).0))
-size_known count i tables n from key (kind.Grant name version Upgrade) k f p home = cc
-size_known count i tables n from key (kind.Return name version None) k f p home = cc
-size_known count i tables n from key (kind.InfoAsk name) k f p home = cc
-size_known count i tables n from key (kind.InfoIs name t) k f p home = cc
-size_known count i tables n from key (kind.Ask name write have) k f p home = cc
-size_known count i tables n from key (kind.Recall name version) k f p home = cc
-size_known count i tables n from key (kind.Yield name version) k f p home = cc
-size_known count i tables n from key (kind.DeleteAsk name) k f p home = cc
-size_known count i tables n from key (kind.DeleteIs name t) k f p home = cc
-size_known count i tables n from key (kind.Purge name) k f p home = cc
-size_known count i tables n from key (kind.Purged name) k f p home = cc
-size_known count i tables n from key (kind.Come round p0) k f p home = cc
-size_known count i tables n from key (kind.Result round fold) k f p home = cc
+    let there = home name f.2.0 f.2.1 f.0 in
+    subst (λ (y : Key). size_for y.load y.name n ≡ Some (length bytes)) same (home_sized (home_of n name) f.2.0 (length bytes) there (eqb-true (length bytes) f.2.0.size (p f.2.0 there).0))
+size_known i tables n from key (kind.Grant name version Upgrade) k f p home = cc
+size_known i tables n from key (kind.Return name version None) k f p home = cc
+size_known i tables n from key (kind.InfoAsk name) k f p home = cc
+size_known i tables n from key (kind.InfoIs name t) k f p home = cc
+size_known i tables n from key (kind.Ask name write have) k f p home = cc
+size_known i tables n from key (kind.Recall name version) k f p home = cc
+size_known i tables n from key (kind.Yield name version) k f p home = cc
+size_known i tables n from key (kind.DeleteAsk name) k f p home = cc
+size_known i tables n from key (kind.DeleteIs name t) k f p home = cc
+size_known i tables n from key (kind.Purge name) k f p home = cc
+size_known i tables n from key (kind.Purged name) k f p home = cc
+size_known i tables n from key (kind.Come round p0) k f p home = cc
+size_known i tables n from key (kind.Result round fold) k f p home = cc

@@ -1,5 +1,5 @@
 -- What a region looks like in a world of all nodes.
-use Rattle.std.specs.Prelude.{ℕ, ◌==◌, Bool, true, if◌then◌else◌, List, [], ◌∷◌, ◌++◌, ◌≤◌, replicate}
+use Rattle.std.specs.Prelude.{ℕ, ◌==◌, Bool, true, if◌then◌else◌, List, [], ◌∷◌, replicate}
 use Rattle.std.specs.declared.option.Option.{Option}
 use Rattle.std.specs.declared.option.Option.TheVariants.{None, Some}
 use Rattle.crl_model.specs.declared.name.Name.{Name}
@@ -12,8 +12,6 @@ use Rattle.crl_model.specs.declared.message.Message.{Message}
 use Rattle.crl_model.specs.declared.message.Kind.{Kind}
 use Rattle.crl_model.specs.declared.message.Kind.TheVariants as kind
 use Rattle.crl_model.specs.Names.{name_eq}
-use Rattle.std.specs.List.{AllByRecursion}
-use Rattle.crl_protocol.specs.Parcels.{Piece}
 use Rattle.crl_flight.specs.Flight.{Under, IsFlight}
 use Rattle.crl_protocol.specs.Places.{find_all}
 use Rattle.crl_protocol.specs.Mail.{Mail, Ask, Grant, Recall, Yield, Return, Release}
@@ -54,15 +52,9 @@ side size None = new_remote size
 side size (Some r) = r
 
 -- These messages are under way in a world, with their pieces that came: each piece of each of them is in a box, or is
--- gathered at its addressee, once, and nothing else is there. A piece that was carried to a number that is no node of the
--- world is lost.
-abbrev pub AreLost : ℕ → List Piece → Type 0
-AreLost count lost = AllByRecursion (λ (p : Piece). count ≤ p.message.addressee) lost
-
-pub record UnderWay (w : World) (us : List Under) : Type 0 where
-  pub lost : List Piece
-  pub strays : AreLost w.count lost
-  pub flies : IsFlight us (pieces_in_boxes w ++ lost) (λ i. (w.nodes i).parcels)
+-- gathered at its addressee, once, and nothing else is there.
+abbrev pub UnderWay : World → List Under → Type 0
+UnderWay w us = IsFlight us (pieces_in_boxes w) (λ i. (w.nodes i).parcels)
 
 -- the region with this record at its home, among all nodes with these messages under way
 abbrev pub sight : Name → Home → (ℕ → Node) → List Message → List ℕ → Region
@@ -76,6 +68,9 @@ sight q h nodes messages array = record {
 -- the region is there: its home has a record of it
 abbrev pub table_of : Name → World → Option Home
 table_of q w = home_of (w.nodes q.home) q
+
+abbrev pub tables_of : World → Name → Option Home
+tables_of w name = table_of name w
 
 abbrev pub table_or_blank : Option Home → Home
 table_or_blank None = new_home 0 0

@@ -1,10 +1,5 @@
 use Rattle.crl_coherence.proofs.messages_fit.Goals as goal
-use Rattle.crl_coherence.proofs.Fits.{fits_grant, fits_return, fits_release, fits_ask}
+use Rattle.crl_coherence.proofs.Statements.{messages_are_fit}
 
 pub returns : goal.returns
-returns c = record {
-  grants = fits_grant;
-  returns = fits_return;
-  releases = fits_release;
-  asks = fits_ask;
-}
+returns c = messages_are_fit

@@ -1,9 +1,5 @@
 use Rattle.crl_coherence.proofs.who_waits_is_blocked.Goals as goal
-use Rattle.crl_coherence.proofs.Waits.{waits_other, waits_home}
+use Rattle.crl_coherence.proofs.Statements.{waiting_is_blocked}
 
 pub returns : goal.returns
-returns c = record {
-  head = λ me g k. k.head;
-  other = waits_other;
-  home = waits_home;
-}
+returns c = waiting_is_blocked

@@ -1,6 +1,5 @@
 -- What holds of all nodes after each event of a run, and what it says of a message that comes.
-use Rattle.std.proofs.Common.{◌≡◌, ◌≢◌, ◌⊎◌, inl, inr, ℕ, suc, ◌+◌, ◌-◌, ◌<◌, ◌==◌, Bool, true, false, ◌||◌, None, Some, Option, List, [], ◌∷◌, ◌++◌, refl, ap, sym, ◌∙◌, subst, arith}
-use Rattle.std.specs.List.{AllByRecursion}
+use Rattle.std.proofs.Common.{◌≡◌, ◌≢◌, ◌⊎◌, inl, inr, ℕ, suc, ◌+◌, ◌-◌, ◌==◌, Bool, true, false, ◌||◌, None, Some, Option, List, [], ◌∷◌, ◌++◌, refl, ap, sym, ◌∙◌, subst, arith}
 use Rattle.std.proofs.lemmas.Bool.{cond-true, cond-false, eqb-true, eqb-false, eq-eqb, ne_eqb}
 use Rattle.crl_model.specs.declared.name.Name.{Name}
 use Rattle.crl_model.specs.declared.directory.Section.{Section}
@@ -16,51 +15,52 @@ use Rattle.crl_protocol.specs.Remote.{Copy, Remote, grant_fits}
 use Rattle.crl_protocol.specs.Sections.{section_at}
 use Rattle.crl_protocol.specs.Node.{Node, Activity, Waiting, ForSection, at_serial, home_of}
 use Rattle.crl_protocol.specs.Handlers.{is_queued, is_queued_in}
-use Rattle.crl_protocol.specs.World.{World, pieces_in_boxes}
-use Rattle.crl_deeds.specs.NodeFacts.{AskingFits, Fits}
+use Rattle.crl_protocol.specs.World.{World}
 use Rattle.crl_protocol.specs.Parcels.{Piece, PartsGathered}
-use Rattle.crl_flight.specs.Flight.{Under, IsFlight, messages_of}
+use Rattle.crl_flight.specs.Flight.{Under, messages_of}
 use Rattle.crl_coherence.specs.Region.{Flying, Region, flies}
 use Rattle.crl_coherence.specs.Pairs.{Given, AskPlace, SectionFits, pair_of, of_node, asked_in}
 use Rattle.crl_coherence.specs.Coherent.{IsCoherent}
-use Rattle.crl_coherence.proofs.Lists.{took_some, took_nothing}
-use Rattle.crl_coherence.proofs.Fits.{fits_grant, fits_return, fits_release, fits_ask, queued_none}
-use Rattle.crl_coherence.proofs.Opens.{grant_opens, asked_quiet}
-use Rattle.crl_coherence.proofs.Keeps.{return_opens, release_opens}
-use Rattle.crl_regions.specs.View.{AreLost, mail_in, flown, flying, side, sight, table_of}
-use Rattle.crl_regions.proofs.Near.{Near}
-use Rattle.crl_regions.proofs.Acts.{expected, CountFits, about_here, home_is}
+use Rattle.crl_coherence.proofs.Laws.{took_some, took_nothing}
+use Rattle.crl_coherence.proofs.Laws.{fits_grant, fits_return, fits_release, fits_ask, queued_none}
+use Rattle.crl_coherence.proofs.Laws.{grant_opens, asked_quiet}
+use Rattle.crl_coherence.proofs.Laws.{return_opens, release_opens}
+use Rattle.crl_regions.specs.MailFits.{HasSize, FitsTables, MailFits, AllMailFits}
+use Rattle.crl_regions.specs.View.{UnderWay, mail_in, flown, flying, side, sight, table_of, tables_of}
+use Rattle.crl_regions.proofs.Acts.{expected, about_here, home_is}
 use Rattle.crl_regions.proofs.Sections.{Local}
-use Rattle.crl_regions.proofs.Kept.{Housed}
-use Rattle.crl_regions.proofs.Fair.{FairKind, Fair, AllFair}
+use Rattle.crl_regions.proofs.MappedOrCached.{IsMappedOrCached}
+use Rattle.crl_regions.proofs.Addressed.{Addressed}
+use Rattle.crl_regions.proofs.Asking.{WaitsAsking}
 use Rattle.crl_regions.proofs.Messages.{Passes}
+use Rattle.crl_deeds.specs.NodeFacts.{AskingFits, Fits}
+use Rattle.crl_deeds.specs.Counts.{SectionsFit}
 
--- us is what is under way; pieces that went to no node of the world are lost. The arrays are the bytes of each region in the single machine.
-pub record Whole (w : World) (arrays : Name → List ℕ) (us : List Under) (lost : List Piece) : Type 0 where
+-- us is what is under way, and the arrays are the bytes of each region in the single machine.
+pub record AllNodesHold (w : World) (arrays : Name → List ℕ) (us : List Under) : Type 0 where
   pub fits : (i : ℕ) → Fits i (w.nodes i)
   pub agrees : (i : ℕ) (q : Name) → expected (home_of (w.nodes i) q) ((w.nodes i).remotes q) ≡ section_at q (w.nodes i).sections
-  pub counts : (i : ℕ) (q : Name) → CountFits (section_at q (w.nodes i).sections)
-  pub housed : (i : ℕ) → Housed (w.nodes i)
-  pub near : (q : Name) (h : Home) → table_of q w ≡ Some h → Near q.home w.count h × (q.home < w.count)
-  pub sizes : (i : ℕ) (q : Name) (r : Remote) → (w.nodes i).remotes q ≡ Some r → (h : Home) × (table_of q w ≡ Some h) × (h.size ≡ r.size)
-  pub inbox : (i : ℕ) → AllByRecursion (λ (p : Piece). p.message.addressee ≡ i) (w.nodes i).inbox
-  pub fair : AllFair w.count (λ q. table_of q w) (messages_of us)
-  pub strays : AreLost w.count lost
-  pub flies : IsFlight us (pieces_in_boxes w ++ lost) (λ i. (w.nodes i).parcels)
+  pub sections : (i : ℕ) → SectionsFit (w.nodes i)
+  pub cached : (i : ℕ) → IsMappedOrCached (w.nodes i)
+  pub addressed : Addressed w
+  pub asks : (i : ℕ) → WaitsAsking (w.nodes i)
+  pub sizes : (i : ℕ) (q : Name) (r : Remote) → (w.nodes i).remotes q ≡ Some r → HasSize r.size (table_of q w)
+  pub mail : AllMailFits (tables_of w) (messages_of us)
+  pub flies : UnderWay w us
   pub coherent : (q : Name) (h : Home) → table_of q w ≡ Some h → IsCoherent q.home (sight q h w.nodes (messages_of us) (arrays q))
 
-pub local : (w : World) (arrays : Name → List ℕ) (us : List Under) (lost : List Piece) (i : ℕ) → Whole w arrays us lost → Local i (w.nodes i)
-local w arrays us lost i k = record {
+pub local : (w : World) (arrays : Name → List ℕ) (us : List Under) (i : ℕ) → AllNodesHold w arrays us → Local i (w.nodes i)
+local w arrays us i k = record {
   fits = k.fits i;
   agrees = k.agrees i;
-  counts = k.counts i;
-  cached = (k.housed i).cached;
-  held = (k.housed i).held;
+  reads = (k.sections i).each;
+  cached = (k.cached i).cached;
+  held = (k.cached i).held;
 }
 
 -- a table at a node is the region's
-pub table_at : (w : World) (arrays : Name → List ℕ) (us : List Under) (lost : List Piece) (i : ℕ) (name : Name) (h : Home) → Whole w arrays us lost → home_of (w.nodes i) name ≡ Some h → (i ≡ name.home) × (table_of name w ≡ Some h)
-table_at w arrays us lost i name h k e =
+pub table_at : (w : World) (arrays : Name → List ℕ) (us : List Under) (i : ℕ) (name : Name) (h : Home) → AllNodesHold w arrays us → home_of (w.nodes i) name ≡ Some h → (i ≡ name.home) × (table_of name w ≡ Some h)
+table_at w arrays us i name h k e =
     let same : i ≡ name.home = sym (k.fits i).me ∙ eqb-true (w.nodes i).me name.home (home_is (w.nodes i) name h e) in (same, subst (λ j. home_of (w.nodes j) name ≡ Some h) same e)
 
 -- Mail under way is under way in the region.
@@ -90,9 +90,9 @@ side_asks : (size : ℕ) (o : Option Remote) (q : Name) (a : Activity) → Askin
 side_asks size None q a f = inl refl
 side_asks size (Some r) q a f = f
 
-asks_or_waits : (w : World) (arrays : Name → List ℕ) (us : List Under) (lost : List Piece) (q : Name) (h : Home) (n : ℕ) → Whole w arrays us lost → table_of q w ≡ Some h → n ≢ q.home
+asks_or_waits : (w : World) (arrays : Name → List ℕ) (us : List Under) (q : Name) (h : Home) (n : ℕ) → AllNodesHold w arrays us → table_of q w ≡ Some h → n ≢ q.home
     → let p = pair_of h.listed h.queue (λ j. side h.size ((w.nodes j).remotes q)) (find_all (flying q) (messages_of us)) n in (p.pending ≡ []) ⊎ ((w.nodes n).activity ≡ Waiting (ForSection q))
-asks_or_waits w arrays us lost q h n k there other =
+asks_or_waits w arrays us q h n k there other =
     let p = pair_of h.listed h.queue (λ j. side h.size ((w.nodes j).remotes q)) (find_all (flying q) (messages_of us)) n in
     elim (side_asks h.size ((w.nodes n).remotes q) q (w.nodes n).activity ((k.fits n).each q).asking) [
       | inl none ↦ inl (idle_place p.remote.asking p.pending p.grants ((k.coherent q h there).loose.pairs n other).ask none)
@@ -109,18 +109,18 @@ serial_at : {A : Type 0} (s : ℕ) (xs : List (Option A)) → at_serial (s + 1) 
 serial_at s xs =
     let e : s + 1 - 1 ≡ s = omega arith in cond-false (s + 1 == 0) None (at (s + 1 - 1) xs) (ne_eqb (s + 1) 0 (λ w. omega arith)) ∙ ap (λ m. at m xs) e
 
-pub none_queued : (w : World) (arrays : Name → List ℕ) (us : List Under) (lost : List Piece) (i : ℕ) (name : Name) (h : Home) (n : ℕ) (write : Bool) (have : ℕ) (rest : List Flying) → Whole w arrays us lost → table_of name w ≡ Some h → name.home ≡ i → n ≢ name.home
+pub none_queued : (w : World) (arrays : Name → List ℕ) (us : List Under) (i : ℕ) (name : Name) (h : Home) (n : ℕ) (write : Bool) (have : ℕ) (rest : List Flying) → AllNodesHold w arrays us → table_of name w ≡ Some h → name.home ≡ i → n ≢ name.home
     → Took (flies n (Ask write have)) (find_all (flying name) (messages_of us)) rest → is_queued_in n (w.nodes i).homes ≡ false
-none_queued w arrays us lost i name h n write have rest k there at_i other took = queued_in n (w.nodes i).homes each
+none_queued w arrays us i name h n write have rest k there at_i other took = queued_in n (w.nodes i).homes each
   where
     waits : (w.nodes n).activity ≡ Waiting (ForSection name)
-    waits = elim (asks_or_waits w arrays us lost name h n k there other) [
+    waits = elim (asks_or_waits w arrays us name h n k there other) [
       | inl none ↦ absurd (took_nothing (took_some (of_node n (asked_in n)) took (record { node = n; write = write; have = have }) (grind arith)) (left_none _ _ none).1)
       | inr a ↦ a
     ]
 
     each : (s : ℕ) (g : Home) → at s (w.nodes i).homes ≡ Some g → is_queued n g.queue ≡ false
-    each s g e = elim (asks_or_waits w arrays us lost q g n k at_q (λ x. other (x ∙ sym at_i))) [
+    each s g e = elim (asks_or_waits w arrays us q g n k at_q (λ x. other (x ∙ sym at_i))) [
       | inl none ↦ queued_none n g.queue (left_none _ _ none).0
       | inr a ↦ (let same : name ≡ q = (let both : Waiting (ForSection name) ≡ Waiting (ForSection q) = sym waits ∙ a in cc) in
           let table : h ≡ g = (let both : Some h ≡ Some g = sym there ∙ subst (λ x. table_of x w ≡ Some g) (sym same) at_q in cc) in
@@ -141,9 +141,9 @@ section_idle (section.Reading count) (Some c) w f = absurd f
 section_idle section.Writing None w f = absurd f
 section_idle section.Writing (Some c) w f = absurd f
 
-pub passes : (w : World) (arrays : Name → List ℕ) (us : List Under) (lost : List Piece) (i : ℕ) (m : Message) (inbox : List Piece) (parcels : PartsGathered) (rest : List Message) → Whole w arrays us lost → m.addressee ≡ i → Fair w.count (λ q. table_of q w) m
+pub passes : (w : World) (arrays : Name → List ℕ) (us : List Under) (i : ℕ) (m : Message) (inbox : List Piece) (parcels : PartsGathered) (rest : List Message) → AllNodesHold w arrays us → m.addressee ≡ i → MailFits (tables_of w) m
     → Took m (messages_of us) rest → Passes m.sender m.kind (record (w.nodes i) { inbox = inbox; parcels = parcels })
-passes w arrays us lost i m inbox parcels rest k to fair took = go m.kind refl fair
+passes w arrays us i m inbox parcels rest k to fair took = go m.kind refl fair
   where
     n : Node
     n = record (w.nodes i) { inbox = inbox; parcels = parcels }
@@ -153,20 +153,20 @@ passes w arrays us lost i m inbox parcels rest k to fair took = go m.kind refl f
 
     table : (name : Name) (h g : Home) → table_of name w ≡ Some h → home_of n name ≡ Some g → (n.me ≡ name.home) × (h ≡ g)
     table name h g there e =
-        let t = table_at w arrays us lost i name g k e in ((k.fits i).me ∙ t.0, (let both : Some h ≡ Some g = sym there ∙ t.1 in cc))
+        let t = table_at w arrays us i name g k e in ((k.fits i).me ∙ t.0, (let both : Some h ≡ Some g = sym there ∙ t.1 in cc))
 
-    go : (x : Kind) → m.kind ≡ x → FairKind w.count (λ q. table_of q w) m.sender m.addressee x → Passes m.sender x n
+    go : (x : Kind) → m.kind ≡ x → FitsTables (tables_of w) m.sender m.addressee x → Passes m.sender x n
     go (kind.Ask name write have) e f =
-        let h = f.3.0 in let there = f.3.1 in let other = eqb-false m.sender name.home f.1 in
+        let h = f.2.0 in let there = f.2.1 in let other = eqb-false m.sender name.home f.1 in
         let t = to_home_took name m (Ask write have) (messages_of us) rest e f.1 took in (
-          none_queued w arrays us lost i name h m.sender write have _ k there (f.0 ∙ to) other t,
+          none_queued w arrays us i name h m.sender write have _ k there (f.0 ∙ to) other t,
           λ g x o. absurd (let u = table name h g there x in
               asked_quiet name.home (region name h) (record { node = m.sender; write = write; have = have }) (k.coherent name h there) other
               (subst (λ (y : Home). (home_takes_ask name.home (record { node = m.sender; write = write; have = have }) y).opened ≡ true) (sym u.1)
               (subst (λ y. (home_takes_ask y (record { node = m.sender; write = write; have = have }) g).opened ≡ true) u.0 o))),
         )
     go (kind.Return name version bytes) e f = λ g x.
-        let h = f.3.0 in let there = f.3.1 in let other = eqb-false m.sender name.home f.1 in
+        let h = f.2.0 in let there = f.2.1 in let other = eqb-false m.sender name.home f.1 in
         let t = to_home_took name m (Return version bytes) (messages_of us) rest e f.1 took in
         let u = table name h g there x in (
           subst (λ y. return_fits m.sender version bytes y ≡ true) u.1 (fits_return name.home (region name h) m.sender version bytes _ (k.coherent name h there) other t),
@@ -175,7 +175,7 @@ passes w arrays us lost i m inbox parcels rest k to fair took = go m.kind refl f
               (subst (λ (y : Home). (home_takes_return name.home m.sender bytes y).opened ≡ true) (sym u.1) (subst (λ y. (home_takes_return y m.sender bytes g).opened ≡ true) u.0 o))).0,
         )
     go (kind.Release name version bytes) e f = λ g x.
-        let h = f.3.0 in let there = f.3.1 in let other = eqb-false m.sender name.home f.1 in
+        let h = f.2.0 in let there = f.2.1 in let other = eqb-false m.sender name.home f.1 in
         let t = to_home_took name m (Release version bytes) (messages_of us) rest e f.1 took in
         let u = table name h g there x in (
           subst (λ y. release_fits bytes y ≡ true) u.1 (fits_release name.home (region name h) m.sender version bytes _ (k.coherent name h there) other t),
@@ -184,7 +184,7 @@ passes w arrays us lost i m inbox parcels rest k to fair took = go m.kind refl f
               (subst (λ (y : Home). (home_takes_release name.home m.sender version bytes y).opened ≡ true) (sym u.1) (subst (λ y. (home_takes_release y m.sender version bytes g).opened ≡ true) u.0 o))).0,
         )
     go (kind.Grant name version what) e f =
-        let h = f.3.0 in let there = f.3.1 in
+        let h = f.2.0 in let there = f.2.1 in
         let other = eqb-false m.addressee name.home f.1 in
         let t = from_home_took name m (Grant version what) (messages_of us) rest e f.0 took in
         let fits = fits_grant name.home (region name h) m.addressee version what _ (k.coherent name h there) other t in
