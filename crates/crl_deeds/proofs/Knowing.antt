@@ -100,7 +100,7 @@ none_deed n cause o (rounds d) k = none_rounds n cause o d k
 none_deed n cause o (notes d) k = none_notes n _ _ _ d k
 none_deed n cause o _ k = k
 
-none_local : (count : ℕ) → Local count (λ i n. NoneYet n) (λ m. Unit {0})
+pub none_local : (count : ℕ) → Local count (λ i n. NoneYet n) (λ m. Unit {0})
 none_local count = record {
   deed = λ i n cause o few d came k. (none_deed n cause o d k, anything o.posts);
   boxes = λ i n inbox outbox parcels records notes posted k. k;

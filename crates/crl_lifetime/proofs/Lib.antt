@@ -3,3 +3,5 @@ pub mod Erasing
 pub mod Weights
 pub mod Storing
 pub mod Rules
+pub mod Sending
+pub mod Lived

@@ -1,15 +1,21 @@
 -- What a node has of a region, in numbers: entries mapped and cached, each weighed by its size.
 use Rattle.std.proofs.Common.{◌≡◌, ℕ, zero, suc, ◌+◌, ◌≤◌, ◌==◌, nat_lt, Bool, true, false, None, Some, Option, List, [], ◌∷◌, ◌++◌, length, if◌then◌else◌, refl, ap, sym, ◌∙◌, subst, arith}
-use Rattle.std.proofs.lemmas.Bool.{cond_both}
+use Rattle.std.proofs.lemmas.Bool.{cond_both, cond-true, cond-false}
 use Rattle.crl_model.specs.declared.name.Name.{Name}
 use Rattle.crl_model.specs.declared.stage.Stage.{Stage}
 use Rattle.crl_model.specs.declared.stage.Stage.TheVariants as stage
 use Rattle.crl_model.specs.Names.{name_eq, at_name}
 use Rattle.crl_protocol.specs.Lifetimes.{Mapping, Cached, CacheStep, cached_size, cache_without, cache_with, push_out}
 use Rattle.crl_protocol.specs.Node.{Node, ForMap, Activity, Waiting, lifetime_of}
-use Rattle.crl_deeds.proofs.Fitting.{same_name}
+use Rattle.crl_deeds.proofs.Fitting.{same_name, name_self}
 use Rattle.crl_lifetime.proofs.Mapping.{waits_map}
 use Rattle.crl_lifetime.proofs.Weights.{flag, if_named}
+
+pub named_self : (name : Name) (x : ℕ) → if_named name name x ≡ x
+named_self name x = cond-true (name_eq name name) x 0 (name_self name)
+
+pub named_other : (name q : Name) (x : ℕ) → name_eq name q ≡ false → if_named name q x ≡ 0
+named_other name q x e = cond-false (name_eq name q) x 0 e
 
 abbrev pub one : ℕ → ℕ
 one size = 1
