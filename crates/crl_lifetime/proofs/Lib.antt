@@ -5,3 +5,5 @@ pub mod Storing
 pub mod Rules
 pub mod Sending
 pub mod Lived
+pub mod Cases
+pub mod Home

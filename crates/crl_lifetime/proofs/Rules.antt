@@ -1,5 +1,5 @@
 -- What a step does to a region's home and to another node, in numbers, and what holds of the two throughout.
-use Rattle.std.proofs.Common.{◌≡◌, ℕ, ◌+◌, ◌≤◌, ap, arith}
+use Rattle.std.proofs.Common.{◌≡◌, ℕ, ◌+◌, ◌≤◌, subst, sym, arith}
 
 -- Of the home: whether it was asked by the node, whether the node is missing, whether the region is deleted. Of the
 -- node: its sound entries, its doomed entry, whether its map was purged, and whether it waits for a map.
@@ -26,11 +26,14 @@ pub record Agrees (h : AtHome) (s : AtSide) (live purge purged : ℕ) : Type 0 w
 
 -- A step of the home, by what it sends and what comes.
 pub data HomeRule (h : AtHome) (live purge purged : ℕ) (k : AtHome) : Type 0 where
-  keeps : k ≡ h → live ≡ 0 → purge ≡ 0 → purged ≡ 0 → HomeRule h live purge purged k
+  keeps : k.asked ≡ h.asked → k.missing ≡ h.missing → k.deleted ≡ h.deleted → live ≡ 0 → purge ≡ 0 → purged ≡ 0 → HomeRule h live purge purged k
   tells : h.deleted ≡ 0 → k.asked ≡ 1 → k.missing ≡ h.missing → k.deleted ≡ 0 → purge ≡ 0 → purged ≡ 0 → HomeRule h live purge purged k
   begins : h.deleted ≡ 0 → h.missing ≡ 0 → k.asked ≡ h.asked → k.missing ≡ h.asked → k.deleted ≡ 1 → live ≡ 0 → purge ≡ h.asked → purged ≡ 0 → HomeRule h live purge purged k
   counts : h.missing ≡ 1 → purged ≡ 1 → k.asked ≡ h.asked → k.missing ≡ 0 → k.deleted ≡ h.deleted → live ≡ 0 → purge ≡ 0 → HomeRule h live purge purged k
   loses : h.missing ≡ 0 → purged ≡ 1 → HomeRule h live purge purged k
+
+pub home_rule_as : (h k : AtHome) (l p q l' p' q' : ℕ) → l ≡ l' → p ≡ p' → q ≡ q' → HomeRule h l' p' q' k → HomeRule h l p q k
+home_rule_as h k l p q l' p' q' a b c r = subst (λ x. HomeRule h x p q k) (sym a) (subst (λ x. HomeRule h l' x q k) (sym b) (subst (λ x. HomeRule h l' p' x k) (sym c) r))
 
 -- A step of the node, by what comes.
 pub data SideRule (s : AtSide) (live purge purged : ℕ) (t : AtSide) : Type 0 where
@@ -41,10 +44,7 @@ pub data SideRule (s : AtSide) (live purge purged : ℕ) (t : AtSide) : Type 0 w
 
 pub home_agrees : (h k : AtHome) (s : AtSide) (l p q live purge purged live' purge' purged' : ℕ) → HomeRule h l p q k → h.deleted ≤ 1 → h.asked ≤ 1 → live' ≡ live + l → purge' ≡ purge + p → purged' + q ≡ purged → live' ≤ 1
     → Agrees h s live purge purged → Agrees k s live' purge' purged'
-home_agrees h k s l p q live purge purged live' purge' purged' (keeps same a b c) few one x y z m g =
-    let e = ap (λ (x : AtHome). x.asked) same in
-    let f = ap (λ (x : AtHome). x.missing) same in
-    let d = ap (λ (x : AtHome). x.deleted) same in
+home_agrees h k s l p q live purge purged live' purge' purged' (keeps e f d a b c) few one x y z m g =
     record { missing = omega (arith, g.missing); had = omega (arith, g.had); told = omega (arith, g.told); doomed = omega (arith, g.doomed); marked = omega (arith, g.marked); purged_entry = omega (arith, g.purged_entry); purged_map = omega (arith, g.purged_map) }
 home_agrees h k s l p q live purge purged live' purge' purged' (tells d a b c e f) few one x y z m g =
     record { missing = omega (arith, g.missing); had = omega (arith, g.had); told = omega (arith, g.told); doomed = omega (arith, g.doomed); marked = omega (arith, g.marked); purged_entry = omega (arith, g.had); purged_map = omega (arith, g.purged_map) }
