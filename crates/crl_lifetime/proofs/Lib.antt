@@ -7,3 +7,4 @@ pub mod Sending
 pub mod Lived
 pub mod Cases
 pub mod Home
+pub mod Side
