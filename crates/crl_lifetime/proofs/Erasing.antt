@@ -13,7 +13,7 @@ use Rattle.crl_model.specs.declared.message.Kind.TheVariants as kind
 use Rattle.crl_model.specs.Names.{name_eq, at_node}
 use Rattle.crl_protocol.specs.Mail.{Mail, Ask, kind_about}
 use Rattle.crl_protocol.specs.Lifetimes.{Lifetime, new_lifetime, no_lifetime, members}
-use Rattle.crl_protocol.specs.Node.{Node, ForMap, ForDelete, Activity, Free, Waiting, Outcome, is_mine, lifetime_of, with_lifetime, serials_used, message_to}
+use Rattle.crl_protocol.specs.Node.{Node, new_node, ForMap, ForDelete, Activity, Free, Waiting, Outcome, is_mine, lifetime_of, with_lifetime, serials_used, message_to}
 use Rattle.crl_protocol.specs.Calls.{creates}
 use Rattle.crl_protocol.specs.Handlers.{purges_waiting}
 use Rattle.crl_protocol.specs.World.{new_world, IsRun, world_of}
@@ -180,8 +180,11 @@ delete_life i r = record {
   near = delete_near i r;
 }
 
+pub none_deleting : (i : ℕ) (r : Name) (count capacity j : ℕ) → load (token i r) (deleting i r) (new_node count capacity j) ≡ 0
+none_deleting i r count capacity j = cond_both (r.home == j) _ _ (λ (l : Lifetime). 0 + 0 + stage_of i l.stage ≡ 0) (λ w. refl) (λ w. refl)
+
 pub who_deletes_has_one : (count capacity : ℕ) (run : List Event) → IsRun count capacity run → (i : ℕ) (r : Name) → i < count
     → sum (load (token i r) (deleting i r)) (world_of count capacity run) ≡ waits_delete r ((world_of count capacity run).nodes i).activity
 who_deletes_has_one count capacity run h i r small =
     life_run i (token i r) (deleting i r) (waits_delete r) (delete_life i r) run (new_world count capacity) small h.enabled (known_start count capacity)
-    (sum_new (load (token i r) (deleting i r)) count capacity (λ j. cond_both (r.home == j) _ _ (λ (l : Lifetime). 0 + 0 + stage_of i l.stage ≡ 0) (λ w. refl) (λ w. refl)))
+    (sum_new (load (token i r) (deleting i r)) count capacity (none_deleting i r count capacity))

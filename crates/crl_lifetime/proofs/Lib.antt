@@ -8,3 +8,4 @@ pub mod Lived
 pub mod Cases
 pub mod Home
 pub mod Side
+pub mod Pairs
