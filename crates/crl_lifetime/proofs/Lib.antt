@@ -9,3 +9,5 @@ pub mod Cases
 pub mod Home
 pub mod Side
 pub mod Pairs
+pub mod Tables
+pub mod Sizes

@@ -3,6 +3,7 @@ use Rattle.std.proofs.Common.{◌≡◌, ℕ, zero, suc, ◌+◌, ◌-◌, ◌�
 use Rattle.std.proofs.lemmas.Bool.{cond_both, cond-true, cond-false, eqb-true, eqb-false, eq-eqb, ne_eqb}
 use Rattle.std.proofs.Math.Logic.{◌⊎◌, inl, inr}
 use Rattle.crl_model.specs.declared.name.Name.{Name}
+use Rattle.crl_model.specs.declared.call.Call.{Call}
 use Rattle.crl_model.specs.declared.event.Event.{Event}
 use Rattle.crl_model.specs.declared.message.Message.{Message}
 use Rattle.crl_model.specs.declared.message.Kind.{Kind}
@@ -35,7 +36,7 @@ abbrev pub PairAt : Name → ℕ → World → Type 0
 PairAt r m w = Agrees (at_home r m (w.nodes r.home)) (at_side r (w.nodes m)) (under (live one m r) w) (under (purge m r) w) (under (purged m r) w)
 
 -- Of what goes to or comes from another node nothing is counted.
-came_live_other : (f : ℕ → ℕ) (m : ℕ) (r : Name) (me : ℕ) (cause : Cause) → (me == m) ≡ false → came (live f m r) me cause ≡ 0
+pub came_live_other : (f : ℕ → ℕ) (m : ℕ) (r : Name) (me : ℕ) (cause : Cause) → (me == m) ≡ false → came (live f m r) me cause ≡ 0
 came_live_other f m r me (Calls c) e = refl
 came_live_other f m r me (Hears from (kind.InfoIs name t)) e = cond-false (me == m) _ 0 e
 came_live_other f m r me (Hears from _) e = refl
@@ -189,7 +190,7 @@ pair_deed w r m small apart held j n e cause o lived free f d home side flow top
         (keeps refl refl refl refl refl refl) (deleted_few _) (flag_few _) (omega arith) (omega arith) (omega arith) (omega arith) g))
 
 -- The same of a node after its boxes change.
-same_at : {A : Type 0} (F : Node → A) (nodes : ℕ → Node) (i : ℕ) (n : Node) → F n ≡ F (nodes i) → (j : ℕ) → F (at_node nodes i n j) ≡ F (nodes j)
+pub same_at : {A : Type 0} (F : Node → A) (nodes : ℕ → Node) (i : ℕ) (n : Node) → F n ≡ F (nodes i) → (j : ℕ) → F (at_node nodes i n j) ≡ F (nodes j)
 same_at F nodes i n e j = each_at (λ k x. F x ≡ F (nodes k)) nodes i n (λ k. refl) e j
 
 side_same : (s t : AtSide) → t ≡ s → SideRule s 0 0 0 t
@@ -198,44 +199,71 @@ side_same s t e =
     let b = ap (λ (x : AtSide). x.doomed) e in
     stays (omega arith) (omega arith) (ap (λ (x : AtSide). x.marked) e) refl refl
 
+-- What a turn does to what is under way.
+pub flow_calls : (w : World) (j : ℕ) (e : Event) (c : Call) (o : Outcome) → j < w.count → Deed (w.nodes j) (Calls c) o → (f : Message → ℕ) → Talk f → under f (steps_node j e o w).world + 0 ≡ under f w + weigh f o.posts
+flow_calls w j e c o few d f t = under_step f t w j (w.nodes j) e 0 o few (deed_frame _ _ _ d) (omega arith)
+
+pub spoken_comes : (w : World) → Held (Lived w.count) (Spoken w.count) w → (j : ℕ) (p : Piece) (rest : List Piece) (part : List ℕ) → Took p (w.nodes j).inbox rest → Came (Spoken w.count) j (Hears p.message.sender (with_load part p.message.kind))
+spoken_comes w held j p rest part took =
+    let spoken = all_took (HeldIn (Spoken w.count) j) took (held j).inbox in
+    (lived_local w.count).parts (record p.message { addressee = j }) part (subst (λ to. Spoken w.count (record p.message { addressee = to })) spoken.0.1 spoken.0.0)
+
+pub flow_hears : (w : World) → Held (Lived w.count) (Spoken w.count) w → (j : ℕ) (e : Event) (p : Piece) (rest : List Piece) (parcels : PartsGathered) (part : List ℕ) (o : Outcome) → j < w.count → Took p (w.nodes j).inbox rest
+    → Deed (record (w.nodes j) { inbox = rest; parcels = parcels }) (Hears p.message.sender (with_load part p.message.kind)) o
+    → (f : Message → ℕ) → Talk f → under f (steps_node j e o w).world + came f (w.nodes j).me (Hears p.message.sender (with_load part p.message.kind)) ≡ under f w + weigh f o.posts
+flow_hears w held j e p rest parcels part o few took d f t =
+    let n : Node = record (w.nodes j) { inbox = rest; parcels = parcels } in
+    let to = (all_took (HeldIn (Spoken w.count) j) took (held j).inbox).0.1 in
+    let weight : f p.message ≡ came f n.me (Hears p.message.sender (with_load part p.message.kind)) =
+        ap (λ a. f (record { sender = p.message.sender; addressee = a; kind = p.message.kind })) (to ∙ sym (held j).node.counted.me) ∙ sym (part_same f t.mail p.message.sender n.me part p.message.kind) in
+    let took_out = weigh_took (on_piece f) took in
+    under_step f t w j n e (came f n.me (Hears p.message.sender (with_load part p.message.kind))) o few (deed_frame _ _ _ d) (omega arith)
+
+same_frame : (n : Node) → Frame n n
+same_frame n = record { me = refl; nodes = refl; capacity = refl; inbox = refl; outbox = refl; parcels = refl }
+
+pub flow_gathers : (w : World) (j : ℕ) (e : Event) (p : Piece) (rest : List Piece) (parcels : PartsGathered) (key : Key) → j < w.count → Took p (w.nodes j).inbox rest → key_of p.message ≡ Some key
+    → (f : Message → ℕ) → Talk f → under f (steps_node j e (only (record (w.nodes j) { inbox = rest; parcels = parcels }) Done) w).world ≡ under f w
+flow_gathers w j e p rest parcels key few took keyed f t =
+    let none = keyed_none f t.mail p.message.sender p.message.addressee p.message.kind key keyed in
+    let took_out = weigh_took (on_piece f) took in
+    let n : Node = record (w.nodes j) { inbox = rest; parcels = parcels } in
+    let moved = under_step f t w j n e 0 (only n Done) few (same_frame n) (omega arith) in omega arith
+
+pub flow_answers : (w : World) (j : ℕ) (e : Event) (answer : Answer) → j < w.count → (f : Message → ℕ) → Talk f
+    → under f (steps_node j e (record { node = record (w.nodes j) { activity = Free }; answer = answer; entries = []; posts = [] }) w).world ≡ under f w
+flow_answers w j e answer few f t =
+    let n : Node = w.nodes j in
+    let moved = under_step f t w j n e 0 (record { node = record n { activity = Free }; answer = answer; entries = []; posts = [] }) few (record { me = refl; nodes = refl; capacity = refl; inbox = refl; outbox = refl; parcels = refl }) (omega arith) in
+    omega arith
+
+pub flow_carried : (w : World) → Held (Lived w.count) (Spoken w.count) w → (i : ℕ) (e : Event) (p : Piece) (rest : List Piece) → i < w.count → Took p (w.nodes i).outbox rest → (f : Message → ℕ) → Talk f
+    → under f (carries i e (Some (record { taken = p; rest = rest })) w).world ≡ under f w
+flow_carried w held i e p rest few took f t =
+    under_carried f w i e p rest few took (t.near w.count p.message.sender p.message.addressee p.message.kind (all_took (HeldOut (Spoken w.count)) took (held i).outbox).0.0.1)
+
+pub carried_at : {A : Type 0} (F : Node → A) (w : World) (i : ℕ) (e : Event) (p : Piece) (rest : List Piece) → ((n : Node) → F (put_in p n) ≡ F n) → F (note w.events e (record (w.nodes i) { outbox = rest })) ≡ F (w.nodes i)
+    → (j : ℕ) → F ((carries i e (Some (record { taken = p; rest = rest })) w).world.nodes j) ≡ F (w.nodes j)
+carried_at F w i e p rest blind same j =
+    let first : Node = note w.events e (record (w.nodes i) { outbox = rest }) in
+    same_at F (at_node w.nodes i first) p.message.addressee _ (blind _) j ∙ same_at F w.nodes i first same j
+
 pair_turn : (w : World) (v : WorldStep) (r : Name) (m : ℕ) → Turn w v → m < w.count → (r.home == m) ≡ false → Held (Lived w.count) (Spoken w.count) w → under (live one m r) v.world ≤ waits_map r (v.world.nodes m).activity
     → PairAt r m w → PairAt r m v.world
 pair_turn w v r m (calls j e c o few free may d) small apart held top g =
-    pair_deed w r m small apart held j (w.nodes j) e (Calls c) o (held j).node free tt d refl refl
-    (λ f t. under_step f t w j (w.nodes j) e 0 o few (deed_frame _ _ _ d) (omega arith)) top g
+    pair_deed w r m small apart held j (w.nodes j) e (Calls c) o (held j).node free tt d refl refl (flow_calls w j e c o few d) top g
 pair_turn w v r m (hears j e p rest parcels part o few took d) small apart held top g =
-    let n : Node = record (w.nodes j) { inbox = rest; parcels = parcels } in
-    let spoken = all_took (HeldIn (Spoken w.count) j) took (held j).inbox in
-    let came_it = (lived_local w.count).parts (record p.message { addressee = j }) part (subst (λ to. Spoken w.count (record p.message { addressee = to })) spoken.0.1 spoken.0.0) in
-    pair_deed w r m small apart held j n e (Hears p.message.sender (with_load part p.message.kind)) o ((lived_local w.count).boxes j (w.nodes j) rest (w.nodes j).outbox parcels (w.nodes j).records (w.nodes j).notes (w.nodes j).posted (held j).node) tt came_it d refl refl
-    (λ f t.
-        let weight : f p.message ≡ came f n.me (Hears p.message.sender (with_load part p.message.kind)) =
-            ap (λ a. f (record { sender = p.message.sender; addressee = a; kind = p.message.kind })) (spoken.0.1 ∙ sym (held j).node.counted.me) ∙ sym (part_same f t.mail p.message.sender n.me part p.message.kind) in
-        let took_out = weigh_took (on_piece f) took in
-        under_step f t w j n e (came f n.me (Hears p.message.sender (with_load part p.message.kind))) o few (deed_frame _ _ _ d) (omega arith)) top g
+    let n = w.nodes j in
+    pair_deed w r m small apart held j (record n { inbox = rest; parcels = parcels }) e (Hears p.message.sender (with_load part p.message.kind)) o
+    ((lived_local w.count).boxes j n rest n.outbox parcels n.records n.notes n.posted (held j).node) tt (spoken_comes w held j p rest part took) d refl refl (flow_hears w held j e p rest parcels part o few took d) top g
 pair_turn w v r m (gathers j e p rest parcels key few took keyed) small apart held top g =
-    pair_quiet w v.world r m held (same_at (at_home r m) w.nodes j _ refl r.home) (side_same _ _ (same_at (at_side r) w.nodes j _ refl m))
-    (λ f t.
-        let none = keyed_none f t.mail p.message.sender p.message.addressee p.message.kind key keyed in
-        let took_out = weigh_took (on_piece f) took in
-        let n : Node = record (w.nodes j) { inbox = rest; parcels = parcels } in
-        let moved = under_step f t w j n e 0 (only n Done) few (record { me = refl; nodes = refl; capacity = refl; inbox = refl; outbox = refl; parcels = refl }) (omega arith) in omega arith) top g
+    pair_quiet w v.world r m held (same_at (at_home r m) w.nodes j _ refl r.home) (side_same _ _ (same_at (at_side r) w.nodes j _ refl m)) (flow_gathers w j e p rest parcels key few took keyed) top g
 pair_turn w v r m (answers j e answer few ready) small apart held top g =
     pair_quiet w v.world r m held (same_at (at_home r m) w.nodes j _ refl r.home)
     (each_at (λ k x. SideRule (at_side r (w.nodes k)) 0 0 0 (at_side r x)) w.nodes j _ (λ k. side_same _ _ refl) (quits (omega arith) (omega arith) refl refl refl refl) m)
-    (λ f t.
-        let n : Node = w.nodes j in
-        let moved = under_step f t w j n e 0 (record { node = record n { activity = Free }; answer = answer; entries = []; posts = [] }) few (record { me = refl; nodes = refl; capacity = refl; inbox = refl; outbox = refl; parcels = refl }) (omega arith) in omega arith) top g
+    (flow_answers w j e answer few) top g
 pair_turn w v r m (carriage i e p rest few took) small apart held top g =
-    let near = (all_took (HeldOut (Spoken w.count)) took (held i).outbox).0.0.1 in
-    pair_quiet w v.world r m held (carried (at_home r m) (λ n p. refl) refl r.home) (side_same _ _ (carried (at_side r) (λ n p. refl) refl m))
-    (λ f t. under_carried f w i e p rest few took (t.near w.count p.message.sender p.message.addressee p.message.kind near)) top g
-  where
-    first : Node
-    first = note w.events e (record (w.nodes i) { outbox = rest })
-
-    carried : {A : Type 0} (F : Node → A) → ((n : Node) (p : Piece) → F (put_in p n) ≡ F n) → F first ≡ F (w.nodes i) → (j : ℕ) → F (v.world.nodes j) ≡ F (w.nodes j)
-    carried F blind e j = same_at F (at_node w.nodes i first) p.message.addressee _ (blind _ p) j ∙ same_at F w.nodes i first e j
+    pair_quiet w v.world r m held (carried_at (at_home r m) w i e p rest (λ n. refl) refl r.home) (side_same _ _ (carried_at (at_side r) w i e p rest (λ n. refl) refl m)) (flow_carried w held i e p rest few took) top g
 pair_turn w v r m rests small apart held top g = g
 
 -- An InfoIs is one of those for which a node waits.
