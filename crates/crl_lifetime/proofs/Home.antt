@@ -22,14 +22,15 @@ use Rattle.crl_deeds.proofs.Tabling.{lifetime_put}
 use Rattle.crl_deeds.proofs.Totals.{weigh, weigh_append, none_to}
 use Rattle.crl_deeds.proofs.Spans.{came}
 use Rattle.crl_deeds.proofs.Knowing.{NoneYet}
-use Rattle.crl_lifetime.proofs.Weights.{flag, if_named, live, purge, purged, live_talk, purge_talk, purged_talk, parting_none, copies_silent, rounds_silent}
+use Rattle.crl_lifetime.specs.Lifetime.{one_if}
+use Rattle.crl_lifetime.proofs.Weights.{if_named, live, purge, purged, live_talk, purge_talk, purged_talk, parting_none, copies_silent, rounds_silent}
 use Rattle.crl_lifetime.proofs.Storing.{one, made_of, going_of, deleted_of}
 use Rattle.crl_lifetime.proofs.Cases.{by_node}
 use Rattle.crl_lifetime.proofs.Lived.{LifeFits, none_left}
 use Rattle.crl_lifetime.proofs.Rules.{AtHome, HomeRule, keeps, tells, begins, counts, loses, home_rule_as}
 
 abbrev pub of_life : ℕ → Lifetime → AtHome
-of_life m l = record { asked = flag (l.asked m); missing = flag (l.missing m); deleted = deleted_of l.stage }
+of_life m l = record { asked = one_if (l.asked m); missing = one_if (l.missing m); deleted = deleted_of l.stage }
 
 abbrev pub at_home : Name → ℕ → Node → AtHome
 at_home r m n = of_life m (lifetime_of n r)
@@ -116,7 +117,7 @@ alone_rule : (r : Name) (m : ℕ) (n : Node) (name : Name) (count : ℕ) → m <
 alone_rule r m n name count few all mine is nobody fits =
     rule_put r m n name _ _ _ _ mine
     (by_name name (λ b q. HomeRule (of_life m (lifetime_of n q)) 0 0 0 (of_life m (if b then record (lifetime_of n name) { stage = stage.Gone } else lifetime_of n q)))
-    (let a = ap deleted_of is in let b = fits.going m in let c = ap going_of is in let d = ap flag (none_left (lifetime_of n name).asked 0 n.nodes m nobody (omega arith) (omega arith)) in begins (omega arith) (omega arith) refl (omega arith) refl refl (omega arith) refl)
+    (let a = ap deleted_of is in let b = fits.going m in let c = ap going_of is in let d = ap one_if (none_left (lifetime_of n name).asked 0 n.nodes m nobody (omega arith) (omega arith)) in begins (omega arith) (omega arith) refl (omega arith) refl refl (omega arith) refl)
     (λ q other. at_others m (lifetime_of n q) _ _ _ refl refl refl) r)
 
 -- an answer to a Purge
@@ -126,8 +127,8 @@ counts_rule r m n name from deleter s mine is missing still =
     let was = ap deleted_of is in
     rule_put r m n name _ _ _ _ mine
     (by_name name (λ b q. HomeRule (of_life m (lifetime_of n q)) 0 0 (if from == m then (if b then 1 else 0) else 0) (of_life m (if b then record (lifetime_of n name) { stage = s; missing = at_node (lifetime_of n name).missing from false } else lifetime_of n q)))
-    (by_node from m (λ c. HomeRule (of_life m (lifetime_of n name)) 0 0 (if c then 1 else 0) (record { asked = flag ((lifetime_of n name).asked m); missing = flag (if c then false else (lifetime_of n name).missing m); deleted = deleted_of s }))
-    (λ same. counts (ap flag (subst (λ x. (lifetime_of n name).missing x ≡ true) same missing)) refl refl refl (omega arith) refl refl)
+    (by_node from m (λ c. HomeRule (of_life m (lifetime_of n name)) 0 0 (if c then 1 else 0) (record { asked = one_if ((lifetime_of n name).asked m); missing = one_if (if c then false else (lifetime_of n name).missing m); deleted = deleted_of s }))
+    (λ same. counts (ap one_if (subst (λ x. (lifetime_of n name).missing x ≡ true) same missing)) refl refl refl (omega arith) refl refl)
     (keeps refl refl (omega arith) refl refl refl))
     (λ q other. at_others m (lifetime_of n q) _ _ _ refl refl (none_to (from == m) 0)) r)
 
@@ -147,7 +148,7 @@ home_lives r m count n cause o (made size e) few all none fits = made_rule r m n
 home_lives r m count n cause o (map_told from name mine is) few all none fits =
     rule_put r m n name _ _ _ _ mine
     (by_name name (λ b q. HomeRule (of_life m (lifetime_of n q)) ((if from == m then (if b then 1 else 0) else 0) + 0) 0 0 (of_life m (if b then record (lifetime_of n name) { asked = at_node (lifetime_of n name).asked from true } else lifetime_of n q)))
-    (by_node from m (λ c. HomeRule (of_life m (lifetime_of n name)) ((if c then 1 else 0) + 0) 0 0 (record { asked = flag (if c then true else (lifetime_of n name).asked m); missing = flag ((lifetime_of n name).missing m); deleted = deleted_of (lifetime_of n name).stage }))
+    (by_node from m (λ c. HomeRule (of_life m (lifetime_of n name)) ((if c then 1 else 0) + 0) 0 0 (record { asked = one_if (if c then true else (lifetime_of n name).asked m); missing = one_if ((lifetime_of n name).missing m); deleted = deleted_of (lifetime_of n name).stage }))
     (λ same. tells (ap deleted_of is) refl refl (ap deleted_of is) refl refl)
     (keeps refl refl refl refl refl refl))
     (λ q other. at_others m (lifetime_of n q) _ _ _ (let z = none_to (from == m) 0 in omega arith) refl refl) r)
@@ -189,15 +190,15 @@ home_idles r m count n (Calls c) h fits = keeps refl refl refl refl refl refl
 home_idles r m count n (Hears from (kind.Purged name)) h fits =
     by_name name (λ b q. HomeRule (of_life m (lifetime_of n q)) 0 0 (if from == m then (if b then 1 else 0) else 0) (of_life m (lifetime_of n q)))
     (by_node from m (λ c. HomeRule (of_life m (lifetime_of n name)) 0 0 (if c then 1 else 0) (of_life m (lifetime_of n name)))
-    (λ same. loses (ap flag (subst (λ x. (lifetime_of n name).missing x ≡ false) same (not_missing (lifetime_of n name).stage refl ((lifetime_of n name).missing from) refl))) refl) (keeps refl refl refl refl refl refl))
+    (λ same. loses (ap one_if (subst (λ x. (lifetime_of n name).missing x ≡ false) same (not_missing (lifetime_of n name).stage refl ((lifetime_of n name).missing from) refl))) refl) (keeps refl refl refl refl refl refl))
     (λ q other. at_others m (lifetime_of n q) _ _ _ refl refl (none_to (from == m) 0)) r
   where
     not_missing : (s : Stage) → (lifetime_of n name).stage ≡ s → (b : Bool) → (lifetime_of n name).missing from ≡ b → (lifetime_of n name).missing from ≡ false
     not_missing s e false w = w
     not_missing (stage.Going deleter) e true w = absurd (h deleter e w)
-    not_missing stage.Unknown e true w = absurd (let a = (fits name).going from in let b = ap going_of e in let c = ap flag w in omega arith)
-    not_missing stage.Live e true w = absurd (let a = (fits name).going from in let b = ap going_of e in let c = ap flag w in omega arith)
-    not_missing stage.Gone e true w = absurd (let a = (fits name).going from in let b = ap going_of e in let c = ap flag w in omega arith)
+    not_missing stage.Unknown e true w = absurd (let a = (fits name).going from in let b = ap going_of e in let c = ap one_if w in omega arith)
+    not_missing stage.Live e true w = absurd (let a = (fits name).going from in let b = ap going_of e in let c = ap one_if w in omega arith)
+    not_missing stage.Gone e true w = absurd (let a = (fits name).going from in let b = ap going_of e in let c = ap one_if w in omega arith)
 home_idles r m count n (Hears from _) h fits = keeps refl refl refl refl refl refl
 
 pub home_deed : (r : Name) (m count : ℕ) (n : Node) (cause : Cause) (o : Outcome) → Deed n cause o → m < count → n.nodes ≡ count → NoneYet n → ((q : Name) → LifeFits count n.me (lifetime_of n q))

@@ -11,3 +11,4 @@ pub mod Side
 pub mod Pairs
 pub mod Tables
 pub mod Sizes
+pub mod Stages

@@ -22,16 +22,16 @@ use Rattle.crl_deeds.proofs.Tabling.{lifetime_put}
 use Rattle.crl_deeds.proofs.Counting.{Counted, Plain, WaitsAway, counted_local, counted_start}
 use Rattle.crl_deeds.proofs.Turning.{Came, Local, Held, lives_frame}
 use Rattle.crl_deeds.proofs.Knowing.{NoneYet, none_local}
-use Rattle.crl_lifetime.specs.Lifetime.{StageMoves, stays, created, begins, deleted, ends}
+use Rattle.crl_lifetime.specs.Lifetime.{one_if, StageMoves, stays, created, begins, deleted, ends}
 use Rattle.crl_lifetime.proofs.Mapping.{waits_map, warned}
-use Rattle.crl_lifetime.proofs.Weights.{flag, if_named}
+use Rattle.crl_lifetime.proofs.Weights.{if_named}
 use Rattle.crl_lifetime.proofs.Storing.{one, mapped, stored, entries, named_self, named_other, made_of, going_of, flag_few, stored_none, stored_out, stored_in, none_stored}
 use Rattle.crl_lifetime.proofs.Sending.{Sent, sent_part, sent_deed}
 
 -- Of one region at its home.
 pub record LifeFits (count me : ℕ) (l : Lifetime) : Type 0 where
-  pub fresh : (j : ℕ) → flag (l.asked j) ≤ made_of l.stage
-  pub going : (j : ℕ) → flag (l.missing j) ≤ going_of l.stage
+  pub fresh : (j : ℕ) → one_if (l.asked j) ≤ made_of l.stage
+  pub going : (j : ℕ) → one_if (l.missing j) ≤ going_of l.stage
   pub askers : (j : ℕ) → l.asked j ≡ true → j < count
   pub missers : (j : ℕ) → l.missing j ≡ true → j < count
   pub some : going_of l.stage ≤ length (members count l.missing)
@@ -93,7 +93,7 @@ begun_fits count me deleter m ms l e none h = record {
 alone_fits : (count me : ℕ) (l : Lifetime) → l.stage ≡ stage.Live → LifeFits count me l → LifeFits count me (record l { stage = stage.Gone })
 alone_fits count me l e h = record {
   fresh = λ j. flag_few (l.asked j);
-  going = λ j. subst (λ s. flag (l.missing j) ≤ going_of s) e (h.going j);
+  going = λ j. subst (λ s. one_if (l.missing j) ≤ going_of s) e (h.going j);
   askers = h.askers;
   missers = h.missers;
   some = omega arith;
@@ -125,7 +125,7 @@ ended_fits count me deleter from l e last h = record {
   home = cond_both (from == me) _ _ (λ b. b ≡ false) (λ w. refl) (λ w. h.home);
 }
   where
-    go : (j : ℕ) (b : Bool) → at_node l.missing from false j ≡ b → flag b ≤ 0
+    go : (j : ℕ) (b : Bool) → at_node l.missing from false j ≡ b → one_if b ≤ 0
     go j true w = absurd (let few = h.missers j (less l.missing from j w) in let none = none_left (at_node l.missing from false) 0 count j last (omega arith) (omega arith) in cc)
     go j false w = omega arith
 
@@ -174,7 +174,7 @@ wait_none : (n : Node) (name : Name) → is_mine n name ≡ true → WaitsAway n
 wait_none n name mine w = go n.activity w
   where
     go : (a : Activity) → WaitsAway n.me a → waits_map name a ≡ 0
-    go (Waiting (ForMap p purged)) w = by_name p (λ b q. is_mine n q ≡ true → flag b ≡ 0) (λ mine. cc) (λ q other mine. refl) name mine
+    go (Waiting (ForMap p purged)) w = by_name p (λ b q. is_mine n q ≡ true → one_if b ≡ 0) (λ mine. cc) (λ q other mine. refl) name mine
     go _ w = refl
 
 kept_each : (n : Node) (name : Name) (m : Mapping) → n.maps name ≡ Some m → OneEach n
@@ -333,21 +333,22 @@ pub record Lived (count i : ℕ) (n : Node) : Type 0 where
   pub made : OwnMade n
   pub none : NoneYet n
   pub zero : (n.lifetimes 0).stage ≡ stage.Unknown
+  pub past : count ≤ i → (s : ℕ) → (n.lifetimes s).stage ≡ stage.Unknown
 
 abbrev pub Spoken : ℕ → Message → Type 0
 Spoken count m = Plain count m × Sent m
 
 lived_copies : (count i : ℕ) (n : Node) (cause : Cause) (o : Outcome) → Copies n cause o → Counted count i o.node → NoneYet o.node → OneEach o.node → Lived count i n → Lived count i o.node
-lived_copies count i n cause o (home_opens c write name h is e v x) k none each l = record { counted = k; life = l.life; each = each; own = l.own; made = l.made; none = none; zero = l.zero }
-lived_copies count i n cause o _ k none each l = record { counted = k; life = l.life; each = each; own = l.own; made = l.made; none = none; zero = l.zero }
+lived_copies count i n cause o (home_opens c write name h is e v x) k none each l = record { counted = k; life = l.life; each = each; own = l.own; made = l.made; none = none; zero = l.zero; past = l.past }
+lived_copies count i n cause o _ k none each l = record { counted = k; life = l.life; each = each; own = l.own; made = l.made; none = none; zero = l.zero; past = l.past }
 
 lived_rounds : (count i : ℕ) (n : Node) (cause : Cause) (o : Outcome) → Rounds n cause o → Counted count i o.node → NoneYet o.node → OneEach o.node → Lived count i n → Lived count i o.node
-lived_rounds count i n cause o (comes_away part other fits) k none each l = record { counted = k; life = l.life; each = each; own = l.own; made = l.made; none = none; zero = l.zero }
-lived_rounds count i n cause o _ k none each l = record { counted = k; life = l.life; each = each; own = l.own; made = l.made; none = none; zero = l.zero }
+lived_rounds count i n cause o (comes_away part other fits) k none each l = record { counted = k; life = l.life; each = each; own = l.own; made = l.made; none = none; zero = l.zero; past = l.past }
+lived_rounds count i n cause o _ k none each l = record { counted = k; life = l.life; each = each; own = l.own; made = l.made; none = none; zero = l.zero; past = l.past }
 
 lived_notes : (count i : ℕ) (n : Node) (c : Call) (w : What) (m : Node) → Notes n c w m → Counted count i m → Lived count i n → Lived count i m
-lived_notes count i n c w m (flushes_own name mine closed) k l = record { counted = k; life = l.life; each = l.each; own = l.own; made = l.made; none = l.none; zero = l.zero }
-lived_notes count i n c w m _ k l = record { counted = k; life = l.life; each = l.each; own = l.own; made = l.made; none = l.none; zero = l.zero }
+lived_notes count i n c w m (flushes_own name mine closed) k l = record { counted = k; life = l.life; each = l.each; own = l.own; made = l.made; none = l.none; zero = l.zero; past = l.past }
+lived_notes count i n c w m _ k l = record { counted = k; life = l.life; each = l.each; own = l.own; made = l.made; none = l.none; zero = l.zero; past = l.past }
 
 plain_came : (count me : ℕ) (cause : Cause) → Came (Spoken count) me cause → Came (Plain count) me cause
 plain_came count me (Calls c) f = tt
@@ -357,11 +358,11 @@ both_all : {A : Type 0} (P Q : A → Type 0) (xs : List A) → AllByRecursion P 
 both_all P Q [] h k = tt
 both_all P Q (x ∷ xs) h k = ((h.0, k.0), both_all P Q xs h.1 k.1)
 
-lived_at : (count i : ℕ) (n : Node) (cause : Cause) (o : Outcome) → Deed n cause o → Counted count i o.node → NoneYet o.node → Came (Plain count) n.me cause → Lived count i n → Lived count i o.node
-lived_at count i n cause o (copies d) k none f l = lived_copies count i n cause o d k none (each_copies n cause o d l.each) l
-lived_at count i n cause o (rounds d) k none f l = lived_rounds count i n cause o d k none (each_rounds n cause o d l.each) l
-lived_at count i n cause o (notes d) k none f l = lived_notes count i n _ _ _ d k l
-lived_at count i n cause o (lives d) k none f l = record {
+lived_at : (count i : ℕ) (n : Node) (cause : Cause) (o : Outcome) → i < count → Deed n cause o → Counted count i o.node → NoneYet o.node → Came (Plain count) n.me cause → Lived count i n → Lived count i o.node
+lived_at count i n cause o few (copies d) k none f l = lived_copies count i n cause o d k none (each_copies n cause o d l.each) l
+lived_at count i n cause o few (rounds d) k none f l = lived_rounds count i n cause o d k none (each_rounds n cause o d l.each) l
+lived_at count i n cause o few (notes d) k none f l = lived_notes count i n _ _ _ d k l
+lived_at count i n cause o few (lives d) k none f l = record {
   counted = k;
   life = λ q. subst (λ me. LifeFits count me (lifetime_of o.node q)) (sym (lives_frame n cause o d).me) (life_lives count n cause o d l.counted.few l.counted.asked f l.life q);
   each = each_lives n cause o d l.counted.waits l.own l.each;
@@ -369,14 +370,15 @@ lived_at count i n cause o (lives d) k none f l = record {
   made = made_lives n cause o d l.none l.counted.waits l.made;
   none = none;
   zero = zero_lives n cause o d l.zero;
+  past = λ far. absurd (omega arith);
 }
-lived_at count i n cause o _ k none f l = l
+lived_at count i n cause o few _ k none f l = l
 
 lived_deed : (count i : ℕ) (n : Node) (cause : Cause) (o : Outcome) → i < count → Deed n cause o → Came (Spoken count) i cause → Lived count i n → Lived count i o.node × AllByRecursion (Spoken count) o.posts
 lived_deed count i n cause o few d f l =
     let c = (counted_local count).deed i n cause o few d (plain_came count i cause f) l.counted in
     let g = subst (λ me. Came (Spoken count) me cause) (sym l.counted.me) f in (
-      lived_at count i n cause o d c.0 ((none_local count).deed i n cause o few d (any_came i cause) l.none).0 (plain_came count n.me cause g) l,
+      lived_at count i n cause o few d c.0 ((none_local count).deed i n cause o few d (any_came i cause) l.none).0 (plain_came count n.me cause g) l,
       both_all (Plain count) Sent o.posts c.1 (sent_deed count n cause o d g),
     )
   where
@@ -387,8 +389,8 @@ lived_deed count i n cause o few d f l =
 pub lived_local : (count : ℕ) → Local count (Lived count) (Spoken count)
 lived_local count = record {
   deed = lived_deed count;
-  boxes = λ i n inbox outbox parcels records notes posted l. record { counted = (counted_local count).boxes i n inbox outbox parcels records notes posted l.counted; life = l.life; each = l.each; own = l.own; made = l.made; none = l.none; zero = l.zero };
-  answered = λ i n answer e l. record { counted = (counted_local count).answered i n answer e l.counted; life = l.life; each = λ q. let a = l.each q in omega arith; own = l.own; made = l.made; none = l.none; zero = l.zero };
+  boxes = λ i n inbox outbox parcels records notes posted l. record { counted = (counted_local count).boxes i n inbox outbox parcels records notes posted l.counted; life = l.life; each = l.each; own = l.own; made = l.made; none = l.none; zero = l.zero; past = l.past };
+  answered = λ i n answer e l. record { counted = (counted_local count).answered i n answer e l.counted; life = l.life; each = λ q. let a = l.each q in omega arith; own = l.own; made = l.made; none = l.none; zero = l.zero; past = l.past };
   parts = λ m part h. ((counted_local count).parts m part h.0, sent_part m.sender m.addressee part m.kind h.1);
 }
 
@@ -402,6 +404,7 @@ lived_start count capacity i = record {
     made = λ q mine. omega arith;
     none = λ s l. refl;
     zero = refl;
+    past = λ far s. refl;
   };
   inbox = tt;
   outbox = tt;

@@ -25,7 +25,8 @@ use Rattle.crl_deeds.proofs.Knowing.{Known, known_start, known_step, life_run}
 use Rattle.crl_lifetime.proofs.Mapping.{of_name, token, waits_map, none, map_life}
 use Rattle.crl_lifetime.proofs.Erasing.{waits_delete, deleting, delete_life}
 use Rattle.crl_lifetime.proofs.Erasing as erasing
-use Rattle.crl_lifetime.proofs.Weights.{flag, if_named, told_weight, live, purge, purged, Talk, live_talk, purge_talk, purged_talk, parting_none, copies_silent, rounds_silent, nothing, under, under_step, under_carried}
+use Rattle.crl_lifetime.specs.Lifetime.{one_if}
+use Rattle.crl_lifetime.proofs.Weights.{if_named, told_weight, live, purge, purged, Talk, live_talk, purge_talk, purged_talk, parting_none, copies_silent, rounds_silent, nothing, under, under_step, under_carried}
 use Rattle.crl_lifetime.proofs.Storing.{one, flag_few, deleted_few, going_deleted}
 use Rattle.crl_lifetime.proofs.Home.{of_life, at_home, home_deed, purges_silent}
 use Rattle.crl_lifetime.proofs.Side.{of_side, at_side, side_deed}
@@ -51,7 +52,7 @@ came_purged_away : (count m : ℕ) (r : Name) (me : ℕ) (cause : Cause) → Cam
 came_purged_away count m r me (Calls c) f away = refl
 came_purged_away count m r me (Hears from (kind.Purged name)) f away = go (name_eq name r) refl
   where
-    go : (b : Bool) → name_eq name r ≡ b → (if from == m then flag b else 0) ≡ 0
+    go : (b : Bool) → name_eq name r ≡ b → (if from == m then one_if b else 0) ≡ 0
     go true e = absurd (away (ap (λ (x : Name). x.home) (sym (same_name name r e)) ∙ sym f.1.0))
     go false e = none_to (from == m) 0
 came_purged_away count m r me (Hears from _) f away = refl

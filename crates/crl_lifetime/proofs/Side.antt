@@ -18,7 +18,8 @@ use Rattle.crl_deeds.proofs.Fitting.{by_name, same_name}
 use Rattle.crl_deeds.proofs.Totals.{weigh, weigh_append, none_to}
 use Rattle.crl_deeds.proofs.Spans.{came}
 use Rattle.crl_lifetime.proofs.Mapping.{waits_map}
-use Rattle.crl_lifetime.proofs.Weights.{flag, if_named, live, purge, purged, live_talk, purge_talk, purged_talk, parting_none, copies_silent, rounds_silent}
+use Rattle.crl_lifetime.specs.Lifetime.{one_if}
+use Rattle.crl_lifetime.proofs.Weights.{if_named, live, purge, purged, live_talk, purge_talk, purged_talk, parting_none, copies_silent, rounds_silent}
 use Rattle.crl_lifetime.proofs.Storing.{one, stored, entries, sound_map, doomed_map, sound, doomed, marked, mapped, named_self, named_other, flag_few, two_maps, stored_none, stored_out, stored_in, marked_few}
 use Rattle.crl_lifetime.proofs.Cases.{at_true}
 use Rattle.crl_lifetime.proofs.Home.{purges_silent}
@@ -75,7 +76,7 @@ put_kept r n name m l p q e good z w =
     (λ x other. let f = stored_in one x n.capacity (record { name = name; size = m.size }) n.cache in let g = named_other name x 1 other in omega arith) z w
 
 few_marked : (q : Name) (a : Activity) → marked q a ≤ 1
-few_marked q (Waiting (ForMap p purged)) = cond_both (name_eq p q) (flag purged) 0 (λ x. x ≤ 1) (λ w. flag_few purged) (λ w. omega arith)
+few_marked q (Waiting (ForMap p purged)) = cond_both (name_eq p q) (one_if purged) 0 (λ x. x ≤ 1) (λ w. flag_few purged) (λ w. omega arith)
 few_marked q _ = omega arith
 
 -- A purge heeded: the name has no sound entry any more, and no map that waits unmarked.
@@ -107,7 +108,7 @@ sent_as s t l p q x e h = subst (λ y. SideRule s l p y t) (sym e) h
 warned_name : (name : Name) (a : Activity) → waits_map name (purges_waiting name a) ≤ marked name (purges_waiting name a)
 warned_name name (Waiting (ForMap p purged)) = go (name_eq p name) purged
   where
-    go : (b c : Bool) → (if b then 1 else 0) ≤ (if b then flag (c || b) else 0)
+    go : (b c : Bool) → (if b then 1 else 0) ≤ (if b then one_if (c || b) else 0)
     go true true = omega arith
     go true false = omega arith
     go false c = omega arith
@@ -116,7 +117,7 @@ warned_name name _ = omega arith
 warned_other : (name x : Name) (a : Activity) → name_eq name x ≡ false → marked x (purges_waiting name a) ≡ marked x a
 warned_other name x (Waiting (ForMap p purged)) other = go (name_eq p name) (name_eq p x) refl refl purged
   where
-    go : (b c : Bool) → name_eq p name ≡ b → name_eq p x ≡ c → (d : Bool) → (if c then flag (d || b) else 0) ≡ (if c then flag d else 0)
+    go : (b c : Bool) → name_eq p name ≡ b → name_eq p x ≡ c → (d : Bool) → (if c then one_if (d || b) else 0) ≡ (if c then one_if d else 0)
     go b false e f d = refl
     go false true e f true = refl
     go false true e f false = refl
@@ -136,8 +137,8 @@ maps_rule r m n name purged_it size answer same e each calm still =
         let a = each name in
         let b : waits_map name n.activity ≡ if_named name name 1 = ap (waits_map name) e in
         let c = named_self name 1 in
-        let d : marked name n.activity ≡ if_named name name (flag purged_it) = ap (marked name) e in
-        let f = named_self name (flag purged_it) in
+        let d : marked name n.activity ≡ if_named name name (one_if purged_it) = ap (marked name) e in
+        let f = named_self name (one_if purged_it) in
         let g = two_maps (Some (new_mapping size purged_it)) in
         maps refl (omega arith) (omega arith) (calm name) (still name) refl refl
 

@@ -9,7 +9,8 @@ use Rattle.crl_protocol.specs.Lifetimes.{Mapping, Cached, CacheStep, cached_size
 use Rattle.crl_protocol.specs.Node.{Node, ForMap, Activity, Waiting, lifetime_of}
 use Rattle.crl_deeds.proofs.Fitting.{same_name, name_self}
 use Rattle.crl_lifetime.proofs.Mapping.{waits_map}
-use Rattle.crl_lifetime.proofs.Weights.{flag, if_named}
+use Rattle.crl_lifetime.specs.Lifetime.{one_if}
+use Rattle.crl_lifetime.proofs.Weights.{if_named}
 
 pub named_self : (name : Name) (x : ℕ) → if_named name name x ≡ x
 named_self name x = cond-true (name_eq name name) x 0 (name_self name)
@@ -48,7 +49,7 @@ doomed q n = doomed_map (n.maps q)
 
 -- a map of the region that waits, and was purged meanwhile
 abbrev pub marked : Name → Activity → ℕ
-marked q (Waiting (ForMap p purged)) = if_named p q (flag purged)
+marked q (Waiting (ForMap p purged)) = if_named p q (one_if purged)
 marked q _ = 0
 
 -- where a region stands
@@ -65,7 +66,7 @@ deleted_of (stage.Going deleter) = 1
 deleted_of stage.Gone = 1
 deleted_of _ = 0
 
-pub flag_few : (b : Bool) → flag b ≤ 1
+pub flag_few : (b : Bool) → one_if b ≤ 1
 flag_few true = omega arith
 flag_few false = omega arith
 
@@ -138,7 +139,7 @@ stored_in f q capacity new cache =
 pub marked_few : (q : Name) (a : Activity) → marked q a ≤ waits_map q a
 marked_few q (Waiting (ForMap p purged)) = go (name_eq p q) (flag_few purged)
   where
-    go : (b : Bool) → flag purged ≤ 1 → (if b then flag purged else 0) ≤ (if b then 1 else 0)
+    go : (b : Bool) → one_if purged ≤ 1 → (if b then one_if purged else 0) ≤ (if b then 1 else 0)
     go true h = omega arith
     go false h = omega arith
 marked_few q _ = omega arith

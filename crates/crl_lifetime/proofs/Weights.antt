@@ -27,9 +27,6 @@ use Rattle.crl_deeds.proofs.Turning.{Frame}
 use Rattle.crl_deeds.proofs.Totals.{weigh, weighs, weigh_append, weigh_took, on_piece, weighs_posted, sum, sum_from, sum_with, load}
 use Rattle.crl_deeds.proofs.Spans.{NoMail, whole_of, keyed_none, part_same, came}
 
-abbrev pub flag : Bool → ℕ
-flag b = if b then 1 else 0
-
 abbrev pub if_named : Name → Name → ℕ → ℕ
 if_named name r x = if name_eq name r then x else 0
 
