@@ -12,3 +12,5 @@ pub mod Pairs
 pub mod Tables
 pub mod Sizes
 pub mod Stages
+pub mod Counts
+pub mod Standing
