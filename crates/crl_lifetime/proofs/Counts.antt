@@ -1,7 +1,6 @@
 -- What is counted in numbers, in the words of the laws.
-use Rattle.std.proofs.Common.{◌≡◌, ℕ, zero, suc, ◌+◌, ◌≤◌, ◌<◌, ◌==◌, Bool, true, false, ◌&&◌, ◌||◌, None, Some, Option, List, [], ◌∷◌, ◌++◌, length, if◌then◌else◌, refl, ap, sym, ◌∙◌, subst, arith}
+use Rattle.std.proofs.Common.{◌≡◌, ℕ, zero, suc, ◌+◌, ◌≤◌, ◌==◌, Bool, true, false, ◌&&◌, ◌||◌, None, Some, Option, List, [], ◌∷◌, ◌++◌, length, if◌then◌else◌, refl, ap, sym, ◌∙◌, arith}
 use Rattle.std.specs.List.{AllByRecursion}
-use Rattle.std.proofs.lemmas.Bool.{cond_both, cond-true, cond-false, eqb-true}
 use Rattle.crl_model.specs.declared.name.Name.{Name}
 use Rattle.crl_model.specs.declared.stage.Stage.{Stage}
 use Rattle.crl_model.specs.declared.stage.Stage.TheVariants as stage
@@ -15,18 +14,18 @@ use Rattle.crl_model.specs.Stages.{is_deleted}
 use Rattle.crl_protocol.specs.Parcels.{Piece}
 use Rattle.crl_protocol.specs.Places.{Took}
 use Rattle.crl_protocol.specs.Lifetimes.{Mapping, Cached, cached_size, members_from}
-use Rattle.crl_protocol.specs.Node.{Node, ForMap, ForDelete, Activity, Free, Waiting}
+use Rattle.crl_protocol.specs.Node.{Node, ForMap, ForDelete, Activity, Waiting}
 use Rattle.crl_protocol.specs.World.{World, boxes_from, pieces_in_boxes}
 use Rattle.crl_deeds.proofs.Fitting.{same_name}
 use Rattle.crl_deeds.proofs.Placing.{all_append}
 use Rattle.crl_deeds.proofs.Turning.{Held, HeldIn, HeldOut}
-use Rattle.crl_deeds.proofs.Totals.{weigh, weighs, weigh_took, on_piece, sum_from, boxed_sum}
-use Rattle.crl_lifetime.specs.Lifetime.{is_about_map, is_about_delete, is_live_with, tells_live, any_size, is_purge, is_purged, one_if, how_many, under_way, waits_for_map, waits_for_delete, waits_purged, is_deleting, is_sound, is_doomed, is_cached, has_sound, has_doomed}
+use Rattle.crl_deeds.proofs.Totals.{weighs, weigh_took, on_piece, boxed_sum}
+use Rattle.crl_lifetime.specs.Lifetime.{is_about_map, is_about_delete, is_live_with, tells_live, is_purge_order, is_purge_answer, one_if, how_many, under_way, waits_for_map, waits_for_delete, waits_purged, is_deleting, is_sound, is_doomed, is_cached, has_sound}
 use Rattle.crl_lifetime.proofs.Mapping.{token, waits_map}
 use Rattle.crl_lifetime.proofs.Erasing as erasing
 use Rattle.crl_lifetime.proofs.Erasing.{waits_delete, stage_of}
-use Rattle.crl_lifetime.proofs.Weights.{told_weight, live, purge, purged, under}
-use Rattle.crl_lifetime.proofs.Storing.{one, stored, sound_map, doomed_map, sound, doomed, marked, made_of, going_of, deleted_of, none_stored}
+use Rattle.crl_lifetime.proofs.Weights.{told_weight, live_weight, order_weight, answer_weight, under}
+use Rattle.crl_lifetime.proofs.Storing.{one, stored_weight, sound_map, doomed_map, sound_entries, marked_maps, made_of, going_of, deleted_of, none_stored}
 use Rattle.crl_lifetime.proofs.Lived.{Lived, Spoken}
 
 pub true_of : (b : Bool) → 1 ≤ one_if b → b ≡ true
@@ -64,13 +63,13 @@ delete_kind n r x (kind.DeleteAsk name) = two_tests (x.sender == n) (name_eq nam
 delete_kind n r x (kind.DeleteIs name t) = two_tests (x.addressee == n) (name_eq name r)
 delete_kind n r x _ = refl
 
-purge_kind_is : (n : ℕ) (r : Name) (x : Message) (k : Kind) → purge n r (record x { kind = k }) ≡ one_if (is_purge n r x.sender x.addressee k)
-purge_kind_is n r x (kind.Purge name) = two_tests (x.addressee == n) (name_eq name r)
-purge_kind_is n r x _ = refl
+order_kind_is : (n : ℕ) (r : Name) (x : Message) (k : Kind) → order_weight n r (record x { kind = k }) ≡ one_if (is_purge_order n r x.sender x.addressee k)
+order_kind_is n r x (kind.Purge name) = two_tests (x.addressee == n) (name_eq name r)
+order_kind_is n r x _ = refl
 
-purged_kind_is : (n : ℕ) (r : Name) (x : Message) (k : Kind) → purged n r (record x { kind = k }) ≡ one_if (is_purged n r x.sender x.addressee k)
-purged_kind_is n r x (kind.Purged name) = two_tests (x.sender == n) (name_eq name r)
-purged_kind_is n r x _ = refl
+answer_kind_is : (n : ℕ) (r : Name) (x : Message) (k : Kind) → answer_weight n r (record x { kind = k }) ≡ one_if (is_purge_answer n r x.sender x.addressee k)
+answer_kind_is n r x (kind.Purged name) = two_tests (x.sender == n) (name_eq name r)
+answer_kind_is n r x _ = refl
 
 abbrev pub size_weight : (ℕ → Bool) → ℕ → ℕ
 size_weight like size = one_if (like size)
@@ -80,7 +79,7 @@ told_is like (told.Live size) = refl
 told_is like told.Unknown = refl
 told_is like told.Deleted = refl
 
-live_kind_is : (like : ℕ → Bool) (n : ℕ) (r : Name) (x : Message) (k : Kind) → live (size_weight like) n r (record x { kind = k }) ≡ one_if (tells_live like n r x.sender x.addressee k)
+live_kind_is : (like : ℕ → Bool) (n : ℕ) (r : Name) (x : Message) (k : Kind) → live_weight (size_weight like) n r (record x { kind = k }) ≡ one_if (tells_live like n r x.sender x.addressee k)
 live_kind_is like n r x (kind.InfoIs name t) =
     ap (λ y. if x.addressee == n then (if name_eq name r then y else 0) else 0) (told_is like t) ∙ three_tests (x.addressee == n) (name_eq name r) (is_live_with like t)
 live_kind_is like n r x _ = refl
@@ -91,14 +90,14 @@ map_count_is n r w = under_is (token n r) (is_about_map n r) (λ m. map_kind n r
 pub delete_count_is : (n : ℕ) (r : Name) (w : World) → under (erasing.token n r) w ≡ under_way (is_about_delete n r) w
 delete_count_is n r w = under_is (erasing.token n r) (is_about_delete n r) (λ m. delete_kind n r m m.kind) w
 
-pub purge_count_is : (n : ℕ) (r : Name) (w : World) → under (purge n r) w ≡ under_way (is_purge n r) w
-purge_count_is n r w = under_is (purge n r) (is_purge n r) (λ m. purge_kind_is n r m m.kind) w
+pub order_count_is : (n : ℕ) (r : Name) (w : World) → under (order_weight n r) w ≡ under_way (is_purge_order n r) w
+order_count_is n r w = under_is (order_weight n r) (is_purge_order n r) (λ m. order_kind_is n r m m.kind) w
 
-pub purged_count_is : (n : ℕ) (r : Name) (w : World) → under (purged n r) w ≡ under_way (is_purged n r) w
-purged_count_is n r w = under_is (purged n r) (is_purged n r) (λ m. purged_kind_is n r m m.kind) w
+pub answer_count_is : (n : ℕ) (r : Name) (w : World) → under (answer_weight n r) w ≡ under_way (is_purge_answer n r) w
+answer_count_is n r w = under_is (answer_weight n r) (is_purge_answer n r) (λ m. answer_kind_is n r m m.kind) w
 
-pub live_count_is : (like : ℕ → Bool) (n : ℕ) (r : Name) (w : World) → under (live (size_weight like) n r) w ≡ under_way (tells_live like n r) w
-live_count_is like n r w = under_is (live (size_weight like) n r) (tells_live like n r) (λ m. live_kind_is like n r m m.kind) w
+pub live_count_is : (like : ℕ → Bool) (n : ℕ) (r : Name) (w : World) → under (live_weight (size_weight like) n r) w ≡ under_way (tells_live like n r) w
+live_count_is like n r w = under_is (live_weight (size_weight like) n r) (tells_live like n r) (λ m. live_kind_is like n r m m.kind) w
 
 -- Waits.
 pub map_wait_is : (r : Name) (a : Activity) → waits_map r a ≡ one_if (waits_for_map r a)
@@ -113,7 +112,7 @@ mark_tests : (b c : Bool) → (if b then one_if c else 0) ≡ one_if (b && c)
 mark_tests true c = refl
 mark_tests false c = refl
 
-pub marked_is : (r : Name) (a : Activity) → marked r a ≡ one_if (waits_purged r a)
+pub marked_is : (r : Name) (a : Activity) → marked_maps r a ≡ one_if (waits_purged r a)
 marked_is r (Waiting (ForMap name purged)) = mark_tests (name_eq name r) purged
 marked_is r _ = refl
 
@@ -166,17 +165,17 @@ pub doomed_is : (o : Option Mapping) → doomed_map o ≡ one_if (is_doomed o)
 doomed_is None = refl
 doomed_is (Some m) = refl
 
-pub cached_counts : (r : Name) (cache : List Cached) → is_cached (cached_size r cache) ≡ true → 1 ≤ stored one r cache
-cached_counts r cache e = go (stored one r cache) refl
+pub cached_counts : (r : Name) (cache : List Cached) → is_cached (cached_size r cache) ≡ true → 1 ≤ stored_weight one r cache
+cached_counts r cache e = go (stored_weight one r cache) refl
   where
-    go : (k : ℕ) → stored one r cache ≡ k → 1 ≤ stored one r cache
+    go : (k : ℕ) → stored_weight one r cache ≡ k → 1 ≤ stored_weight one r cache
     go zero z = let none = ap is_cached (none_stored r cache z) in absurd (cc)
     go (suc k) z = omega arith
 
-pub sound_counts : (r : Name) (n : Node) → has_sound r n ≡ true → 1 ≤ sound r n
+pub sound_counts : (r : Name) (n : Node) → has_sound r n ≡ true → 1 ≤ sound_entries r n
 sound_counts r n e = go (is_sound (n.maps r)) (sound_is (n.maps r)) e
   where
-    go : (b : Bool) → sound_map (n.maps r) ≡ one_if b → b || is_cached (cached_size r n.cache) ≡ true → 1 ≤ sound_map (n.maps r) + stored one r n.cache
+    go : (b : Bool) → sound_map (n.maps r) ≡ one_if b → b || is_cached (cached_size r n.cache) ≡ true → 1 ≤ sound_map (n.maps r) + stored_weight one r n.cache
     go true s e = omega arith
     go false s e = let c = cached_counts r n.cache e in omega arith
 

@@ -1,5 +1,5 @@
 -- What a deed does to the lifetime of a region at its home, and to what the home tells a node of it.
-use Rattle.std.proofs.Common.{◌≡◌, ℕ, zero, suc, ◌+◌, ◌≤◌, ◌<◌, ◌==◌, Bool, true, false, None, Some, Option, List, [], ◌∷◌, ◌++◌, map, if◌then◌else◌, refl, ap, sym, ◌∙◌, subst, arith}
+use Rattle.std.proofs.Common.{◌≡◌, ℕ, zero, suc, ◌+◌, ◌≤◌, ◌<◌, ◌==◌, Bool, true, false, List, [], ◌∷◌, map, if◌then◌else◌, refl, ap, sym, subst, arith}
 use Rattle.std.proofs.lemmas.Bool.{cond_both, cond-true, cond-false, eqb-true, eqb-false, ne_eqb}
 use Rattle.crl_model.specs.declared.name.Name.{Name}
 use Rattle.crl_model.specs.declared.stage.Stage.{Stage}
@@ -7,7 +7,6 @@ use Rattle.crl_model.specs.declared.stage.Stage.TheVariants as stage
 use Rattle.crl_model.specs.declared.call.Call.{Call}
 use Rattle.crl_model.specs.declared.entry.What.{What}
 use Rattle.crl_model.specs.declared.message.Message.{Message}
-use Rattle.crl_model.specs.declared.message.Kind.{Kind}
 use Rattle.crl_model.specs.declared.message.Kind.TheVariants as kind
 use Rattle.crl_model.specs.declared.message.Told.{Told}
 use Rattle.crl_model.specs.declared.message.DeleteTold.{DeleteTold}
@@ -16,17 +15,17 @@ use Rattle.crl_model.specs.Names.{name_eq, at_node, at_name}
 use Rattle.crl_protocol.specs.Lifetimes.{Lifetime, new_lifetime, no_lifetime, members, members_from}
 use Rattle.crl_protocol.specs.Node.{Node, Outcome, is_mine, lifetime_of, with_lifetime, serials_used, message_to}
 use Rattle.crl_protocol.specs.Calls.{creates, purges}
-use Rattle.crl_deeds.specs.Deeds.{Cause, Calls, Hears, parting, Copies, Lives, Rounds, Notes, Idles, Deed, copies, lives, rounds, notes, refuses, idles, Unfit, never, going, gone, home_opens, made, map_told, map_refused, unmaps_doomed, unmaps_evicting, deletes_alone, deletes_own, deletes_alone_for, deletes_for, delete_refused, drops, counts_off, ends_own, ends_for, comes_away, flushes_own}
+use Rattle.crl_deeds.specs.Deeds.{Cause, Calls, Hears, parting, Copies, Lives, Rounds, Notes, Idles, Deed, copies, lives, rounds, notes, refuses, idles, Unfit, never, going, gone, home_opens, made, map_told, map_refused, unmaps_doomed, unmaps_evicting, deletes_alone, deletes_own, deletes_alone_for, deletes_for, drops, counts_off, ends_own, ends_for, comes_away, flushes_own}
 use Rattle.crl_deeds.proofs.Fitting.{by_name}
 use Rattle.crl_deeds.proofs.Tabling.{lifetime_put}
 use Rattle.crl_deeds.proofs.Totals.{weigh, weigh_append, none_to}
 use Rattle.crl_deeds.proofs.Spans.{came}
 use Rattle.crl_deeds.proofs.Knowing.{NoneYet}
 use Rattle.crl_lifetime.specs.Lifetime.{one_if}
-use Rattle.crl_lifetime.proofs.Weights.{if_named, live, purge, purged, live_talk, purge_talk, purged_talk, parting_none, copies_silent, rounds_silent}
+use Rattle.crl_lifetime.proofs.Weights.{if_named, live_weight, order_weight, answer_weight, live_talk, order_talk, answer_talk, parting_none, copies_silent, rounds_silent}
 use Rattle.crl_lifetime.proofs.Storing.{one, made_of, going_of, deleted_of}
 use Rattle.crl_lifetime.proofs.Cases.{by_node}
-use Rattle.crl_lifetime.proofs.Lived.{LifeFits, none_left}
+use Rattle.crl_lifetime.proofs.Asking.{LifeFits, none_left}
 use Rattle.crl_lifetime.proofs.Rules.{AtHome, HomeRule, keeps, tells, begins, counts, loses, home_rule_as}
 
 abbrev pub of_life : ℕ → Lifetime → AtHome
@@ -64,19 +63,19 @@ made_rule r m n size count none fits = go (is_mine n r) refl
     go false w = keeps refl refl refl refl refl refl
 
 -- Purges go to the nodes that asked.
-purges_past : (m : ℕ) (r : Name) (n : Node) (name : Name) (set : ℕ → Bool) (i k : ℕ) → m < i → weigh (purge m r) (map (λ j. message_to n j (kind.Purge name)) (members_from i k set)) ≡ 0
+purges_past : (m : ℕ) (r : Name) (n : Node) (name : Name) (set : ℕ → Bool) (i k : ℕ) → m < i → weigh (order_weight m r) (map (λ j. message_to n j (kind.Purge name)) (members_from i k set)) ≡ 0
 purges_past m r n name set i zero h = refl
 purges_past m r n name set i (suc k) h =
     let t = purges_past m r n name set (i + 1) k (omega arith) in
     let e : (if i == m then if_named name r 1 else 0) ≡ 0 = cond-false (i == m) (if_named name r 1) 0 (ne_eqb i m (λ w. omega arith)) in
-    cond_both (set i) (i ∷ members_from (i + 1) k set) (members_from (i + 1) k set) (λ ms. weigh (purge m r) (map (λ j. message_to n j (kind.Purge name)) ms) ≡ 0) (λ w. omega arith) (λ w. t)
+    cond_both (set i) (i ∷ members_from (i + 1) k set) (members_from (i + 1) k set) (λ ms. weigh (order_weight m r) (map (λ j. message_to n j (kind.Purge name)) ms) ≡ 0) (λ w. omega arith) (λ w. t)
 
-purges_go : (m : ℕ) (r : Name) (n : Node) (name : Name) (set : ℕ → Bool) (i k : ℕ) → i ≤ m → m < i + k → weigh (purge m r) (map (λ j. message_to n j (kind.Purge name)) (members_from i k set)) ≡ (if set m then if_named name r 1 else 0)
+purges_go : (m : ℕ) (r : Name) (n : Node) (name : Name) (set : ℕ → Bool) (i k : ℕ) → i ≤ m → m < i + k → weigh (order_weight m r) (map (λ j. message_to n j (kind.Purge name)) (members_from i k set)) ≡ (if set m then if_named name r 1 else 0)
 purges_go m r n name set i zero h l = absurd (omega arith)
 purges_go m r n name set i (suc k) h l = go (i == m) refl (λ w. purges_go m r n name set (i + 1) k w (omega arith))
   where
     sent : List ℕ → ℕ
-    sent ms = weigh (purge m r) (map (λ j. message_to n j (kind.Purge name)) ms)
+    sent ms = weigh (order_weight m r) (map (λ j. message_to n j (kind.Purge name)) ms)
 
     x : ℕ
     x = if_named name r 1
@@ -103,9 +102,9 @@ purges_silent f h n name [] = refl
 purges_silent f h n name (m ∷ ms) = let t = purges_silent f h n name ms in let e = h n.me m name in omega arith
 
 begins_rule : (r : Name) (m : ℕ) (n : Node) (name : Name) (deleter count : ℕ) → m < count → n.nodes ≡ count → is_mine n name ≡ true → (lifetime_of n name).stage ≡ stage.Live → LifeFits count n.me (lifetime_of n name)
-    → HomeRule (at_home r m n) (weigh (live one m r) (purges n name (lifetime_of n name))) (weigh (purge m r) (purges n name (lifetime_of n name))) 0 (at_home r m (with_lifetime name (record (lifetime_of n name) { stage = stage.Going deleter; missing = (lifetime_of n name).asked }) n))
+    → HomeRule (at_home r m n) (weigh (live_weight one m r) (purges n name (lifetime_of n name))) (weigh (order_weight m r) (purges n name (lifetime_of n name))) 0 (at_home r m (with_lifetime name (record (lifetime_of n name) { stage = stage.Going deleter; missing = (lifetime_of n name).asked }) n))
 begins_rule r m n name deleter count few all mine is fits =
-    home_rule_as _ _ _ _ _ _ _ _ (purges_silent (live one m r) (λ from to name. refl) n name _) (purges_go m r n name (lifetime_of n name).asked 0 n.nodes (omega arith) (omega arith)) refl
+    home_rule_as _ _ _ _ _ _ _ _ (purges_silent (live_weight one m r) (λ from to name. refl) n name _) (purges_go m r n name (lifetime_of n name).asked 0 n.nodes (omega arith) (omega arith)) refl
     (rule_put r m n name _ _ _ _ mine
     (by_name name (λ b q. HomeRule (of_life m (lifetime_of n q)) 0 (if (lifetime_of n name).asked m then (if b then 1 else 0) else 0) 0 (of_life m (if b then record (lifetime_of n name) { stage = stage.Going deleter; missing = (lifetime_of n name).asked } else lifetime_of n q)))
     (let a = ap deleted_of is in let b = fits.going m in let c = ap going_of is in begins (omega arith) (omega arith) refl refl refl refl refl refl)
@@ -137,13 +136,13 @@ zeros true true = refl
 zeros true false = refl
 zeros false b = refl
 
-refused_none : (r : Name) (m : ℕ) (n : Node) (from : ℕ) (name : Name) (s : Stage) (why : Refusal) (t : Told) (d : DeleteTold) → Unfit s why t d → weigh (live one m r) (message_to n from (kind.InfoIs name t) ∷ []) ≡ 0
+refused_none : (r : Name) (m : ℕ) (n : Node) (from : ℕ) (name : Name) (s : Stage) (why : Refusal) (t : Told) (d : DeleteTold) → Unfit s why t d → weigh (live_weight one m r) (message_to n from (kind.InfoIs name t) ∷ []) ≡ 0
 refused_none r m n from name s why t d never = zeros (from == m) (name_eq name r)
 refused_none r m n from name s why t d (going deleter) = zeros (from == m) (name_eq name r)
 refused_none r m n from name s why t d gone = zeros (from == m) (name_eq name r)
 
 home_lives : (r : Name) (m count : ℕ) (n : Node) (cause : Cause) (o : Outcome) → Lives n cause o → m < count → n.nodes ≡ count → NoneYet n → ((q : Name) → LifeFits count n.me (lifetime_of n q))
-    → HomeRule (at_home r m n) (weigh (live one m r) o.posts) (weigh (purge m r) o.posts) (came (purged m r) n.me cause) (at_home r m o.node)
+    → HomeRule (at_home r m n) (weigh (live_weight one m r) o.posts) (weigh (order_weight m r) o.posts) (came (answer_weight m r) n.me cause) (at_home r m o.node)
 home_lives r m count n cause o (made size e) few all none fits = made_rule r m n size count none (fits r)
 home_lives r m count n cause o (map_told from name mine is) few all none fits =
     rule_put r m n name _ _ _ _ mine
@@ -153,17 +152,17 @@ home_lives r m count n cause o (map_told from name mine is) few all none fits =
     (keeps refl refl refl refl refl refl))
     (λ q other. at_others m (lifetime_of n q) _ _ _ (let z = none_to (from == m) 0 in omega arith) refl refl) r)
 home_lives r m count n cause o (map_refused from name why t d u) few all none fits = keeps refl refl refl (refused_none r m n from name _ why t d u) refl refl
-home_lives r m count n cause o (unmaps_doomed name x e once other doomed closed) few all none fits = keeps refl refl refl (parting_none (live one m r) (live_talk one m r).mail n name (n.remotes name)) (parting_none (purge m r) (purge_talk m r).mail n name (n.remotes name)) refl
-home_lives r m count n cause o (unmaps_evicting name x old e once other sound closed kept) few all none fits = keeps refl refl refl (parting_none (live one m r) (live_talk one m r).mail n old (n.remotes old)) (parting_none (purge m r) (purge_talk m r).mail n old (n.remotes old)) refl
+home_lives r m count n cause o (unmaps_doomed name x e once other doomed closed) few all none fits = keeps refl refl refl (parting_none (live_weight one m r) (live_talk one m r).mail n name (n.remotes name)) (parting_none (order_weight m r) (order_talk m r).mail n name (n.remotes name)) refl
+home_lives r m count n cause o (unmaps_evicting name x old e once other sound closed kept) few all none fits = keeps refl refl refl (parting_none (live_weight one m r) (live_talk one m r).mail n old (n.remotes old)) (parting_none (order_weight m r) (order_talk m r).mail n old (n.remotes old)) refl
 home_lives r m count n cause o (deletes_alone name mine is e) few all none fits = alone_rule r m n name count few all mine is e (fits name)
 home_lives r m count n cause o (deletes_own name x xs mine is e) few all none fits = begins_rule r m n name n.me count few all mine is (fits name)
 home_lives r m count n cause o (deletes_alone_for from name mine is e) few all none fits = alone_rule r m n name count few all mine is e (fits name)
 home_lives r m count n cause o (deletes_for from name x xs mine is e) few all none fits = begins_rule r m n name from count few all mine is (fits name)
 home_lives r m count n cause o (drops from name size e c) few all none fits =
-    let a = weigh_append (live one m r) (parting n name (n.remotes name)) (message_to n from (kind.Purged name) ∷ []) in
-    let b = weigh_append (purge m r) (parting n name (n.remotes name)) (message_to n from (kind.Purged name) ∷ []) in
-    let x = parting_none (live one m r) (live_talk one m r).mail n name (n.remotes name) in
-    let y = parting_none (purge m r) (purge_talk m r).mail n name (n.remotes name) in keeps refl refl refl (omega arith) (omega arith) refl
+    let a = weigh_append (live_weight one m r) (parting n name (n.remotes name)) (message_to n from (kind.Purged name) ∷ []) in
+    let b = weigh_append (order_weight m r) (parting n name (n.remotes name)) (message_to n from (kind.Purged name) ∷ []) in
+    let x = parting_none (live_weight one m r) (live_talk one m r).mail n name (n.remotes name) in
+    let y = parting_none (order_weight m r) (order_talk m r).mail n name (n.remotes name) in keeps refl refl refl (omega arith) (omega arith) refl
 home_lives r m count n cause o (counts_off from name deleter x xs mine is missing left) few all none fits = counts_rule r m n name from deleter (lifetime_of n name).stage mine is missing (ap deleted_of is)
 home_lives r m count n cause o (ends_own from name mine is missing last) few all none fits = counts_rule r m n name from n.me stage.Gone mine is missing refl
 home_lives r m count n cause o (ends_for from name deleter mine is other missing last) few all none fits = counts_rule r m n name from deleter stage.Gone mine is missing refl
@@ -185,7 +184,7 @@ same_home : (h k : AtHome) (l p q : ℕ) → k ≡ h → l ≡ 0 → p ≡ 0 →
 same_home h k l p q e a b c = keeps (ap (λ (x : AtHome). x.asked) e) (ap (λ (x : AtHome). x.missing) e) (ap (λ (x : AtHome). x.deleted) e) a b c
 
 -- a Purged that isn't missing
-home_idles : (r : Name) (m count : ℕ) (n : Node) (cause : Cause) → Idles cause n → ((q : Name) → LifeFits count n.me (lifetime_of n q)) → HomeRule (at_home r m n) 0 0 (came (purged m r) n.me cause) (at_home r m n)
+home_idles : (r : Name) (m count : ℕ) (n : Node) (cause : Cause) → Idles cause n → ((q : Name) → LifeFits count n.me (lifetime_of n q)) → HomeRule (at_home r m n) 0 0 (came (answer_weight m r) n.me cause) (at_home r m n)
 home_idles r m count n (Calls c) h fits = keeps refl refl refl refl refl refl
 home_idles r m count n (Hears from (kind.Purged name)) h fits =
     by_name name (λ b q. HomeRule (of_life m (lifetime_of n q)) 0 0 (if from == m then (if b then 1 else 0) else 0) (of_life m (lifetime_of n q)))
@@ -202,12 +201,12 @@ home_idles r m count n (Hears from (kind.Purged name)) h fits =
 home_idles r m count n (Hears from _) h fits = keeps refl refl refl refl refl refl
 
 pub home_deed : (r : Name) (m count : ℕ) (n : Node) (cause : Cause) (o : Outcome) → Deed n cause o → m < count → n.nodes ≡ count → NoneYet n → ((q : Name) → LifeFits count n.me (lifetime_of n q))
-    → HomeRule (at_home r m n) (weigh (live one m r) o.posts) (weigh (purge m r) o.posts) (came (purged m r) n.me cause) (at_home r m o.node)
+    → HomeRule (at_home r m n) (weigh (live_weight one m r) o.posts) (weigh (order_weight m r) o.posts) (came (answer_weight m r) n.me cause) (at_home r m o.node)
 home_deed r m count n cause o (copies d) few all none fits =
-    same_home _ _ _ _ _ (home_copies r m n cause o d) (copies_silent (live one m r) (live_talk one m r).mail n cause o d).0 (copies_silent (purge m r) (purge_talk m r).mail n cause o d).0 (copies_silent (purged m r) (purged_talk m r).mail n cause o d).1
+    same_home _ _ _ _ _ (home_copies r m n cause o d) (copies_silent (live_weight one m r) (live_talk one m r).mail n cause o d).0 (copies_silent (order_weight m r) (order_talk m r).mail n cause o d).0 (copies_silent (answer_weight m r) (answer_talk m r).mail n cause o d).1
 home_deed r m count n cause o (lives d) few all none fits = home_lives r m count n cause o d few all none fits
 home_deed r m count n cause o (rounds d) few all none fits =
-    same_home _ _ _ _ _ (home_rounds r m n cause o d) (rounds_silent (live one m r) (live_talk one m r) n cause o d).0 (rounds_silent (purge m r) (purge_talk m r) n cause o d).0 (rounds_silent (purged m r) (purged_talk m r) n cause o d).1
+    same_home _ _ _ _ _ (home_rounds r m n cause o d) (rounds_silent (live_weight one m r) (live_talk one m r) n cause o d).0 (rounds_silent (order_weight m r) (order_talk m r) n cause o d).0 (rounds_silent (answer_weight m r) (answer_talk m r) n cause o d).1
 home_deed r m count n cause o (notes d) few all none fits = same_home _ _ _ _ _ (home_notes r m n _ _ _ d) refl refl refl
 home_deed r m count n cause o (refuses c why v) few all none fits = keeps refl refl refl refl refl refl
 home_deed r m count n cause o (idles h) few all none fits = home_idles r m count n cause h fits

@@ -1,16 +1,20 @@
-pub mod Mapping
-pub mod Erasing
-pub mod Weights
-pub mod Storing
-pub mod Rules
-pub mod Sending
-pub mod Lived
-pub mod Cases
-pub mod Home
-pub mod Side
-pub mod Pairs
-pub mod Tables
-pub mod Sizes
-pub mod Stages
-pub mod Counts
-pub mod Standing
+mod Mapping
+mod Erasing
+mod Cases
+mod Weights
+mod Storing
+mod Rules
+mod Sending
+mod Asking
+mod Having
+mod Moving
+mod Lived
+mod Home
+mod Side
+mod Pairs
+mod Tables
+mod Sizes
+mod Stages
+mod Counts
+mod Standing
+pub mod Laws

@@ -1,5 +1,5 @@
 -- Who sends what about a region: its home, and other nodes to it.
-use Rattle.std.proofs.Common.{◌≡◌, ℕ, zero, suc, ◌+◌, ◌-◌, ◌==◌, Bool, true, false, None, Some, Option, List, [], ◌∷◌, ◌++◌, map, refl, sym}
+use Rattle.std.proofs.Common.{◌≡◌, ℕ, zero, suc, ◌+◌, ◌-◌, ◌==◌, true, false, None, Some, Option, List, [], ◌∷◌, map, refl, sym}
 use Rattle.std.specs.List.{AllByRecursion}
 use Rattle.std.proofs.lemmas.Bool.{eqb-true}
 use Rattle.crl_model.specs.declared.name.Name.{Name}
@@ -12,7 +12,7 @@ use Rattle.crl_protocol.specs.Mail.{Mail, Ask, Letter, kind_about}
 use Rattle.crl_protocol.specs.Remote.{Remote, remote_flushes}
 use Rattle.crl_protocol.specs.Node.{Node, Outcome, is_mine, letter_messages, mail_messages, message_to}
 use Rattle.crl_protocol.specs.Calls.{results_from}
-use Rattle.crl_deeds.specs.Deeds.{Cause, Calls, Hears, parting, Copies, Lives, Rounds, Deed, copies, lives, rounds, home_opens, home_waits, side_opens, side_waits, home_ends, side_ends, side_flushes, home_serves, home_serves_own, grant_comes, side_called, map_asks, map_told, map_refused, unmaps_doomed, unmaps_evicting, deletes_own, delete_asks, deletes_alone_for, deletes_for, delete_refused, dooms, drops, warns, ends_for, comes_away, comes_last, part_last, part_last_idle}
+use Rattle.crl_deeds.specs.Deeds.{Cause, parting, Copies, Lives, Rounds, Deed, copies, lives, rounds, home_opens, home_waits, side_opens, side_waits, home_ends, side_ends, side_flushes, home_serves, home_serves_own, grant_comes, side_called, map_asks, map_told, map_refused, unmaps_doomed, unmaps_evicting, deletes_own, delete_asks, deletes_alone_for, deletes_for, delete_refused, dooms, drops, warns, ends_for, comes_away, comes_last, part_last, part_last_idle}
 use Rattle.crl_deeds.proofs.Counting.{Plain}
 use Rattle.crl_deeds.proofs.Placing.{all_append}
 use Rattle.crl_deeds.proofs.Turning.{Came}

@@ -1,5 +1,5 @@
 -- Where a region stands in a run: how its stage moves, and that a region that was created has a table.
-use Rattle.std.proofs.Common.{◌≡◌, ℕ, ◌≤◌, ◌<◌, ◌==◌, Bool, true, false, None, Some, Option, List, [], ◌∷◌, if◌then◌else◌, refl, ap, sym, ◌∙◌, subst}
+use Rattle.std.proofs.Common.{◌≡◌, ℕ, ◌==◌, true, None, Some, Option, List, [], ◌∷◌, refl, sym, ◌∙◌, subst}
 use Rattle.std.proofs.lemmas.Bool.{cond_both, eq-eqb}
 use Rattle.crl_model.specs.declared.name.Name.{Name}
 use Rattle.crl_model.specs.declared.stage.Stage.{Stage}
@@ -13,8 +13,9 @@ use Rattle.crl_deeds.proofs.Fitting.{LiveFits}
 use Rattle.crl_deeds.proofs.Outcomes.{here_if}
 use Rattle.crl_deeds.proofs.Knowing.{Known}
 use Rattle.crl_deeds.proofs.Turning.{Turn, calls, hears, gathers, answers, carriage, rests, each_at, turn_of, turn_count, Held}
-use Rattle.crl_lifetime.specs.Lifetime.{StageMoves, stays, created, begins, deleted, ends, lifetime_in, stage_in, table_in}
-use Rattle.crl_lifetime.proofs.Lived.{Lived, Spoken, moved_deed}
+use Rattle.crl_lifetime.specs.Lifetime.{StageMoves, stays, created, begins, deleted, ends, stage_in, table_in}
+use Rattle.crl_lifetime.proofs.Lived.{Lived, Spoken}
+use Rattle.crl_lifetime.proofs.Moving.{moved_deed}
 use Rattle.crl_lifetime.proofs.Tables.{SameTable, table_deed}
 use Rattle.crl_lifetime.proofs.Pairs.{carried_at, Followed, followed_step, followed_start}
 

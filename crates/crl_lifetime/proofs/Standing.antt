@@ -1,45 +1,39 @@
 -- The laws, in each world of a run.
-use Rattle.std.proofs.Common.{◌≡◌, ℕ, zero, suc, ◌+◌, ◌≤◌, ◌<◌, ◌==◌, Bool, true, false, ◌&&◌, ◌||◌, None, Some, Option, List, [], ◌∷◌, length, if◌then◌else◌, refl, ap, sym, ◌∙◌, subst, arith}
-use Rattle.std.specs.List.{AllByRecursion}
-use Rattle.std.proofs.lemmas.Bool.{cond_both, cond-true, cond-false, eqb-true, eqb-false, eq-eqb, ne_eqb, and_from, and_parts}
+use Rattle.std.proofs.Common.{◌≡◌, ℕ, zero, suc, ◌+◌, ◌≤◌, ◌<◌, ◌==◌, Bool, true, false, ◌&&◌, None, Some, Option, List, [], if◌then◌else◌, refl, ap, sym, ◌∙◌, subst, arith}
+use Rattle.std.proofs.lemmas.Bool.{cond_both, cond-false, eqb-true, eqb-false, eq-eqb, ne_eqb, and_from, and_parts}
 use Rattle.std.proofs.Math.Logic.{◌⊎◌, inl, inr}
 use Rattle.std.proofs.lemmas.Bool.{cases_lt}
 use Rattle.crl_model.specs.declared.name.Name.{Name}
 use Rattle.crl_model.specs.declared.stage.Stage.{Stage}
 use Rattle.crl_model.specs.declared.stage.Stage.TheVariants as stage
-use Rattle.crl_model.specs.declared.event.Event.{Event}
 use Rattle.crl_model.specs.declared.message.Message.{Message}
 use Rattle.crl_model.specs.declared.message.Kind.{Kind}
 use Rattle.crl_model.specs.declared.message.Kind.TheVariants as kind
-use Rattle.crl_model.specs.declared.message.Told.{Told}
 use Rattle.crl_model.specs.declared.message.Told.TheVariants as told
 use Rattle.crl_model.specs.Names.{name_eq}
-use Rattle.crl_model.specs.Stages.{is_deleted}
 use Rattle.crl_protocol.specs.Parcels.{Piece}
 use Rattle.crl_protocol.specs.Places.{Took}
 use Rattle.crl_protocol.specs.Home.{Home}
-use Rattle.crl_protocol.specs.Lifetimes.{Mapping, Cached, Lifetime, no_lifetime, cached_size, cache_without, members}
-use Rattle.crl_protocol.specs.Node.{Node, ForMap, ForDelete, Activity, Free, Waiting, is_mine, home_of, lifetime_of}
-use Rattle.crl_protocol.specs.World.{World, new_world, step, is_enabled, IsRunFrom, world_after, world_of, pieces_in_boxes}
-use Rattle.crl_deeds.proofs.Fitting.{name_self, MappedHere, Fits}
-use Rattle.crl_deeds.proofs.Counting.{Counts, Plain, WaitsAway}
+use Rattle.crl_protocol.specs.Lifetimes.{Mapping, Lifetime}
+use Rattle.crl_protocol.specs.Node.{Node, ForMap, Activity, Waiting, is_mine}
+use Rattle.crl_protocol.specs.World.{World, pieces_in_boxes}
+use Rattle.crl_deeds.proofs.Fitting.{name_self, MappedHere}
+use Rattle.crl_deeds.proofs.Counting.{Counts, WaitsAway}
 use Rattle.crl_deeds.proofs.Outcomes.{here_if}
-use Rattle.crl_deeds.proofs.Turning.{Held, HeldIn, HeldOut, all_took}
-use Rattle.crl_deeds.proofs.Totals.{weighs, sum, sum_from, sum_part, load, boxed_sum, none_to}
-use Rattle.crl_lifetime.specs.Lifetime.{StageMoves, lifetime_in, stage_in, table_in, HasSize, is_about_map, is_about_delete, tells_live, any_size, is_purge, is_purged, one_if, how_many, under_way, waits_for_map, waits_for_delete, waits_purged, is_deleting, is_sound, is_doomed, is_cached, has_sound, has_doomed, WaitsHaveOne, HomeFits, OwnFits, NodeFits, KindFits, MessageFits}
-use Rattle.crl_lifetime.proofs.Mapping.{token, waits_map, none}
+use Rattle.crl_deeds.proofs.Turning.{Held, all_took}
+use Rattle.crl_deeds.proofs.Totals.{sum, sum_from, load}
+use Rattle.crl_lifetime.specs.Lifetime.{lifetime_in, stage_in, table_in, is_about_map, is_about_delete, any_size, is_purge_order, is_purge_answer, one_if, how_many, under_way, waits_for_map, waits_for_delete, is_deleting, WaitsHaveOne, HomeFits, OwnFits, NodeFits, KindFits, MessageFits}
+use Rattle.crl_lifetime.proofs.Mapping.{waits_map}
 use Rattle.crl_lifetime.proofs.Erasing as erasing
 use Rattle.crl_lifetime.proofs.Erasing.{waits_delete, stage_of, deleting}
-use Rattle.crl_lifetime.proofs.Weights.{if_named, live, purge, purged, nothing, under}
-use Rattle.crl_lifetime.proofs.Storing.{named_self, one, mapped, stored, entries, sound_map, doomed_map, sound, doomed, marked, made_of, going_of, deleted_of, two_maps, none_stored, stored_none, stored_out}
-use Rattle.crl_lifetime.proofs.Lived.{Lived, Spoken, LifeFits}
-use Rattle.crl_lifetime.proofs.Home.{of_life, at_home}
-use Rattle.crl_lifetime.proofs.Side.{at_side}
-use Rattle.crl_lifetime.proofs.Rules.{Agrees}
-use Rattle.crl_lifetime.proofs.Pairs.{PairAt, under_less, Followed, followed_start, followed_run}
-use Rattle.crl_lifetime.proofs.Sizes.{wrong, Allows, SizesAt, sizes_agree}
-use Rattle.crl_lifetime.proofs.Stages.{HasTable, created_have_tables, moved_step, run_count}
-use Rattle.crl_lifetime.proofs.Counts.{true_of, false_of, map_count_is, delete_count_is, purge_count_is, purged_count_is, size_weight, live_count_is, map_wait_is, delete_wait_is, marked_is, waits_at, deletes_at, deleting_is, deleted_is, going_at, not_unknown, deleted_made, doomed_is, cached_counts, sound_counts, member_of, spoken_boxes, none_counts, there_counts}
+use Rattle.crl_lifetime.proofs.Weights.{live_weight, nothing, under}
+use Rattle.crl_lifetime.proofs.Storing.{named_self, one, mapped_weight, entry_weight, made_of, going_of, two_maps, none_stored, stored_out}
+use Rattle.crl_lifetime.proofs.Lived.{Lived, Spoken}
+use Rattle.crl_lifetime.proofs.Asking.{LifeFits}
+use Rattle.crl_lifetime.proofs.Pairs.{PairAt, under_less, Followed}
+use Rattle.crl_lifetime.proofs.Sizes.{wrong, Allows, SizesAt}
+use Rattle.crl_lifetime.proofs.Stages.{HasTable}
+use Rattle.crl_lifetime.proofs.Counts.{true_of, false_of, map_count_is, delete_count_is, order_count_is, answer_count_is, size_weight, live_count_is, map_wait_is, delete_wait_is, marked_is, waits_at, deletes_at, deleting_is, deleted_is, going_at, not_unknown, deleted_made, doomed_is, cached_counts, sound_counts, member_of, spoken_boxes, none_counts, there_counts}
 
 -- A sum of which all parts but one are nothing.
 sum_nothing : (g : Node → ℕ) (i k : ℕ) (nodes : ℕ → Node) → ((j : ℕ) → i ≤ j → g (nodes j) ≡ 0) → sum_from g i k nodes ≡ 0
@@ -62,7 +56,7 @@ sum_parts f g i zero nodes = refl
 sum_parts f g i (suc k) nodes = let a = sum_parts f g (i + 1) k nodes in omega arith
 
 -- the home alone deletes
-stage_past : (w : World) (r : Name) → Held (Lived w.count) (Spoken w.count) w → w.count ≤ r.home → stage_in r w ≡ stage.Unknown
+pub stage_past : (w : World) (r : Name) → Held (Lived w.count) (Spoken w.count) w → w.count ≤ r.home → stage_in r w ≡ stage.Unknown
 stage_past w r held far = cond_both (is_mine (w.nodes r.home) r) _ _ (λ (l : Lifetime). l.stage ≡ stage.Unknown) (λ e. (held r.home).node.past far r.serial) (λ e. refl)
 
 deleting_one : (w : World) (n : ℕ) (r : Name) → Held (Lived w.count) (Spoken w.count) w → sum (deleting n r) w ≡ stage_of n (stage_in r w)
@@ -132,14 +126,14 @@ pub own_stands : (w : World) (r : Name) → r.home < w.count → Followed w → 
 own_stands w r few x = record {
   mapped = λ m e. (
     (subst (λ o. Counts (is_mine home r) o) e (node.counted.maps r)).2 mine,
-    made_stage (stage_in r w) (let a = node.made r mine in let b : mapped one (home.maps r) ≡ 1 = ap (mapped one) e in omega arith),
+    made_stage (stage_in r w) (let a = node.made r mine in let b : mapped_weight one (home.maps r) ≡ 1 = ap (mapped_weight one) e in omega arith),
     mapped_size m (table_in r w) (subst (λ o. MappedHere o (table_in r w)) e (here_if r.home (x.known.drafts r.home) home r mine (x.known.fits r.home)).mapped),
   );
   cached = none_stored r home.cache (node.own r mine);
   map = sym (map_count_is r.home r w) ∙ x.maps r.home r few ∙ home_waits_none r home.me home.activity (sym node.counted.me) node.counted.waits;
   purge =
-      let a = none_counts w.count (is_purge r.home r) (λ m s. no_purge m s m.kind refl) (pieces_in_boxes w) (spoken_boxes w x.held) in
-      let b = none_counts w.count (is_purged r.home r) (λ m s. no_purged m s m.kind refl) (pieces_in_boxes w) (spoken_boxes w x.held) in omega arith;
+      let a = none_counts w.count (is_purge_order r.home r) (λ m s. no_purge m s m.kind refl) (pieces_in_boxes w) (spoken_boxes w x.held) in
+      let b = none_counts w.count (is_purge_answer r.home r) (λ m s. no_purged m s m.kind refl) (pieces_in_boxes w) (spoken_boxes w x.held) in omega arith;
 }
   where
     home : Node
@@ -156,16 +150,16 @@ own_stands w r few x = record {
     both name i true false e f g = refl
     both name i true true e f g = absurd (let h = (and_parts (name.home == r.home) (name.serial == r.serial) f).0 in let k = eq-eqb name.home i (eqb-true name.home r.home h ∙ sym (eqb-true i r.home e)) in cc)
 
-    no_purge : (m : Message) → Spoken w.count m → (k : Kind) → m.kind ≡ k → is_purge r.home r m.sender m.addressee k ≡ false
+    no_purge : (m : Message) → Spoken w.count m → (k : Kind) → m.kind ≡ k → is_purge_order r.home r m.sender m.addressee k ≡ false
     no_purge m s (kind.Purge name) e = let t = subst (λ y. Spoken w.count (record m { kind = y })) e s in both name m.addressee _ _ refl refl t.0.1.0
     no_purge m s _ e = refl
 
-    no_purged : (m : Message) → Spoken w.count m → (k : Kind) → m.kind ≡ k → is_purged r.home r m.sender m.addressee k ≡ false
+    no_purged : (m : Message) → Spoken w.count m → (k : Kind) → m.kind ≡ k → is_purge_answer r.home r m.sender m.addressee k ≡ false
     no_purged m s (kind.Purged name) e = let t = subst (λ y. Spoken w.count (record m { kind = y })) e s in both name m.sender _ _ refl refl t.1.1
     no_purged m s _ e = refl
 
 -- Another node. An entry is of a region that was created.
-entry_created : (w : World) (r : Name) (n : ℕ) → Followed w → PairAt r n w → 1 ≤ entries one r (w.nodes n) → stage_in r w ≡ stage.Unknown → ⊥
+entry_created : (w : World) (r : Name) (n : ℕ) → Followed w → PairAt r n w → 1 ≤ entry_weight one r (w.nodes n) → stage_in r w ≡ stage.Unknown → ⊥
 entry_created w r n x p some =
     let a = two_maps ((w.nodes n).maps r) in
     let b = p.had in
@@ -185,10 +179,10 @@ right_size size other e = go (other == size) refl e
     go false w z = absurd (omega arith)
 
 table_size : (w : World) (r : Name) (n : ℕ) → Followed w → HasTable (stage_in r w) (table_in r w) → SizesAt r n w → (stage_in r w ≡ stage.Unknown → ⊥)
-    → (h : Home) × (table_in r w ≡ Some h) × (entries (wrong h.size) r (w.nodes n) + under (live (wrong h.size) n r) w ≡ 0)
+    → (h : Home) × (table_in r w ≡ Some h) × (entry_weight (wrong h.size) r (w.nodes n) + under (live_weight (wrong h.size) n r) w ≡ 0)
 table_size w r n x table sizes made = let t = table made in (t.0, t.1, sizes t.0.size (subst (Allows t.0.size) (sym t.1) refl))
 
-told_more : (n : ℕ) (r : Name) (size other : ℕ) → (other ≡ size → ⊥) → (m : Message) → live (size_weight (λ s. s == other)) n r m ≤ live (wrong size) n r m
+told_more : (n : ℕ) (r : Name) (size other : ℕ) → (other ≡ size → ⊥) → (m : Message) → live_weight (size_weight (λ s. s == other)) n r m ≤ live_weight (wrong size) n r m
 told_more n r size other ne m = go m.kind
   where
     size_more : (s : ℕ) → one_if (s == other) ≤ wrong size s
@@ -199,12 +193,12 @@ told_more n r size other ne m = go m.kind
     both true false x y h = omega arith
     both false c x y h = omega arith
 
-    go : (k : Kind) → live (size_weight (λ s. s == other)) n r (record m { kind = k }) ≤ live (wrong size) n r (record m { kind = k })
+    go : (k : Kind) → live_weight (size_weight (λ s. s == other)) n r (record m { kind = k }) ≤ live_weight (wrong size) n r (record m { kind = k })
     go (kind.InfoIs name (told.Live s)) = both (m.addressee == n) (name_eq name r) (one_if (s == other)) (wrong size s) (size_more s)
     go (kind.InfoIs name t) = omega arith
     go _ = omega arith
 
-told_any : (n : ℕ) (r : Name) (other : ℕ) (m : Message) → live (size_weight (λ s. s == other)) n r m ≤ live one n r m
+told_any : (n : ℕ) (r : Name) (other : ℕ) (m : Message) → live_weight (size_weight (λ s. s == other)) n r m ≤ live_weight one n r m
 told_any n r other m = go m.kind
   where
     both : (b c d : Bool) → (if b then (if c then one_if d else 0) else 0) ≤ (if b then (if c then 1 else 0) else 0)
@@ -213,26 +207,26 @@ told_any n r other m = go m.kind
     both true false d = omega arith
     both false c d = omega arith
 
-    go : (k : Kind) → live (size_weight (λ s. s == other)) n r (record m { kind = k }) ≤ live one n r (record m { kind = k })
+    go : (k : Kind) → live_weight (size_weight (λ s. s == other)) n r (record m { kind = k }) ≤ live_weight one n r (record m { kind = k })
     go (kind.InfoIs name (told.Live s)) = both (m.addressee == n) (name_eq name r) (s == other)
     go (kind.InfoIs name t) = omega arith
     go _ = omega arith
 
 pub node_stands : (w : World) (r : Name) (n : ℕ) → Followed w → PairAt r n w → HasTable (stage_in r w) (table_in r w) → SizesAt r n w → NodeFits r n w
 node_stands w r n x p table sizes = record {
-  missing = let a = purge_count_is n r w in let b = purged_count_is n r w in let c = p.missing in omega arith;
+  missing = let a = order_count_is n r w in let b = answer_count_is n r w in let c = p.missing in omega arith;
   asked = λ e. true_of _ (let a = sound_counts r node e in let b = p.had in omega arith);
   told = λ e. true_of _ (let a = live_count_is any_size n r w in let b = p.told in omega arith);
   doomed = λ e. true_of _ (let a = ap one_if e in let b = doomed_is (node.maps r) in let c = p.doomed in let d = deleted_is (stage_in r w) in omega arith);
   marked = λ e. true_of _ (let a = ap one_if e in let b = marked_is r node.activity in let c = p.marked in let d = deleted_is (stage_in r w) in omega arith);
-  had = λ e f. let a = sound_counts r node f in let b = ap one_if e in let c = deleted_is (stage_in r w) in let d = p.purged_entry in let g = purge_count_is n r w in omega arith;
-  coming = λ e f g. let a = ap one_if e in let b = ap one_if g in let c = deleted_is (stage_in r w) in let d = marked_is r node.activity in let h = live_count_is any_size n r w in let i = purge_count_is n r w in let j = p.purged_map in omega arith;
+  had = λ e f. let a = sound_counts r node f in let b = ap one_if e in let c = deleted_is (stage_in r w) in let d = p.purged_entry in let g = order_count_is n r w in omega arith;
+  coming = λ e f g. let a = ap one_if e in let b = ap one_if g in let c = deleted_is (stage_in r w) in let d = marked_is r node.activity in let h = live_count_is any_size n r w in let i = order_count_is n r w in let j = p.purged_map in omega arith;
   cached = λ e. no_mapping (node.maps r) refl (let a = cached_counts r node.cache e in let b = each in omega arith);
   waits = λ e. let a = ap one_if e in let b = map_wait_is r node.activity in let c = each in (no_mapping (node.maps r) refl (omega arith), none_stored r node.cache (omega arith));
   size_mapped = λ m e.
-      let i : mapped one (node.maps r) ≡ 1 = ap (mapped one) e in
+      let i : mapped_weight one (node.maps r) ≡ 1 = ap (mapped_weight one) e in
       let t = table_size w r n x table sizes (entry_created w r n x p (omega arith)) in
-      let f : mapped (wrong t.0.size) (node.maps r) ≡ wrong t.0.size m.size = ap (mapped (wrong t.0.size)) e in
+      let f : mapped_weight (wrong t.0.size) (node.maps r) ≡ wrong t.0.size m.size = ap (mapped_weight (wrong t.0.size)) e in
       let z = t.2 in (t.0, t.1, sym (right_size t.0.size m.size (omega arith)));
   size_cached = λ size e.
       let i = stored_out one r size node.cache e r in
@@ -253,12 +247,12 @@ node_stands w r n x p table sizes = record {
     node : Node
     node = w.nodes n
 
-    each : entries one r node + waits_map r node.activity ≤ 1
+    each : entry_weight one r node + waits_map r node.activity ≤ 1
     each = (x.held n).node.each r
 
-    no_mapping : (o : Option Mapping) → node.maps r ≡ o → mapped one (node.maps r) ≡ 0 → node.maps r ≡ None
+    no_mapping : (o : Option Mapping) → node.maps r ≡ o → mapped_weight one (node.maps r) ≡ 0 → node.maps r ≡ None
     no_mapping None e z = e
-    no_mapping (Some m) e z = absurd (let a : mapped one (node.maps r) ≡ 1 = ap (mapped one) e in omega arith)
+    no_mapping (Some m) e z = absurd (let a : mapped_weight one (node.maps r) ≡ 1 = ap (mapped_weight one) e in omega arith)
 
     go : (s size : ℕ) → ((size ≡ s → ⊥) → ⊥) → s ≡ size
     go s size h = by (size == s) refl
@@ -289,8 +283,8 @@ message_stands w x p rest took = go p.message.kind refl (all_took _ took (spoken
     wants_delete : (i : ℕ) (name : Name) → i < w.count → 1 ≤ under_way (is_about_delete i name) w → waits_for_delete name (w.nodes i).activity ≡ true
     wants_delete i name few h = true_of _ (let a = (waits_stand w i name few x).delete in omega arith)
 
-    is_missing : (i : ℕ) (name : Name) → i < w.count → (name.home == i) ≡ false → 1 ≤ under_way (is_purge i name) w + under_way (is_purged i name) w → (lifetime_in name w).missing i ≡ true
-    is_missing i name few apart h = true_of _ (let a = (x.pairs name i few apart).missing in let b = purge_count_is i name w in let c = purged_count_is i name w in omega arith)
+    is_missing : (i : ℕ) (name : Name) → i < w.count → (name.home == i) ≡ false → 1 ≤ under_way (is_purge_order i name) w + under_way (is_purge_answer i name) w → (lifetime_in name w).missing i ≡ true
+    is_missing i name few apart h = true_of _ (let a = (x.pairs name i few apart).missing in let b = order_count_is i name w in let c = answer_count_is i name w in omega arith)
 
     go : (k : Kind) → p.message.kind ≡ k → Spoken w.count (record { sender = from; addressee = to; kind = p.message.kind }) → KindFits w from to p.message.kind
     go k e s = subst (λ y. KindFits w from to y) (sym e) (of_kind k e (subst (λ y. Spoken w.count (record { sender = from; addressee = to; kind = y })) e s))
@@ -301,9 +295,9 @@ message_stands w x p rest took = go p.message.kind refl (all_took _ took (spoken
             let a = waits_at name (w.nodes to).activity (wants_map to name s.0.1 (counts (is_about_map to name) (kind.InfoIs name t) e (named to to name refl))) in (s.1.0, a.0, a.1)
         of_kind (kind.DeleteAsk name) e s = (s.1, wants_delete from name s.0.0 (counts (is_about_delete from name) (kind.DeleteAsk name) e (named from from name refl)))
         of_kind (kind.DeleteIs name t) e s = (s.1, deletes_at name (w.nodes to).activity (wants_delete to name s.0.1 (counts (is_about_delete to name) (kind.DeleteIs name t) e (named to to name refl))))
-        of_kind (kind.Purge name) e s = (s.1, s.0.1.0, is_missing to name s.0.1.1 s.0.1.0 (let a = counts (is_purge to name) (kind.Purge name) e (named to to name refl) in omega arith))
+        of_kind (kind.Purge name) e s = (s.1, s.0.1.0, is_missing to name s.0.1.1 s.0.1.0 (let a = counts (is_purge_order to name) (kind.Purge name) e (named to to name refl) in omega arith))
         of_kind (kind.Purged name) e s =
-            let a = is_missing from name s.0.0 s.1.1 (let a = counts (is_purged from name) (kind.Purged name) e (named from from name refl) in omega arith) in
+            let a = is_missing from name s.0.0 s.1.1 (let a = counts (is_purge_answer from name) (kind.Purged name) e (named from from name refl) in omega arith) in
             let life = (x.held name.home).node.life name in
             let d = going_at (stage_in name w) (let g = life.going from in let h = ap one_if a in omega arith) in (s.1.0, a, d.0, d.1)
         of_kind _ e s = tt
@@ -321,7 +315,7 @@ nothing_waits w x empty n r few = (
     nobody : (s : Stage) → stage_in r w ≡ s → one_if (is_deleting n (stage_in r w)) ≡ 0
     nobody (stage.Going deleter) e =
         let h = home_stands_going deleter e in
-        absurd (let a = (x.pairs r h.0 h.1 h.2).missing in let b = purge_count_is h.0 r w in let c = purged_count_is h.0 r w in let d = quiet (is_purge h.0 r) in let f = quiet (is_purged h.0 r) in let g = ap one_if h.3 in omega arith)
+        absurd (let a = (x.pairs r h.0 h.1 h.2).missing in let b = order_count_is h.0 r w in let c = answer_count_is h.0 r w in let d = quiet (is_purge_order h.0 r) in let f = quiet (is_purge_answer h.0 r) in let g = ap one_if h.3 in omega arith)
       where
         home_stands_going : (deleter : ℕ) → stage_in r w ≡ stage.Going deleter → (i : ℕ) × (i < w.count) × ((r.home == i) ≡ false) × ((lifetime_in r w).missing i ≡ true)
         home_stands_going deleter e =
@@ -331,43 +325,3 @@ nothing_waits w x empty n r few = (
     nobody stage.Unknown e = ap (λ s. one_if (is_deleting n s)) e
     nobody stage.Live e = ap (λ s. one_if (is_deleting n s)) e
     nobody stage.Gone e = ap (λ s. one_if (is_deleting n s)) e
-
--- In every run.
-pub followed : (count capacity : ℕ) (run : List Event) → IsRunFrom (new_world count capacity) run → Followed (world_of count capacity run)
-followed count capacity run h = followed_run run (new_world count capacity) h (followed_start count capacity)
-
-in_world : (count capacity : ℕ) (run : List Event) (n : ℕ) → IsRunFrom (new_world count capacity) run → n < count → n < (world_of count capacity run).count
-in_world count capacity run n h few = subst (λ k. n < k) (sym (run_count run (new_world count capacity) h)) few
-
-pub stages_move : (count capacity : ℕ) (run : List Event) (e : Event) (r : Name) → IsRunFrom (new_world count capacity) run → is_enabled e (world_of count capacity run) ≡ true
-    → StageMoves (stage_in r (world_of count capacity run)) (stage_in r (step e (world_of count capacity run)).world)
-stages_move count capacity run e r h may = moved_step (world_of count capacity run) e r may (followed count capacity run h)
-
-pub stages_nowhere : (count capacity : ℕ) (run : List Event) (r : Name) → IsRunFrom (new_world count capacity) run → count ≤ r.home → stage_in r (world_of count capacity run) ≡ stage.Unknown
-stages_nowhere count capacity run r h far = stage_past (world_of count capacity run) r (followed count capacity run h).held (subst (λ k. k ≤ r.home) (sym (run_count run (new_world count capacity) h)) far)
-
-pub stages_without_serial : (count capacity : ℕ) (run : List Event) (r : Name) → IsRunFrom (new_world count capacity) run → r.serial ≡ 0 → stage_in r (world_of count capacity run) ≡ stage.Unknown
-stages_without_serial count capacity run r h none =
-    let home = (world_of count capacity run).nodes r.home in
-    cond_both (is_mine home r) _ _ (λ (l : Lifetime). l.stage ≡ stage.Unknown) (λ e. ap (λ s. (home.lifetimes s).stage) none ∙ ((followed count capacity run h).held r.home).node.zero) (λ e. refl)
-
-pub waits_in_runs : (count capacity : ℕ) (run : List Event) (n : ℕ) (r : Name) → IsRunFrom (new_world count capacity) run → n < count → WaitsHaveOne n r (world_of count capacity run)
-waits_in_runs count capacity run n r h few = waits_stand (world_of count capacity run) n r (in_world count capacity run n h few) (followed count capacity run h)
-
-pub homes_in_runs : (count capacity : ℕ) (run : List Event) (r : Name) → IsRunFrom (new_world count capacity) run → HomeFits r (world_of count capacity run)
-homes_in_runs count capacity run r h = home_stands (world_of count capacity run) r (followed count capacity run h) (created_have_tables count capacity run r h)
-
-pub own_in_runs : (count capacity : ℕ) (run : List Event) (r : Name) → IsRunFrom (new_world count capacity) run → r.home < count → OwnFits r (world_of count capacity run)
-own_in_runs count capacity run r h few = own_stands (world_of count capacity run) r (in_world count capacity run r.home h few) (followed count capacity run h)
-
-pub nodes_in_runs : (count capacity : ℕ) (run : List Event) (n : ℕ) (r : Name) → IsRunFrom (new_world count capacity) run → n < count → (r.home == n) ≡ false → NodeFits r n (world_of count capacity run)
-nodes_in_runs count capacity run n r h few apart =
-    let x = followed count capacity run h in
-    node_stands (world_of count capacity run) r n x (x.pairs r n (in_world count capacity run n h few) apart) (created_have_tables count capacity run r h) (sizes_agree count capacity run h r n apart)
-
-pub messages_in_runs : (count capacity : ℕ) (run : List Event) (p : Piece) (rest : List Piece) → IsRunFrom (new_world count capacity) run → Took p (pieces_in_boxes (world_of count capacity run)) rest → MessageFits (world_of count capacity run) p.message
-messages_in_runs count capacity run p rest h took = message_stands (world_of count capacity run) (followed count capacity run h) p rest took
-
-pub quiet_in_runs : (count capacity : ℕ) (run : List Event) (n : ℕ) (r : Name) → IsRunFrom (new_world count capacity) run → n < count → pieces_in_boxes (world_of count capacity run) ≡ []
-    → (waits_for_map r ((world_of count capacity run).nodes n).activity ≡ false) × (waits_for_delete r ((world_of count capacity run).nodes n).activity ≡ false)
-quiet_in_runs count capacity run n r h few empty = nothing_waits (world_of count capacity run) (followed count capacity run h) empty n r (in_world count capacity run n h few)

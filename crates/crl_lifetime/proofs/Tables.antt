@@ -1,17 +1,16 @@
 -- A region's table keeps its size.
-use Rattle.std.proofs.Common.{◌≡◌, ℕ, zero, suc, ◌+◌, ◌==◌, Bool, true, false, not, ◌&&◌, None, Some, Option, List, [], ◌∷◌, ◌++◌, if◌then◌else◌, refl, ap, sym, ◌∙◌, subst}
+use Rattle.std.proofs.Common.{◌≡◌, ℕ, ◌==◌, Bool, not, ◌&&◌, Some, Option, List, [], ◌∷◌, ◌++◌, if◌then◌else◌, refl, sym, ◌∙◌, subst}
 use Rattle.std.proofs.lemmas.Bool.{cond_both}
 use Rattle.crl_model.specs.declared.name.Name.{Name}
 use Rattle.crl_model.specs.declared.call.Call.{Call}
 use Rattle.crl_model.specs.declared.entry.What.{What}
 use Rattle.crl_model.specs.declared.directory.Asked.{Asked}
 use Rattle.crl_model.specs.declared.message.Kind.{Kind}
-use Rattle.crl_model.specs.Names.{name_eq, at_name}
-use Rattle.crl_protocol.specs.Places.{at, put}
+use Rattle.crl_protocol.specs.Places.{at}
 use Rattle.crl_protocol.specs.Home.{Home, HomeStep, new_home, is_servable, open_own, grant_next, serve, home_takes_ask, home_takes_return, is_to_lower, home_takes_release, own_ask, is_empty, is_reading, home_starts, home_ends_read, home_ends_write}
 use Rattle.crl_protocol.specs.Remote.{Remote, RemoteStep}
-use Rattle.crl_protocol.specs.Node.{Node, Outcome, is_mine, home_of, with_home, next_name}
-use Rattle.crl_deeds.specs.Deeds.{Cause, Calls, Hears, Copies, Lives, Rounds, Notes, Deed, copies, lives, rounds, notes, EndsCall, a_read, a_write, Serves, ask_comes, copy_returns, copy_lowers, home_opens, home_waits, home_ends, home_serves, home_serves_own, made, used_up, comes_away, flushes_own}
+use Rattle.crl_protocol.specs.Node.{Node, Outcome, home_of, with_home, next_name}
+use Rattle.crl_deeds.specs.Deeds.{Cause, Copies, Lives, Rounds, Notes, Deed, copies, lives, rounds, notes, EndsCall, a_read, a_write, Serves, ask_comes, copy_returns, copy_lowers, home_opens, home_waits, home_ends, home_serves, home_serves_own, made, used_up, comes_away, flushes_own}
 use Rattle.crl_deeds.proofs.Fitting.{by_name}
 use Rattle.crl_deeds.proofs.Tabling.{home_put, home_end, home_next, home_none}
 

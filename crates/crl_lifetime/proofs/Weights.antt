@@ -1,11 +1,10 @@
 -- Messages about who has a region, as they are counted in the boxes, and what a turn does to their number.
-use Rattle.std.proofs.Common.{◌≡◌, ℕ, zero, suc, ◌+◌, ◌-◌, ◌≤◌, ◌<◌, ◌==◌, Bool, true, false, None, Some, Option, List, [], ◌∷◌, ◌++◌, map, if◌then◌else◌, refl, ap, sym, ◌∙◌, subst, arith}
+use Rattle.std.proofs.Common.{◌≡◌, ℕ, zero, suc, ◌+◌, ◌-◌, ◌≤◌, ◌<◌, ◌==◌, None, Some, Option, List, [], ◌∷◌, if◌then◌else◌, refl, ap, arith}
 use Rattle.std.proofs.lemmas.Bool.{cond-false, ne_eqb, cases_lt}
 use Rattle.std.proofs.Math.Logic.{◌⊎◌, inl, inr}
 use Rattle.crl_model.specs.declared.name.Name.{Name}
 use Rattle.crl_model.specs.declared.collective.Fold.{Fold}
 use Rattle.crl_model.specs.declared.collective.Part.{Part}
-use Rattle.crl_model.specs.declared.call.Call.{Call}
 use Rattle.crl_model.specs.declared.event.Event.{Event}
 use Rattle.crl_model.specs.declared.message.Told.{Told}
 use Rattle.crl_model.specs.declared.message.Told.TheVariants as told
@@ -13,19 +12,19 @@ use Rattle.crl_model.specs.declared.message.Message.{Message}
 use Rattle.crl_model.specs.declared.message.Kind.{Kind}
 use Rattle.crl_model.specs.declared.message.Kind.TheVariants as kind
 use Rattle.crl_model.specs.Names.{name_eq, at_node}
-use Rattle.crl_protocol.specs.Parcels.{Piece, with_load, pieces_in, key_of, Key}
+use Rattle.crl_protocol.specs.Parcels.{Piece, pieces_in}
 use Rattle.crl_protocol.specs.Places.{Took}
-use Rattle.crl_protocol.specs.Mail.{Mail, Ask, Grant, Recall, Yield, Return, Release, Letter, kind_about}
+use Rattle.crl_protocol.specs.Mail.{Mail, Ask, Grant, Recall, Yield, Return, Release, Letter}
 use Rattle.crl_protocol.specs.Remote.{Remote, RemoteStep, remote_flushes}
 use Rattle.crl_protocol.specs.Home.{Home, HomeStep}
-use Rattle.crl_protocol.specs.Node.{Node, Outcome, letter_messages, mail_messages, message_to}
+use Rattle.crl_protocol.specs.Node.{Node, Outcome, letter_messages, mail_messages}
 use Rattle.crl_protocol.specs.Calls.{results_from}
-use Rattle.crl_protocol.specs.World.{World, WorldStep, steps_node, carries, commits, note, put_in}
-use Rattle.crl_deeds.specs.Deeds.{Cause, Calls, Hears, parting, Copies, Rounds, Notes, home_opens, home_waits, side_opens, side_waits, home_ends, side_ends, side_flushes, home_serves, home_serves_own, grant_comes, side_called, Serves, ask_comes, copy_returns, copy_lowers, CallsBack, wholly, to_share, comes_away, comes_home, comes_last, part_comes, part_last, part_last_idle, result_comes}
+use Rattle.crl_protocol.specs.World.{World, steps_node, carries, commits, note, put_in}
+use Rattle.crl_deeds.specs.Deeds.{Cause, parting, Copies, Rounds, home_opens, home_waits, side_opens, side_waits, home_ends, side_ends, side_flushes, home_serves, home_serves_own, grant_comes, side_called, Serves, ask_comes, copy_returns, copy_lowers, CallsBack, wholly, to_share, comes_away, comes_home, comes_last, part_comes, part_last, part_last_idle, result_comes}
 use Rattle.crl_deeds.proofs.Counting.{PlainKind}
 use Rattle.crl_deeds.proofs.Turning.{Frame}
 use Rattle.crl_deeds.proofs.Totals.{weigh, weighs, weigh_append, weigh_took, on_piece, weighs_posted, sum, sum_from, sum_with, load}
-use Rattle.crl_deeds.proofs.Spans.{NoMail, whole_of, keyed_none, part_same, came}
+use Rattle.crl_deeds.proofs.Spans.{NoMail, whole_of, came}
 
 abbrev pub if_named : Name → Name → ℕ → ℕ
 if_named name r x = if name_eq name r then x else 0
@@ -40,22 +39,22 @@ abbrev pub live_kind : (ℕ → ℕ) → ℕ → Name → ℕ → ℕ → Kind �
 live_kind f m r from to (kind.InfoIs name t) = if to == m then if_named name r (told_weight f t) else 0
 live_kind f m r from to _ = 0
 
-abbrev pub purge_kind : ℕ → Name → ℕ → ℕ → Kind → ℕ
-purge_kind m r from to (kind.Purge name) = if to == m then if_named name r 1 else 0
-purge_kind m r from to _ = 0
+abbrev pub order_kind : ℕ → Name → ℕ → ℕ → Kind → ℕ
+order_kind m r from to (kind.Purge name) = if to == m then if_named name r 1 else 0
+order_kind m r from to _ = 0
 
-abbrev pub purged_kind : ℕ → Name → ℕ → ℕ → Kind → ℕ
-purged_kind m r from to (kind.Purged name) = if from == m then if_named name r 1 else 0
-purged_kind m r from to _ = 0
+abbrev pub answer_kind : ℕ → Name → ℕ → ℕ → Kind → ℕ
+answer_kind m r from to (kind.Purged name) = if from == m then if_named name r 1 else 0
+answer_kind m r from to _ = 0
 
-abbrev pub live : (ℕ → ℕ) → ℕ → Name → Message → ℕ
-live f m r x = live_kind f m r x.sender x.addressee x.kind
+abbrev pub live_weight : (ℕ → ℕ) → ℕ → Name → Message → ℕ
+live_weight f m r x = live_kind f m r x.sender x.addressee x.kind
 
-abbrev pub purge : ℕ → Name → Message → ℕ
-purge m r x = purge_kind m r x.sender x.addressee x.kind
+abbrev pub order_weight : ℕ → Name → Message → ℕ
+order_weight m r x = order_kind m r x.sender x.addressee x.kind
 
-abbrev pub purged : ℕ → Name → Message → ℕ
-purged m r x = purged_kind m r x.sender x.addressee x.kind
+abbrev pub answer_weight : ℕ → Name → Message → ℕ
+answer_weight m r x = answer_kind m r x.sender x.addressee x.kind
 
 -- Weights of messages that have nothing to do with copies and rounds, and go to nodes of the world.
 pub record Talk (f : Message → ℕ) : Type 0 where
@@ -64,7 +63,7 @@ pub record Talk (f : Message → ℕ) : Type 0 where
   pub results : (from to round : ℕ) (fold : Fold) → f (record { sender = from; addressee = to; kind = kind.Result round fold }) ≡ 0
   pub near : (count from to : ℕ) (k : Kind) → PlainKind count from to k → (f (record { sender = from; addressee = to; kind = k }) ≡ 0) ⊎ (to < count)
 
-live_mail : (f : ℕ → ℕ) (m : ℕ) (r : Name) → NoMail (live f m r)
+live_mail : (f : ℕ → ℕ) (m : ℕ) (r : Name) → NoMail (live_weight f m r)
 live_mail f m r from to name (Ask write have) = refl
 live_mail f m r from to name _ = refl
 
@@ -72,30 +71,30 @@ live_near : (f : ℕ → ℕ) (m : ℕ) (r : Name) (count from to : ℕ) (k : Ki
 live_near f m r count from to (kind.InfoIs name t) h = inr h
 live_near f m r count from to _ h = inl refl
 
-pub live_talk : (f : ℕ → ℕ) (m : ℕ) (r : Name) → Talk (live f m r)
+pub live_talk : (f : ℕ → ℕ) (m : ℕ) (r : Name) → Talk (live_weight f m r)
 live_talk f m r = record { mail = live_mail f m r; comes = λ from to round part. refl; results = λ from to round fold. refl; near = live_near f m r }
 
-purge_mail : (m : ℕ) (r : Name) → NoMail (purge m r)
-purge_mail m r from to name (Ask write have) = refl
-purge_mail m r from to name _ = refl
+order_mail : (m : ℕ) (r : Name) → NoMail (order_weight m r)
+order_mail m r from to name (Ask write have) = refl
+order_mail m r from to name _ = refl
 
-purge_near : (m : ℕ) (r : Name) (count from to : ℕ) (k : Kind) → PlainKind count from to k → (purge_kind m r from to k ≡ 0) ⊎ (to < count)
-purge_near m r count from to (kind.Purge name) h = inr h.1
-purge_near m r count from to _ h = inl refl
+order_near : (m : ℕ) (r : Name) (count from to : ℕ) (k : Kind) → PlainKind count from to k → (order_kind m r from to k ≡ 0) ⊎ (to < count)
+order_near m r count from to (kind.Purge name) h = inr h.1
+order_near m r count from to _ h = inl refl
 
-pub purge_talk : (m : ℕ) (r : Name) → Talk (purge m r)
-purge_talk m r = record { mail = purge_mail m r; comes = λ from to round part. refl; results = λ from to round fold. refl; near = purge_near m r }
+pub order_talk : (m : ℕ) (r : Name) → Talk (order_weight m r)
+order_talk m r = record { mail = order_mail m r; comes = λ from to round part. refl; results = λ from to round fold. refl; near = order_near m r }
 
-purged_mail : (m : ℕ) (r : Name) → NoMail (purged m r)
-purged_mail m r from to name (Ask write have) = refl
-purged_mail m r from to name _ = refl
+answer_mail : (m : ℕ) (r : Name) → NoMail (answer_weight m r)
+answer_mail m r from to name (Ask write have) = refl
+answer_mail m r from to name _ = refl
 
-purged_near : (m : ℕ) (r : Name) (count from to : ℕ) (k : Kind) → PlainKind count from to k → (purged_kind m r from to k ≡ 0) ⊎ (to < count)
-purged_near m r count from to (kind.Purged name) h = inr h
-purged_near m r count from to _ h = inl refl
+answer_near : (m : ℕ) (r : Name) (count from to : ℕ) (k : Kind) → PlainKind count from to k → (answer_kind m r from to k ≡ 0) ⊎ (to < count)
+answer_near m r count from to (kind.Purged name) h = inr h
+answer_near m r count from to _ h = inl refl
 
-pub purged_talk : (m : ℕ) (r : Name) → Talk (purged m r)
-purged_talk m r = record { mail = purged_mail m r; comes = λ from to round part. refl; results = λ from to round fold. refl; near = purged_near m r }
+pub answer_talk : (m : ℕ) (r : Name) → Talk (answer_weight m r)
+answer_talk m r = record { mail = answer_mail m r; comes = λ from to round part. refl; results = λ from to round fold. refl; near = answer_near m r }
 
 -- Deeds over copies and rounds say nothing of it.
 pub letters_none : (f : Message → ℕ) → NoMail f → (n : Node) (name : Name) (posts : List Letter) → weigh f (letter_messages n name posts) ≡ 0

@@ -66,13 +66,13 @@ abbrev pub any_size : ℕ → Bool
 any_size size = true
 
 -- a Purge to node n, and its answer
-abbrev pub is_purge : ℕ → Name → ℕ → ℕ → Kind → Bool
-is_purge n r from to (kind.Purge name) = (to == n) && name_eq name r
-is_purge n r from to _ = false
+abbrev pub is_purge_order : ℕ → Name → ℕ → ℕ → Kind → Bool
+is_purge_order n r from to (kind.Purge name) = (to == n) && name_eq name r
+is_purge_order n r from to _ = false
 
-abbrev pub is_purged : ℕ → Name → ℕ → ℕ → Kind → Bool
-is_purged n r from to (kind.Purged name) = (from == n) && name_eq name r
-is_purged n r from to _ = false
+abbrev pub is_purge_answer : ℕ → Name → ℕ → ℕ → Kind → Bool
+is_purge_answer n r from to (kind.Purged name) = (from == n) && name_eq name r
+is_purge_answer n r from to _ = false
 
 -- How many such messages are under way: each of them is one piece.
 abbrev pub one_if : Bool → ℕ
@@ -144,20 +144,20 @@ pub record OwnFits (r : Name) (w : World) : Type 0 where
   pub mapped : (m : Mapping) → (w.nodes r.home).maps r ≡ Some m → (m.doomed ≡ false) × (stage_in r w ≡ Unknown → ⊥) × HasSize r m.size w
   pub cached : cached_size r (w.nodes r.home).cache ≡ None
   pub map : under_way (is_about_map r.home r) w ≡ 0
-  pub purge : under_way (is_purge r.home r) w + under_way (is_purged r.home r) w ≡ 0
+  pub purge : under_way (is_purge_order r.home r) w + under_way (is_purge_answer r.home r) w ≡ 0
 
 -- Of a region at another node than its home.
 pub record NodeFits (r : Name) (n : ℕ) (w : World) : Type 0 where
   -- the node is missing exactly where one Purge to it, or its answer, is under way
-  pub missing : under_way (is_purge n r) w + under_way (is_purged n r) w ≡ one_if ((lifetime_in r w).missing n)
+  pub missing : under_way (is_purge_order n r) w + under_way (is_purge_answer n r) w ≡ one_if ((lifetime_in r w).missing n)
   -- what it has, or is told to be there, it asked for; a doomed entry or a purged map is of a deleted region
   pub asked : has_sound r (w.nodes n) ≡ true → (lifetime_in r w).asked n ≡ true
   pub told : 1 ≤ under_way (tells_live any_size n r) w → (lifetime_in r w).asked n ≡ true
   pub doomed : has_doomed r (w.nodes n) ≡ true → is_deleted (stage_in r w) ≡ true
   pub marked : waits_purged r (w.nodes n).activity ≡ true → is_deleted (stage_in r w) ≡ true
   -- what it has of a deleted region and doesn't know to be deleted, or will have, its Purge is under way for
-  pub had : is_deleted (stage_in r w) ≡ true → has_sound r (w.nodes n) ≡ true → 1 ≤ under_way (is_purge n r) w
-  pub coming : is_deleted (stage_in r w) ≡ true → 1 ≤ under_way (tells_live any_size n r) w → waits_purged r (w.nodes n).activity ≡ false → 1 ≤ under_way (is_purge n r) w
+  pub had : is_deleted (stage_in r w) ≡ true → has_sound r (w.nodes n) ≡ true → 1 ≤ under_way (is_purge_order n r) w
+  pub coming : is_deleted (stage_in r w) ≡ true → 1 ≤ under_way (tells_live any_size n r) w → waits_purged r (w.nodes n).activity ≡ false → 1 ≤ under_way (is_purge_order n r) w
   -- it has it once: mapped, cached, or to come
   pub cached : is_cached (cached_size r (w.nodes n).cache) ≡ true → (w.nodes n).maps r ≡ None
   pub waits : waits_for_map r (w.nodes n).activity ≡ true → ((w.nodes n).maps r ≡ None) × (cached_size r (w.nodes n).cache ≡ None)

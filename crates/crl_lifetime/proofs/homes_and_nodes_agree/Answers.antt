@@ -1,4 +1,4 @@
-use Rattle.crl_lifetime.proofs.Standing.{homes_in_runs, own_in_runs, nodes_in_runs}
+use Rattle.crl_lifetime.proofs.Laws.{homes_in_runs, own_in_runs, nodes_in_runs}
 use Rattle.crl_lifetime.proofs.homes_and_nodes_agree.Goals as goal
 
 pub returns : goal.returns

@@ -1,4 +1,4 @@
-use Rattle.crl_lifetime.proofs.Standing.{messages_in_runs}
+use Rattle.crl_lifetime.proofs.Laws.{messages_in_runs}
 use Rattle.crl_lifetime.proofs.lifetime_messages_fit.Goals as goal
 
 pub returns : goal.returns

@@ -1,4 +1,4 @@
-use Rattle.crl_lifetime.proofs.Standing.{stages_move, stages_nowhere, stages_without_serial}
+use Rattle.crl_lifetime.proofs.Laws.{stages_move, stages_nowhere, stages_without_serial}
 use Rattle.crl_lifetime.proofs.stages_only_move_on.Goals as goal
 
 pub returns : goal.returns
