@@ -15,7 +15,7 @@ use Rattle.crl_protocol.specs.Sections.{Sections, section_at, count_of, is_writi
 use Rattle.crl_protocol.specs.Lifetimes.{Mapping}
 use Rattle.crl_protocol.specs.Node.{Node, Activity, Waiting, ForSection, ForMap, is_mine, lifetime_of, serials_used}
 use Rattle.crl_protocol.specs.World.{World}
-use Rattle.crl_deeds.specs.NodeFacts.{Fits}
+use Rattle.crl_deeds.specs.NodeFacts.{AllFit}
 use Rattle.crl_deeds.specs.Turns.{Held}
 
 abbrev pub Counts : Bool → Option Mapping → Type 0
@@ -71,9 +71,15 @@ pub record SectionsFit (n : Node) : Type 0 where
   pub each : (q : Name) → FitsReads (section_at q n.sections)
   pub waiting : AwaitsSection n.activity n.sections
 
+abbrev pub AllSectionsFit : World → Type 0
+AllSectionsFit w = (i : ℕ) → SectionsFit (w.nodes i)
+
+abbrev pub AllCounted : ℕ → World → Type 0
+AllCounted count w = Held (Counted count) (Plain count) w
+
 -- What is known of every world of a run.
 pub record Known (w : World) : Type 0 where
-  pub fits : (i : ℕ) → Fits i (w.nodes i)
-  pub held : Held (Counted w.count) (Plain w.count) w
+  pub fits : AllFit w
+  pub held : AllCounted w.count w
   pub none : Held (λ i n. NoneYet n) (λ m. Unit {0}) w
-  pub sections : (i : ℕ) → SectionsFit (w.nodes i)
+  pub sections : AllSectionsFit w

@@ -14,8 +14,8 @@ use Rattle.crl_protocol.specs.Parcels.{Piece}
 use Rattle.crl_protocol.specs.Places.{Taken, take_out}
 use Rattle.crl_protocol.specs.Node.{Free}
 use Rattle.crl_protocol.specs.Verdict.{verdict}
-use Rattle.crl_protocol.specs.World.{World, is_enabled}
-use Rattle.crl_protocol.specs.Chosen.{Running, goes_on, with_actor, after_change, is_change, is_allowed, call_of}
+use Rattle.crl_protocol.specs.World.{World, is_enabled, world_of, account}
+use Rattle.crl_protocol.specs.Chosen.{Running, running, turns_from, goes_on, with_actor, after_change, is_change, is_allowed, call_of}
 
 -- An event touches its node; a carriage touches the sender and the addressee.
 abbrev pub goes_to : ℕ → Option (Taken Piece) → Bool
@@ -71,3 +71,18 @@ IsStatement _ = Unit {0}
 
 abbrev pub AreStatements : List (List Statement) → Type 0
 AreStatements blocks = All (λ block. All IsStatement block) blocks
+
+-- what is chosen in so many turns
+abbrev pub chosen : ℕ → ℕ → List (List Statement) → (ℕ → ℕ) → ℕ → Running
+chosen count capacity blocks words k = turns_from words 1 k (running count capacity blocks)
+
+-- the world and the entries of a run on its way are those of its events
+pub record HasItsEvents (count capacity : ℕ) (r : Running) : Type 0 where
+  pub world : r.world ≡ world_of count capacity r.events
+  pub entries : r.entries ≡ account count capacity r.events
+
+abbrev pub FollowsScript : ℕ → ℕ → List (List Statement) → Running → Type 0
+FollowsScript count capacity blocks r = Follows (running count capacity blocks) r.events r
+
+abbrev pub IsChosenBySome : ℕ → ℕ → List (List Statement) → Running → Type 0
+IsChosenBySome count capacity blocks end = (words : ℕ → ℕ) × (k : ℕ) × (end ≡ chosen count capacity blocks words k)

@@ -18,6 +18,7 @@ use Rattle.crl_protocol.specs.Remote.{Copy, Remote, is_closed}
 use Rattle.crl_protocol.specs.Lifetimes.{Mapping, Cached}
 use Rattle.crl_protocol.specs.Sections.{OpenSection}
 use Rattle.crl_protocol.specs.Node.{Node, Activity, Free, Waiting, ForSection, ForMap, ForDelete, is_mine, home_of, lifetime_of}
+use Rattle.crl_protocol.specs.World.{World}
 
 -- what a node has of one name
 pub record Seen : Type 0 where
@@ -169,3 +170,7 @@ pub record Fits (i : ℕ) (n : Node) : Type 0 where
 -- the node while it makes a call
 abbrev pub free : Node → Node
 free n = record n { activity = Free }
+
+-- every node of a world
+abbrev pub AllFit : World → Type 0
+AllFit w = (i : ℕ) → Fits i (w.nodes i)

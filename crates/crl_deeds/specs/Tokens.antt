@@ -17,7 +17,7 @@ use Rattle.crl_model.specs.declared.stage.Stage.{Stage}
 use Rattle.crl_model.specs.declared.stage.Stage.TheVariants as stage
 use Rattle.crl_model.specs.Names.{name_eq}
 use Rattle.crl_protocol.specs.Node.{Node, Recorded, Note, Answer, Activity, Free, Waiting, Ready, ForSection, ForMap, ForDelete, ForRound, Outcome, lifetime_of}
-use Rattle.crl_protocol.specs.World.{World}
+use Rattle.crl_protocol.specs.World.{World, pieces_in_boxes}
 use Rattle.crl_deeds.specs.Deeds.{FreeIf, Cause, Calls, Hears, Lives, Idles, Deed}
 use Rattle.crl_deeds.specs.NodeFacts.{Fits}
 use Rattle.crl_deeds.specs.Counts.{PlainKind, NoneYet}
@@ -134,3 +134,10 @@ deletes_for_node i _ = 0
 
 abbrev pub deleting : ℕ → Name → Node → ℕ
 deleting i r n = deletes_for_node i (lifetime_of n r).stage
+
+-- Each node of so many waits for a map, and for a delete, just where one of these stands for it.
+abbrev pub WaitsForOneMap : ℕ → World → Type 0
+WaitsForOneMap count w = (i : ℕ) (r : Name) → i < count → weighs (map_token i r) (pieces_in_boxes w) ≡ waits_map r (w.nodes i).activity
+
+abbrev pub WaitsForOneDelete : ℕ → World → Type 0
+WaitsForOneDelete count w = (i : ℕ) (r : Name) → i < count → sum (load (delete_token i r) (deleting i r)) w ≡ waits_delete r (w.nodes i).activity

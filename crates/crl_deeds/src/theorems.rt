@@ -7,13 +7,13 @@ ghost use Rattle.crl_model.specs.declared.event.Event.TheVariants as event;
 ghost use Rattle.crl_model.specs.declared.statement.Statement.{Statement};
 ghost use Rattle.crl_protocol.specs.Places.{take_out};
 ghost use Rattle.crl_protocol.specs.World.{World, step, is_enabled, IsRun, world_of, account};
-ghost use Rattle.crl_protocol.specs.Chosen.{Running, running, turns_from};
+ghost use Rattle.crl_protocol.specs.Chosen.{Running, running};
 ghost use Rattle.crl_protocol.specs.Node.{Node};
 ghost use Rattle.crl_protocol.specs.Calls.{node_calls};
 ghost use Rattle.crl_protocol.specs.Handlers.{node_handles};
 ghost use Rattle.crl_deeds.specs.Deeds.{Calls, Hears};
 ghost use Rattle.crl_deeds.specs.Entries.{entries_of, entries_at};
-ghost use Rattle.crl_deeds.specs.Laws.{touches, Follows, AreStatements};
+ghost use Rattle.crl_deeds.specs.Laws.{touches, Follows, AreStatements, chosen, HasItsEvents, FollowsScript, IsChosenBySome};
 
 /// An event changes only the nodes that it touches.
 pub fn events_touch_few()
@@ -51,13 +51,12 @@ pub fn accounts_grow()
 /// What a script and an order choose is a run, with its world and its account. It has at most an event for
 /// each turn.
 pub fn choices_make_runs()
-    ensures world { (count capacity : ℕ) (blocks : List (List Statement)) (words : ℕ → ℕ) (k : ℕ) → (turns_from words 1 k (running count capacity blocks)).world ≡ world_of count capacity (turns_from words 1 k (running count capacity blocks)).events }
-    ensures account { (count capacity : ℕ) (blocks : List (List Statement)) (words : ℕ → ℕ) (k : ℕ) → (turns_from words 1 k (running count capacity blocks)).entries ≡ account count capacity (turns_from words 1 k (running count capacity blocks)).events }
-    ensures run { (count capacity : ℕ) (blocks : List (List Statement)) (words : ℕ → ℕ) (k : ℕ) → AreStatements blocks → k ≤ 2 ^ 62 → IsRun count capacity (turns_from words 1 k (running count capacity blocks)).events }
+    ensures events { (count capacity : ℕ) (blocks : List (List Statement)) (words : ℕ → ℕ) (k : ℕ) → HasItsEvents count capacity (chosen count capacity blocks words k) }
+    ensures run { (count capacity : ℕ) (blocks : List (List Statement)) (words : ℕ → ℕ) (k : ℕ) → AreStatements blocks → k ≤ 2 ^ 62 → IsRun count capacity (chosen count capacity blocks words k).events }
 {}
 
 /// The runs that follow a script are those that its choices give.
 pub fn choices_give_all_runs()
-    ensures follow { (count capacity : ℕ) (blocks : List (List Statement)) (words : ℕ → ℕ) (k : ℕ) → Follows (running count capacity blocks) (turns_from words 1 k (running count capacity blocks)).events (turns_from words 1 k (running count capacity blocks)) }
-    ensures all { (count capacity : ℕ) (blocks : List (List Statement)) (es : List Event) (end : Running) → Follows (running count capacity blocks) es end → (words : ℕ → ℕ) × (k : ℕ) × (end ≡ turns_from words 1 k (running count capacity blocks)) }
+    ensures follow { (count capacity : ℕ) (blocks : List (List Statement)) (words : ℕ → ℕ) (k : ℕ) → FollowsScript count capacity blocks (chosen count capacity blocks words k) }
+    ensures all { (count capacity : ℕ) (blocks : List (List Statement)) (es : List Event) (end : Running) → Follows (running count capacity blocks) es end → IsChosenBySome count capacity blocks end }
 {}

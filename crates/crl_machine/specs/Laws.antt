@@ -1,6 +1,7 @@
 -- What holds of every legal history, in words of its own.
-use Rattle.std.specs.Prelude.{◌≡◌, ℕ, ◌<◌, true, List, [], ◌∷◌, if◌then◌else◌, replicate}
+use Rattle.std.specs.Prelude.{◌≡◌, ◌≢◌, ℕ, ◌<◌, ◌≤◌, true, List, [], ◌∷◌, if◌then◌else◌, replicate}
 use Rattle.crl_model.specs.declared.name.Name.{Name}
+use Rattle.crl_model.specs.declared.stage.Stage.TheVariants.{Unknown}
 use Rattle.crl_model.specs.declared.entry.What.{What}
 use Rattle.crl_model.specs.declared.entry.What.TheVariants.{Create, Map, Unmap, StartRead, Read, StartWrite, Write, Flush, Deleting, Deleted, Come, Came, Refused}
 use Rattle.crl_model.specs.declared.entry.Entry.{Entry}
@@ -31,3 +32,13 @@ last_left q (e ∷ es) old = last_left q es (left_by q e.what old)
 pub record IsExclusive (s : State) : Type 0 where
   pub alone : (q : Name) (m k : ℕ) → m < s.nodes → k < s.nodes → s.writes m q ≡ true → s.writes k q ≡ true → m ≡ k
   pub unread : (q : Name) (m k : ℕ) → m < s.nodes → k < s.nodes → s.writes m q ≡ true → s.reads k q ≡ 0
+
+-- the home of a name is a node, which has used its serial
+pub record IsUsed (s : State) (q : Name) : Type 0 where
+  pub home : q.home < s.nodes
+  pub counted : 1 ≤ q.serial
+  pub used : q.serial ≤ s.used q.home
+
+-- each name that isn't Unknown is such a name
+abbrev pub AreNamed : State → Type 0
+AreNamed s = (q : Name) → s.stage q ≢ Unknown → IsUsed s q

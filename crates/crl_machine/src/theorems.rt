@@ -3,7 +3,7 @@ ghost use Rattle.std.specs.Prelude.{◌≡◌, ℕ, List, [], ◌∷◌, ◌++�
 ghost use Rattle.crl_model.specs.declared.name.Name.{Name};
 ghost use Rattle.crl_model.specs.declared.entry.What.{What};
 ghost use Rattle.crl_model.specs.declared.entry.Entry.{Entry};
-ghost use Rattle.crl_machine.specs.Laws.{IsExclusive, last_left};
+ghost use Rattle.crl_machine.specs.Laws.{IsExclusive, AreNamed, last_left};
 ghost use Rattle.crl_machine.specs.SingleMachine.{start, IsHistory, after_all};
 
 /// After a legal history no section of a region is open beside a write section of it.
@@ -22,4 +22,10 @@ pub fn last_write_stays()
 pub fn reads_show_the_last_write()
     ensures { (n m : ℕ) (q : Name) (seen : List ℕ) (es fs : List Entry) →
         IsHistory (start n) (es ++ record { node = m; what = What.Read q seen } ∷ fs) → seen ≡ last_left q es [] }
+{}
+
+/// After a legal history each name that was created has a node as its home, and one of the serials that this node
+/// has used. So the regions of all homes, serial by serial, are all that there are.
+pub fn regions_are_named()
+    ensures { (n : ℕ) (es : List Entry) → IsHistory (start n) es → AreNamed (after_all (start n) es) }
 {}

@@ -32,13 +32,13 @@ use Rattle.crl_protocol.specs.World.{commits, steps_node, collects, handles_at, 
 use Rattle.crl_protocol.specs.Chosen.{Actor, Running, block_of, running, takes_guard, going_on, goes_on}
 use Rattle.crl_deeds.specs.Deeds.{FreeIf, Cause, opened_at, Copies, Lives, Rounds, Notes, Deed, Serves}
 use Rattle.crl_deeds.specs.Laws.{IsStatement, AreStatements, node_of}
-use Rattle.crl_deeds.specs.NodeFacts.{Comes, Leaves, Fits}
+use Rattle.crl_deeds.specs.NodeFacts.{Comes, Leaves, Fits, AllFit}
 use Rattle.crl_deeds.specs.Turns.{Came as CameWith}
 use Rattle.crl_deeds.proofs.Cases.Called.{call_deed}
 use Rattle.crl_deeds.proofs.Cases.Heard.{message_deed}
 use Rattle.crl_deeds.proofs.Fits.Names.{by_name}
 use Rattle.crl_deeds.proofs.Fits.Waits.{own_waits, grant_waits}
-use Rattle.crl_deeds.proofs.Fits.Worlds.{AllFit, by_node, is_freed, away_load, fits_parcels, all_taken, fits_start, fits_event}
+use Rattle.crl_deeds.proofs.Fits.Worlds.{by_node, is_freed, away_load, fits_parcels, all_taken, fits_start, fits_event}
 use Rattle.crl_deeds.proofs.Tokens.Maps.{going_own}
 use Rattle.crl_deeds.specs.Deeds as deed
 

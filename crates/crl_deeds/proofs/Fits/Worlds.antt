@@ -19,7 +19,7 @@ use Rattle.crl_protocol.specs.Lifetimes.{no_lifetime}
 use Rattle.crl_protocol.specs.Node.{Node, new_node, Activity, Free, Waiting, Ready, Outcome}
 use Rattle.crl_protocol.specs.Calls.{node_calls}
 use Rattle.crl_protocol.specs.World.{World, commits, steps_node, collects, handles_at, put_in, carries, note, step, is_enabled, is_free, IsRunFrom, world_after, IsRun, new_world, world_of}
-use Rattle.crl_deeds.specs.NodeFacts.{seen, OwnFits, Holds, Comes, Leaves, IsAway, Fits}
+use Rattle.crl_deeds.specs.NodeFacts.{seen, OwnFits, Holds, Comes, Leaves, IsAway, Fits, AllFit}
 use Rattle.crl_deeds.proofs.Chosen.Lists.{all_append}
 use Rattle.crl_deeds.proofs.Fits.AllCalls.{good_call}
 use Rattle.crl_deeds.proofs.Fits.CopyMessages.{fits_as}
@@ -139,10 +139,6 @@ good_collected i n (Ready answer) e f = record {
   node = fits_turn i n (Ready answer) Free (λ q. record { section = λ w. cc; delete = λ w. cc }) (λ q. tt) tt (fits_as i n (Ready answer) e f);
   posts = tt;
 }
-
--- All nodes of a world.
-abbrev pub AllFit : World → Type 0
-AllFit w = (i : ℕ) → Fits i (w.nodes i)
 
 fits_stepped : (w : World) (i : ℕ) (e : Event) (o : Outcome) → Good i o → AllFit w → AllFit (steps_node i e o w).world
 fits_stepped w i e o g s = by_node i (λ b j. Fits j (if b then commits w.events e o else w.nodes j)) (fits_committed i w.events e o g) s

@@ -7,10 +7,10 @@ use Rattle.crl_protocol.specs.Node.{Node}
 use Rattle.crl_model.specs.Names.{at_node}
 use Rattle.crl_protocol.specs.World.{World, WorldStep, step, IsRunFrom, world_after}
 use Rattle.crl_deeds.specs.Deeds.{Calls}
-use Rattle.crl_deeds.specs.NodeFacts.{ComesIn, Fits}
+use Rattle.crl_deeds.specs.NodeFacts.{ComesIn, Fits, AllFit}
 use Rattle.crl_deeds.specs.Turns.{Turn, calls, hears, gathers, answers, carriage, rests, Kept}
 use Rattle.crl_deeds.proofs.Cases.Turns.{turn_of, all_took, each_at}
-use Rattle.crl_deeds.proofs.Fits.Worlds.{AllFit, away_load, fits_event}
+use Rattle.crl_deeds.proofs.Fits.Worlds.{away_load, fits_event}
 
 abbrev All : (Node → Type 0) → World → Type 0
 All P w = (i : ℕ) → P (w.nodes i)

@@ -8,8 +8,7 @@ use Rattle.crl_deeds.proofs.theorems.choices_make_runs.Goals as goal
 
 pub returns : goal.returns
 returns c = record {
-  world = λ count capacity blocks words k. follow_world (follow_turns count capacity blocks words k);
-  account = λ count capacity blocks words k. follow_account (follow_turns count capacity blocks words k);
+  events = λ count capacity blocks words k. record { world = follow_world (follow_turns count capacity blocks words k); entries = follow_account (follow_turns count capacity blocks words k) };
   run = λ count capacity blocks words k are limit. record {
     enabled = follow_runs (follow_turns count capacity blocks words k) (sound_start count capacity blocks are);
     limit = let b : length (turns_from words 1 k (running count capacity blocks)).events ≤ 0 + k = turns_bounded words 1 k (running count capacity blocks) in omega (arith, b, limit);
