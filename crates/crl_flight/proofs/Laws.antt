@@ -3,5 +3,5 @@
 pub use Rattle.crl_flight.proofs.Coming.{comes}
 pub use Rattle.crl_flight.proofs.Flying.{flight_as, carried_fly, posts_fly, messages_posted, none_boxed}
 pub use Rattle.crl_flight.proofs.Loads.{key_same}
-pub use Rattle.crl_flight.proofs.Orders.{moves_then, moves_before}
+pub use Rattle.crl_flight.proofs.Orders.{moves_then, moves_before, moves_in, moves_behind, took_left, took_right}
 pub use Rattle.crl_flight.proofs.Weighing.{flight_weighs}

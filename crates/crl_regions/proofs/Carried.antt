@@ -14,9 +14,10 @@ use Rattle.crl_coherence.specs.Region.{elsewhere}
 use Rattle.crl_regions.specs.View.{side, sight}
 use Rattle.crl_regions.specs.Steps.{GoesOn}
 use Rattle.crl_flight.specs.Flight.{Moves, still, moved}
-use Rattle.crl_regions.proofs.Moves.{boxes, flight_took, took_left, took_right, took_put}
+use Rattle.crl_regions.proofs.Moves.{boxes, flight_took, took_put}
 use Rattle.crl_regions.proofs.Lift.{finish}
 use Rattle.crl_deeds.proofs.Laws.{took_at}
+use Rattle.crl_flight.proofs.Laws.{took_left, took_right}
 
 -- what holds of each node where one of them has another value
 pub of_node : {A : Type 0} (f : ℕ → A) (i : ℕ) (v : A) (P : ℕ → A → Type 0) → P i v → ((j : ℕ) → (j ≡ i → ⊥) → P j (f j)) → (j : ℕ) → P j (at_node f i v j)

@@ -19,7 +19,7 @@ use Rattle.crl_pieces.specs.Pieces.{is_missing, is_complete, joined}
 use Rattle.crl_protocol.specs.Parcels.{Piece, PartsGathered, Key, key_eq, key_of, load_of, with_load, slots_or, at_key, fits_size}
 use Rattle.crl_protocol.specs.Receiving.{size_for, slots_with, gathers_piece, receives_part, receives_as, receives}
 use Rattle.crl_flight.specs.Flight.{Under, posted, IsFlight, messages_of}
-use Rattle.crl_flight.proofs.Laws.{flight_as}
+use Rattle.crl_flight.proofs.Laws.{flight_as, took_left}
 use Rattle.crl_flight.specs.Coming.{put_at, IsNext, PieceComes, plain, last, gathers}
 use Rattle.crl_flight.proofs.Laws.{comes}
 use Rattle.crl_regions.proofs.Single.{took_message, alone_in, size_known}
@@ -31,7 +31,7 @@ use Rattle.crl_deeds.specs.Deeds.{Calls, Hears, Deed}
 use Rattle.crl_regions.specs.View.{UnderWay, flying, sight, table_of, tables_of, left_by, array_after}
 use Rattle.crl_regions.specs.MailFits.{Tables, FitsTables, MailFits, AllMailFits}
 use Rattle.crl_regions.specs.Steps.{GoesOn}
-use Rattle.crl_regions.proofs.Moves.{boxes, flight_took, flight_same, took_left}
+use Rattle.crl_regions.proofs.Moves.{boxes, flight_took, flight_same}
 use Rattle.crl_regions.proofs.Acts.{Comes, Acts, nothing}
 use Rattle.crl_regions.proofs.Lift.{finish}
 use Rattle.crl_regions.proofs.Sections.{Local}

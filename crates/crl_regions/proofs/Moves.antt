@@ -8,18 +8,7 @@ use Rattle.crl_flight.specs.Flight.{Moves, still, moved}
 use Rattle.crl_coherence.specs.Region.{Flying, Region, carry, Run, done, next}
 use Rattle.crl_coherence.proofs.Laws.{took_some, took_none}
 use Rattle.crl_deeds.proofs.Laws.{append_nil}
-
-pub moves_then : {A : Type 0} {xs ys zs : List A} → Moves xs ys → Moves ys zs → Moves xs zs
-moves_then still n = n
-moves_then (moved x rest a b m) n = moved x rest a b (moves_then m n)
-
-pub moves_in : {A : Type 0} (y : A) {xs ys : List A} → Moves xs ys → Moves (y ∷ xs) (y ∷ ys)
-moves_in y still = still
-moves_in y (moved x rest a b m) = moved x (y ∷ rest) (there a) (there b) (moves_in y m)
-
-pub moves_behind : {A : Type 0} (ys : List A) {xs zs : List A} → Moves xs zs → Moves (ys ++ xs) (ys ++ zs)
-moves_behind [] m = m
-moves_behind (y ∷ ys) m = moves_in y (moves_behind ys m)
+use Rattle.crl_flight.proofs.Laws.{moves_in, moves_behind, took_left, took_right}
 
 took_before : {A : Type 0} (x : A) (xs ys : List A) → Took x (xs ++ x ∷ ys) (xs ++ ys)
 took_before x [] ys = here
@@ -32,15 +21,6 @@ moves_past xs ys (z ∷ zs) =
     moves_behind xs (moved z (ys ++ zs) (took_before z ys zs) here (moves_in z (moves_past [] ys zs)))
 
 -- what a selector finds
-picked_move : {A B : Type 0} (f : A → Option B) (x : A) (xs ys zs rest : List A) → Took x xs rest → Took x ys rest → (o : Option B) → f x ≡ o
-    → Moves (find_all f ys) (find_all f zs) → Moves (find_all f xs) (find_all f zs)
-picked_move f x xs ys zs rest a b None e m = subst (λ l. Moves l (find_all f zs)) (sym (took_none f a e ∙ sym (took_none f b e))) m
-picked_move f x xs ys zs rest a b (Some y) e m = moved y (find_all f rest) (took_some f a y e) (took_some f b y e) m
-
-pub moves_picked : {A B : Type 0} (f : A → Option B) {xs ys : List A} → Moves xs ys → Moves (find_all f xs) (find_all f ys)
-moves_picked f still = still
-moves_picked f (moved {xs = xs} {ys = ys} {zs = zs} x rest a b m) = picked_move f x xs ys zs rest a b (f x) refl (moves_picked f m)
-
 -- a region's messages change places
 pub run_moves : (me : ℕ) (g : Region) (after : List Flying) → Moves g.flight after → Run me g (record g { flight = after })
 run_moves me g after m = go g.flight after m
@@ -48,18 +28,6 @@ run_moves me g after m = go g.flight after m
     go : (before after : List Flying) → Moves before after → Run me (record g { flight = before }) (record g { flight = after })
     go before after still = done
     go before after (moved {ys = between} x rest a b m) = next (carry x rest between a b) (go between after m)
-
-pub run_then : (me : ℕ) (g h k : Region) → Run me g h → Run me h k → Run me g k
-run_then me g h k done s = s
-run_then me g h k (next {h = between} e r) s = next e (run_then me between h k r s)
-
-pub took_left : {A : Type 0} {x : A} {xs ys : List A} (zs : List A) → Took x xs ys → Took x (xs ++ zs) (ys ++ zs)
-took_left zs here = here
-took_left zs (there t) = there (took_left zs t)
-
-pub took_right : {A : Type 0} {x : A} (zs : List A) {xs ys : List A} → Took x xs ys → Took x (zs ++ xs) (zs ++ ys)
-took_right [] t = t
-took_right (z ∷ zs) t = there (took_right zs t)
 
 -- The boxes of all nodes.
 abbrev pub boxes : Node → List Piece
