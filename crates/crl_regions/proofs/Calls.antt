@@ -89,14 +89,14 @@ left_refused true why after = refl
 left_refused false why after = refl
 
 pub left_none : (q : Name) (n : Node) (why : Refusal) (c : Call) → left_in q n (Some why) c ≡ None
-left_none q n why (call.Create size) = left_refused (name_eq (next_name n) q) why (replicate size 0)
+left_none q n why (call.Create size) = left_refused (name_eq (next_name n) q) why _
 left_none q n why (call.Delete name) = refl
 left_none q n why (call.Map name) = refl
 left_none q n why (call.Unmap name) = refl
 left_none q n why (call.StartRead name) = refl
 left_none q n why (call.EndRead name) = refl
 left_none q n why (call.StartWrite name) = refl
-left_none q n why (call.EndWrite name after) = left_refused (name_eq name q) why after
+left_none q n why (call.EndWrite name after) = left_refused (name_eq name q) why _
 left_none q n why (call.Put name offset len) = refl
 left_none q n why (call.Add name offset) = refl
 left_none q n why (call.Flush name) = refl

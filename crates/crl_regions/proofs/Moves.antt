@@ -1,12 +1,11 @@
 -- Messages of a list that stand at other places, and the messages of all nodes where one node's change.
-use Rattle.std.proofs.Common.{◌≡◌, ℕ, zero, suc, ◌+◌, ◌<◌, None, Some, Option, List, [], ◌∷◌, ◌++◌, refl, ap, sym, ◌∙◌, subst, append_assoc, arith}
+use Rattle.std.proofs.Common.{◌≡◌, ℕ, zero, suc, ◌+◌, ◌<◌, List, [], ◌∷◌, ◌++◌, refl, ap, sym, ◌∙◌, subst, append_assoc, arith}
 use Rattle.crl_protocol.specs.Parcels.{Piece}
-use Rattle.crl_protocol.specs.Places.{find_all, Took, here, there}
+use Rattle.crl_protocol.specs.Places.{Took, here, there}
 use Rattle.crl_protocol.specs.Node.{Node}
 use Rattle.crl_protocol.specs.World.{boxes_from}
 use Rattle.crl_flight.specs.Flight.{Moves, still, moved}
 use Rattle.crl_coherence.specs.Region.{Flying, Region, carry, Run, done, next}
-use Rattle.crl_coherence.proofs.Laws.{took_some, took_none}
 use Rattle.crl_deeds.proofs.Laws.{append_nil}
 use Rattle.crl_flight.proofs.Laws.{moves_in, moves_behind, took_left, took_right}
 
