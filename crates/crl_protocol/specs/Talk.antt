@@ -16,7 +16,10 @@ use Rattle.crl_model.specs.declared.event.Event.{Event}
 use Rattle.crl_model.specs.declared.event.Event.TheVariants as event
 use Rattle.crl_protocol.specs.Node.{Answer, Made, Mapped, Reading, Writing, Done, Came, Refused, Wait}
 use Rattle.crl_protocol.specs.Verdict.{word_of}
-use Rattle.crl_protocol.specs.World.{World, step}
+use Rattle.crl_model.specs.declared.name.Name.{Name}
+use Rattle.crl_model.specs.Names.{name_eq}
+use Rattle.crl_pieces.specs.Pieces.{count}
+use Rattle.crl_protocol.specs.World.{World, new_world, step}
 
 -- a call or a collect of a node, with the answer that it has at this event
 pub data Heard : Type 0 where
@@ -115,17 +118,40 @@ abbrev pub lines_of_node : ℕ → List Entry → List What
 lines_of_node n [] = []
 lines_of_node n (e ∷ es) = if e.node == n then e.what ∷ lines_of_node n es else lines_of_node n es
 
--- The most messages that a run may send, by its calls: six for each section, two for each map and each
--- collective call, and two per node for each delete.
-abbrev pub bound_of : ℕ → Call → ℕ
-bound_of count (call.StartRead name) = 6
-bound_of count (call.StartWrite name) = 6
-bound_of count (call.Map name) = 2
-bound_of count (call.Delete name) = 2 * count
-bound_of count (call.Come part) = 2
-bound_of count _ = 0
+-- The size with which an account creates a region, and into how many pieces its bytes are cut: as if it had one byte
+-- where no create of it stands.
+abbrev pub size_in : Name → What → Option ℕ → Option ℕ
+size_in q (what.Create name size) behind = if name_eq name q then Some size else behind
+size_in q _ behind = behind
 
-abbrev pub bound : ℕ → List Event → ℕ
-bound count [] = 0
-bound count (event.Call i c ∷ es) = bound_of count c + bound count es
-bound count (_ ∷ es) = bound count es
+abbrev pub created_size : Name → List Entry → Option ℕ
+created_size q [] = None
+created_size q (e ∷ es) = size_in q e.what (created_size q es)
+
+abbrev pub pieces_or_one : Option ℕ → ℕ
+pieces_or_one None = 1
+pieces_or_one (Some size) = count size
+
+abbrev pub created_pieces : Name → List Entry → ℕ
+created_pieces q es = pieces_or_one (created_size q es)
+
+-- The most messages that a run may send, by its calls and the entries before each of them: for a section three and three
+-- for each piece of the region, two for each map and each collective call, and two per node for each delete.
+abbrev pub bound_of : ℕ → List Entry → Call → ℕ
+bound_of nodes before (call.StartRead name) = 3 + 3 * created_pieces name before
+bound_of nodes before (call.StartWrite name) = 3 + 3 * created_pieces name before
+bound_of nodes before (call.Map name) = 2
+bound_of nodes before (call.Delete name) = 2 * nodes
+bound_of nodes before (call.Come part) = 2
+bound_of nodes before _ = 0
+
+abbrev pub bound_at : ℕ → List Entry → Event → ℕ
+bound_at nodes before (event.Call i c) = bound_of nodes before c
+bound_at nodes before _ = 0
+
+abbrev pub bound_from : World → List Entry → List Event → ℕ
+bound_from w before [] = 0
+bound_from w before (e ∷ es) = bound_at w.count before e + bound_from (step e w).world (before ++ (step e w).entries) es
+
+abbrev pub bound : ℕ → ℕ → List Event → ℕ
+bound nodes capacity run = bound_from (new_world nodes capacity) [] run
