@@ -2,8 +2,8 @@
 use Rattle.std.proofs.Common.{◌≡◌, ℕ, zero, suc, ◌+◌, Bool, true, false, List, [], ◌∷◌, length, if◌then◌else◌, refl, ap, ◌∙◌, arith}
 use Rattle.crl_protocol.specs.Places.{Took, here, there}
 use Rattle.crl_pieces.specs.Pieces.{piece_size, is_missing, Cell, parts_of, slots, left_from, comes_at}
-use Rattle.crl_pieces.proofs.Cut.{HaveSizes}
-use Rattle.crl_pieces.proofs.Cells.{part_at}
+use Rattle.crl_pieces.proofs.Laws.{HaveSizes}
+use Rattle.crl_pieces.proofs.Laws.{part_at}
 
 pub record Arrived {P : Type 0} (f : ℕ → List ℕ → P) (k : ℕ) (cells : List Cell) (p : P) (rest : List P) : Type 0 where
   pub place : ℕ

@@ -4,8 +4,8 @@ use Rattle.std.specs.List.{AllByRecursion}
 use Rattle.std.proofs.lemmas.Bool.{cond_both, cond-true, cond-false, eqb-true, eq-eqb, and_parts}
 use Rattle.crl_protocol.specs.Places.{Took, here, there}
 use Rattle.crl_pieces.specs.Pieces.{count, piece_size, cut, join, is_missing, with_piece, is_complete, joined, Cell, parts_of, slots, left_from, has_come, comes_at}
-use Rattle.crl_pieces.proofs.Cut.{join_cut, length_cut, cut_sizes, HaveSizes}
-use Rattle.crl_pieces.proofs.Cells.{length_cells, slots_none, complete_joins, complete_left, left_complete, parts_came, part_at, slots_came, came_one}
+use Rattle.crl_pieces.proofs.Laws.{join_cut, length_cut, cut_sizes, HaveSizes}
+use Rattle.crl_pieces.proofs.Laws.{length_cells, slots_none, complete_joins, complete_left, left_complete, parts_came, part_at, slots_came, came_one}
 use Rattle.crl_protocol.specs.Parcels.{Piece, load_of, with_load, piece_of, Key, key_eq, key_of, PartsGathered, slots_or}
 use Rattle.crl_protocol.specs.Receiving.{slots_with}
 use Rattle.crl_flight.specs.Flight.{Moves, still, Under, left_of, lefts, entry_of, is_key, is_at, entry_in, IsUnder, IsFlight, messages_of}

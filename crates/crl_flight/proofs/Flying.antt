@@ -5,8 +5,8 @@ use Rattle.std.proofs.lemmas.Bool.{cond_both, cond-false}
 use Rattle.crl_model.specs.declared.message.Message.{Message}
 use Rattle.crl_protocol.specs.Places.{Took, here, there}
 use Rattle.crl_pieces.specs.Pieces.{cut, nothing_came, is_complete, fresh, left_from, has_come}
-use Rattle.crl_pieces.proofs.Cut.{length_cut}
-use Rattle.crl_pieces.proofs.Cells.{parts_fresh, slots_fresh, fresh_came, left_complete}
+use Rattle.crl_pieces.proofs.Laws.{length_cut}
+use Rattle.crl_pieces.proofs.Laws.{parts_fresh, slots_fresh, fresh_came, left_complete}
 use Rattle.crl_protocol.specs.Parcels.{Piece, load_of, piece_of, pieces_of, pieces_in, Key, PartsGathered}
 use Rattle.crl_flight.specs.Flight.{Moves, still, Under, posted, left_of, lefts, entry_of, is_at, entry_in, IsUnder, IsFlight, messages_of}
 use Rattle.crl_flight.proofs.Orders.{moves_then, moves_behind, moves_before, moves_round, moves_none, OfTwo, in_first, in_second, of_two}

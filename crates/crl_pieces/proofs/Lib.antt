@@ -1,3 +1,4 @@
-pub mod Cut
-pub mod Cells
+mod Cells
+mod Cut
+pub mod Laws
 mod Slots
