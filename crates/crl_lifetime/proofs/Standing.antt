@@ -1,8 +1,7 @@
 -- The laws, in each world of a run.
-use Rattle.std.proofs.Common.{◌≡◌, ℕ, zero, suc, ◌+◌, ◌≤◌, ◌<◌, ◌==◌, Bool, true, false, ◌&&◌, None, Some, Option, List, [], if◌then◌else◌, refl, ap, sym, ◌∙◌, subst, arith}
-use Rattle.std.proofs.lemmas.Bool.{cond_both, cond-false, eqb-true, eqb-false, eq-eqb, ne_eqb, and_from, and_parts}
+use Rattle.std.proofs.Common.{◌≡◌, ◌||◌, ℕ, zero, suc, ◌+◌, ◌≤◌, ◌<◌, ◌==◌, Bool, true, false, ◌&&◌, None, Some, Option, List, [], if◌then◌else◌, refl, ap, sym, ◌∙◌, subst, arith}
+use Rattle.std.proofs.lemmas.Bool.{cond_both, cond-false, eqb-true, eqb-false, eq-eqb, ne_eqb, and_from, and_parts, cases_lt}
 use Rattle.std.proofs.Math.Logic.{◌⊎◌, inl, inr}
-use Rattle.std.proofs.lemmas.Bool.{cases_lt}
 use Rattle.crl_model.specs.declared.name.Name.{Name}
 use Rattle.crl_model.specs.declared.stage.Stage.{Stage}
 use Rattle.crl_model.specs.declared.stage.Stage.TheVariants as stage
@@ -22,9 +21,9 @@ use Rattle.crl_deeds.specs.NodeFacts.{MappedHere}
 use Rattle.crl_deeds.specs.Tokens.{sum, sum_from, load, waits_map, delete_token, deletes_for_node, deleting}
 use Rattle.crl_deeds.specs.Turns.{Held}
 use Rattle.crl_deeds.proofs.Laws.{name_self, here_if, all_took}
-use Rattle.crl_lifetime.specs.Lifetime.{has_doomed, home_lifetime, home_stage, home_table, is_about_map, is_about_delete, any_size, is_purge_order, is_purge_answer, one_if, how_many, under_way, waits_for_map, waits_for_delete, is_deleting, WaitsHaveOne, HomeAgrees, OwnAgrees, NodeAgrees, TalkFits, MessageFits}
-use Rattle.crl_lifetime.proofs.Weights.{live_weight, nothing, under}
-use Rattle.crl_lifetime.proofs.Storing.{named_self, one, mapped_weight, entry_weight, made_of, going_of, two_maps, none_stored, stored_out}
+use Rattle.crl_lifetime.specs.Lifetime.{has_doomed, has_sound, home_lifetime, home_stage, home_table, is_about_map, is_about_delete, any_size, is_purge_order, is_purge_answer, one_if, how_many, under_way, waits_for_map, waits_for_delete, is_deleting, WaitsHaveOne, HomeAgrees, OwnAgrees, NodeAgrees, TalkFits, MessageFits}
+use Rattle.crl_lifetime.proofs.Weights.{live_weight, order_weight, nothing, under}
+use Rattle.crl_lifetime.proofs.Storing.{named_self, one, mapped_weight, entry_weight, made_of, going_of, deleted_of, two_maps, none_stored, stored_out}
 use Rattle.crl_lifetime.proofs.Lived.{Lived, Spoken}
 use Rattle.crl_lifetime.proofs.Asking.{LifeFits}
 use Rattle.crl_lifetime.proofs.Pairs.{PairAt, under_less, Followed}
