@@ -10,15 +10,15 @@ pub use Rattle.crl_deeds.proofs.Counts.OpenReads.{sections_kept, sections_fit}
 pub use Rattle.crl_deeds.proofs.Fits.Parts.{here_of, here_if, there_if, not_mine, home_bytes, remote_bytes, queue_of, asking_of, mapped_home, mapped_remote}
 pub use Rattle.crl_deeds.proofs.Fits.Waits.{own_waits, grant_waits, serves_goes}
 pub use Rattle.crl_deeds.proofs.Fits.CopyMessages.{waits_own, waits_granted}
-pub use Rattle.crl_deeds.proofs.Tokens.Maps.{going_own}
+pub use Rattle.crl_deeds.proofs.Tokens.Maps.{going_own, warned}
 -- Counts, and all that is known of a world.
 pub use Rattle.crl_deeds.proofs.Counts.Mappings.{mappings_are_counted, counted_local, counted_start}
 pub use Rattle.crl_deeds.proofs.Runs.Known.{none_local, known_start, known_step, known_run, life_run}
 -- Sums, weights and tokens.
 pub use Rattle.crl_deeds.proofs.Tokens.Sums.{sum_with, sum_part, sum_new, weigh_append, weigh_took, weighs_posted, boxed_sum, none_to, token_turn}
 pub use Rattle.crl_deeds.proofs.Tokens.Spans.{whole_of, keyed_none, part_same, parts_none, no_wait, no_wait_as, even, shut, parting_none, mails_none, purges_none, span_copies, span_rounds, span_notes}
-pub use Rattle.crl_deeds.proofs.Tokens.Maps.{who_maps_has_one}
-pub use Rattle.crl_deeds.proofs.Tokens.Deletes.{who_deletes_has_one}
+pub use Rattle.crl_deeds.proofs.Tokens.Maps.{map_life, who_maps_has_one}
+pub use Rattle.crl_deeds.proofs.Tokens.Deletes.{delete_life, who_deletes_has_one}
 -- What the steps of tables leave.
 pub use Rattle.crl_deeds.proofs.Fits.TableSteps.{no_is_one, asked_goes, returned_goes, released_goes, read_goes, write_goes, starts_fit, remote_start, recalled_goes, yields_goes, read_ends, write_ends, flushes_goes}
 -- Tables by name, lists, and verdicts.

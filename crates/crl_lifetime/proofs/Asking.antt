@@ -8,10 +8,9 @@ use Rattle.crl_protocol.specs.Lifetimes.{Lifetime, new_lifetime, no_lifetime, me
 use Rattle.crl_protocol.specs.Node.{Node, Outcome, is_mine, lifetime_of, with_lifetime, serials_used}
 use Rattle.crl_protocol.specs.Calls.{creates}
 use Rattle.crl_deeds.specs.Deeds.{Cause, Lives, made, map_told, deletes_alone, deletes_own, deletes_alone_for, deletes_for, counts_off, ends_own, ends_for}
-use Rattle.crl_deeds.proofs.Fitting.{by_name}
-use Rattle.crl_deeds.proofs.Tabling.{lifetime_put}
-use Rattle.crl_deeds.proofs.Counting.{Plain}
-use Rattle.crl_deeds.proofs.Turning.{Came}
+use Rattle.crl_deeds.specs.Counts.{Plain}
+use Rattle.crl_deeds.specs.Turns.{Came}
+use Rattle.crl_deeds.proofs.Laws.{by_name, lifetime_put}
 use Rattle.crl_lifetime.specs.Lifetime.{one_if}
 use Rattle.crl_lifetime.proofs.Storing.{made_of, going_of, flag_few}
 

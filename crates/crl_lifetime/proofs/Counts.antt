@@ -16,14 +16,10 @@ use Rattle.crl_protocol.specs.Places.{Took}
 use Rattle.crl_protocol.specs.Lifetimes.{Mapping, Cached, cached_size, members_from}
 use Rattle.crl_protocol.specs.Node.{Node, ForMap, ForDelete, Activity, Waiting}
 use Rattle.crl_protocol.specs.World.{World, boxes_from, pieces_in_boxes}
-use Rattle.crl_deeds.proofs.Fitting.{same_name}
-use Rattle.crl_deeds.proofs.Placing.{all_append}
-use Rattle.crl_deeds.proofs.Turning.{Held, HeldIn, HeldOut}
-use Rattle.crl_deeds.proofs.Totals.{weighs, weigh_took, on_piece, boxed_sum}
-use Rattle.crl_lifetime.specs.Lifetime.{is_about_map, is_about_delete, is_live_with, tells_live, is_purge_order, is_purge_answer, one_if, how_many, under_way, waits_for_map, waits_for_delete, waits_purged, is_deleting, is_sound, is_doomed, is_cached, has_sound}
-use Rattle.crl_lifetime.proofs.Mapping.{token, waits_map}
-use Rattle.crl_lifetime.proofs.Erasing as erasing
-use Rattle.crl_lifetime.proofs.Erasing.{waits_delete, stage_of}
+use Rattle.crl_deeds.specs.Tokens.{weighs, on_piece, map_token, waits_map, delete_token, waits_delete, deletes_for_node}
+use Rattle.crl_deeds.specs.Turns.{Held, HeldIn, HeldOut}
+use Rattle.crl_deeds.proofs.Laws.{same_name, all_append, weigh_took, boxed_sum}
+use Rattle.crl_lifetime.specs.Lifetime.{is_about_map, is_about_delete, is_live_with, tells_live, is_purge_order, is_purge_answer, one_if, how_many, under_way, waits_for_map, waits_for_delete, waits_purged, is_deleting, is_sound, is_doomed, is_some_size, has_sound}
 use Rattle.crl_lifetime.proofs.Weights.{told_weight, live_weight, order_weight, answer_weight, under}
 use Rattle.crl_lifetime.proofs.Storing.{one, stored_weight, sound_map, doomed_map, sound_entries, marked_maps, made_of, going_of, deleted_of, none_stored}
 use Rattle.crl_lifetime.proofs.Lived.{Lived, Spoken}
@@ -53,12 +49,12 @@ three_tests true true d = refl
 three_tests true false d = refl
 three_tests false c d = refl
 
-map_kind : (n : ℕ) (r : Name) (x : Message) (k : Kind) → token n r (record x { kind = k }) ≡ one_if (is_about_map n r x.sender x.addressee k)
+map_kind : (n : ℕ) (r : Name) (x : Message) (k : Kind) → map_token n r (record x { kind = k }) ≡ one_if (is_about_map n r x.sender x.addressee k)
 map_kind n r x (kind.InfoAsk name) = two_tests (x.sender == n) (name_eq name r)
 map_kind n r x (kind.InfoIs name t) = two_tests (x.addressee == n) (name_eq name r)
 map_kind n r x _ = refl
 
-delete_kind : (n : ℕ) (r : Name) (x : Message) (k : Kind) → erasing.token n r (record x { kind = k }) ≡ one_if (is_about_delete n r x.sender x.addressee k)
+delete_kind : (n : ℕ) (r : Name) (x : Message) (k : Kind) → delete_token n r (record x { kind = k }) ≡ one_if (is_about_delete n r x.sender x.addressee k)
 delete_kind n r x (kind.DeleteAsk name) = two_tests (x.sender == n) (name_eq name r)
 delete_kind n r x (kind.DeleteIs name t) = two_tests (x.addressee == n) (name_eq name r)
 delete_kind n r x _ = refl
@@ -84,11 +80,11 @@ live_kind_is like n r x (kind.InfoIs name t) =
     ap (λ y. if x.addressee == n then (if name_eq name r then y else 0) else 0) (told_is like t) ∙ three_tests (x.addressee == n) (name_eq name r) (is_live_with like t)
 live_kind_is like n r x _ = refl
 
-pub map_count_is : (n : ℕ) (r : Name) (w : World) → under (token n r) w ≡ under_way (is_about_map n r) w
-map_count_is n r w = under_is (token n r) (is_about_map n r) (λ m. map_kind n r m m.kind) w
+pub map_count_is : (n : ℕ) (r : Name) (w : World) → under (map_token n r) w ≡ under_way (is_about_map n r) w
+map_count_is n r w = under_is (map_token n r) (is_about_map n r) (λ m. map_kind n r m m.kind) w
 
-pub delete_count_is : (n : ℕ) (r : Name) (w : World) → under (erasing.token n r) w ≡ under_way (is_about_delete n r) w
-delete_count_is n r w = under_is (erasing.token n r) (is_about_delete n r) (λ m. delete_kind n r m m.kind) w
+pub delete_count_is : (n : ℕ) (r : Name) (w : World) → under (delete_token n r) w ≡ under_way (is_about_delete n r) w
+delete_count_is n r w = under_is (delete_token n r) (is_about_delete n r) (λ m. delete_kind n r m m.kind) w
 
 pub order_count_is : (n : ℕ) (r : Name) (w : World) → under (order_weight n r) w ≡ under_way (is_purge_order n r) w
 order_count_is n r w = under_is (order_weight n r) (is_purge_order n r) (λ m. order_kind_is n r m m.kind) w
@@ -125,7 +121,7 @@ deletes_at r (Waiting (ForDelete name)) e = ap (λ q. Waiting (ForDelete q)) (sa
 deletes_at r _ e = cc
 
 -- Stages.
-pub deleting_is : (n : ℕ) (s : Stage) → stage_of n s ≡ one_if (is_deleting n s)
+pub deleting_is : (n : ℕ) (s : Stage) → deletes_for_node n s ≡ one_if (is_deleting n s)
 deleting_is n stage.Unknown = refl
 deleting_is n stage.Live = refl
 deleting_is n (stage.Going deleter) = refl
@@ -165,17 +161,17 @@ pub doomed_is : (o : Option Mapping) → doomed_map o ≡ one_if (is_doomed o)
 doomed_is None = refl
 doomed_is (Some m) = refl
 
-pub cached_counts : (r : Name) (cache : List Cached) → is_cached (cached_size r cache) ≡ true → 1 ≤ stored_weight one r cache
+pub cached_counts : (r : Name) (cache : List Cached) → is_some_size (cached_size r cache) ≡ true → 1 ≤ stored_weight one r cache
 cached_counts r cache e = go (stored_weight one r cache) refl
   where
     go : (k : ℕ) → stored_weight one r cache ≡ k → 1 ≤ stored_weight one r cache
-    go zero z = let none = ap is_cached (none_stored r cache z) in absurd (cc)
+    go zero z = let none = ap is_some_size (none_stored r cache z) in absurd (cc)
     go (suc k) z = omega arith
 
 pub sound_counts : (r : Name) (n : Node) → has_sound r n ≡ true → 1 ≤ sound_entries r n
 sound_counts r n e = go (is_sound (n.maps r)) (sound_is (n.maps r)) e
   where
-    go : (b : Bool) → sound_map (n.maps r) ≡ one_if b → b || is_cached (cached_size r n.cache) ≡ true → 1 ≤ sound_map (n.maps r) + stored_weight one r n.cache
+    go : (b : Bool) → sound_map (n.maps r) ≡ one_if b → b || is_some_size (cached_size r n.cache) ≡ true → 1 ≤ sound_map (n.maps r) + stored_weight one r n.cache
     go true s e = omega arith
     go false s e = let c = cached_counts r n.cache e in omega arith
 

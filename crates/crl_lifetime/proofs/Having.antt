@@ -6,10 +6,10 @@ use Rattle.crl_protocol.specs.Lifetimes.{Mapping, Cached, cache_without, cache_w
 use Rattle.crl_protocol.specs.Node.{Node, ForMap, Activity, Waiting, Ready, Mapped, Outcome, is_mine, home_of}
 use Rattle.crl_protocol.specs.Calls.{size_of}
 use Rattle.crl_deeds.specs.Deeds.{Cause, Copies, Lives, Rounds, home_opens, maps_more, maps_own, maps_cached, map_asks, map_comes, map_denied, unmaps_one, unmaps_own, unmaps_doomed, unmaps_keeping, unmaps_evicting, deletes_own, delete_asks, delete_comes, dooms, drops, warns, ends_own, comes_away}
-use Rattle.crl_deeds.proofs.Fitting.{by_name}
-use Rattle.crl_deeds.proofs.Counting.{WaitsAway}
+use Rattle.crl_deeds.specs.Counts.{WaitsAway}
+use Rattle.crl_deeds.specs.Tokens.{waits_map}
+use Rattle.crl_deeds.proofs.Laws.{by_name, warned}
 use Rattle.crl_lifetime.specs.Lifetime.{one_if}
-use Rattle.crl_lifetime.proofs.Mapping.{waits_map, warned}
 use Rattle.crl_lifetime.proofs.Weights.{if_named}
 use Rattle.crl_lifetime.proofs.Storing.{one, mapped_weight, stored_weight, entry_weight, named_self, named_other, stored_none, stored_out, stored_in}
 

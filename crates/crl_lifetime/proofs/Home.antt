@@ -16,11 +16,9 @@ use Rattle.crl_protocol.specs.Lifetimes.{Lifetime, new_lifetime, no_lifetime, me
 use Rattle.crl_protocol.specs.Node.{Node, Outcome, is_mine, lifetime_of, with_lifetime, serials_used, message_to}
 use Rattle.crl_protocol.specs.Calls.{creates, purges}
 use Rattle.crl_deeds.specs.Deeds.{Cause, Calls, Hears, parting, Copies, Lives, Rounds, Notes, Idles, Deed, copies, lives, rounds, notes, refuses, idles, Unfit, never, going, gone, home_opens, made, map_told, map_refused, unmaps_doomed, unmaps_evicting, deletes_alone, deletes_own, deletes_alone_for, deletes_for, drops, counts_off, ends_own, ends_for, comes_away, flushes_own}
-use Rattle.crl_deeds.proofs.Fitting.{by_name}
-use Rattle.crl_deeds.proofs.Tabling.{lifetime_put}
-use Rattle.crl_deeds.proofs.Totals.{weigh, weigh_append, none_to}
-use Rattle.crl_deeds.proofs.Spans.{came}
-use Rattle.crl_deeds.proofs.Knowing.{NoneYet}
+use Rattle.crl_deeds.specs.Counts.{NoneYet}
+use Rattle.crl_deeds.specs.Tokens.{weigh, came}
+use Rattle.crl_deeds.proofs.Laws.{by_name, lifetime_put, weigh_append, none_to}
 use Rattle.crl_lifetime.specs.Lifetime.{one_if}
 use Rattle.crl_lifetime.proofs.Weights.{if_named, live_weight, order_weight, answer_weight, live_talk, order_talk, answer_talk, parting_none, copies_silent, rounds_silent}
 use Rattle.crl_lifetime.proofs.Storing.{one, made_of, going_of, deleted_of}

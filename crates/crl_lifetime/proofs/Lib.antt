@@ -1,5 +1,3 @@
-mod Mapping
-mod Erasing
 mod Cases
 mod Weights
 mod Storing

@@ -11,9 +11,9 @@ use Rattle.crl_protocol.specs.Lifetimes.{Lifetime}
 use Rattle.crl_protocol.specs.Node.{Node, Outcome, lifetime_of}
 use Rattle.crl_protocol.specs.World.{new_world}
 use Rattle.crl_deeds.specs.Deeds.{Cause, Calls, Hears, Copies, Rounds, Notes, Deed, copies, lives, rounds, notes, home_opens, comes_away, flushes_own}
-use Rattle.crl_deeds.proofs.Counting.{Counted, Plain, counted_local, counted_start}
-use Rattle.crl_deeds.proofs.Turning.{Came, Local, Held, lives_frame}
-use Rattle.crl_deeds.proofs.Knowing.{NoneYet, none_local}
+use Rattle.crl_deeds.specs.Counts.{Counted, Plain, NoneYet}
+use Rattle.crl_deeds.specs.Turns.{Came, Local, Held}
+use Rattle.crl_deeds.proofs.Laws.{counted_local, counted_start, lives_frame, none_local}
 use Rattle.crl_lifetime.proofs.Sending.{Sent, sent_part, sent_deed}
 use Rattle.crl_lifetime.proofs.Asking.{LifeFits, no_fits, life_lives}
 use Rattle.crl_lifetime.proofs.Having.{OneEach, NoneOwn, own_lives, each_lives, each_copies, each_rounds}

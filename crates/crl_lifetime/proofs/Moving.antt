@@ -11,11 +11,8 @@ use Rattle.crl_protocol.specs.Lifetimes.{Mapping, Lifetime, new_lifetime, no_lif
 use Rattle.crl_protocol.specs.Node.{Node, Outcome, is_mine, lifetime_of, with_lifetime, serials_used}
 use Rattle.crl_protocol.specs.Calls.{creates}
 use Rattle.crl_deeds.specs.Deeds.{Cause, Copies, Lives, Rounds, Notes, Deed, copies, lives, rounds, notes, home_opens, made, maps_more, maps_own, maps_cached, map_told, map_comes, unmaps_one, unmaps_own, unmaps_doomed, unmaps_keeping, unmaps_evicting, deletes_alone, deletes_own, deletes_alone_for, deletes_for, dooms, counts_off, ends_own, ends_for, comes_away, flushes_own}
-use Rattle.crl_deeds.proofs.Fitting.{by_name}
-use Rattle.crl_deeds.proofs.Tabling.{lifetime_put}
-use Rattle.crl_deeds.proofs.Counting.{WaitsAway}
-use Rattle.crl_deeds.proofs.Turning.{lives_frame}
-use Rattle.crl_deeds.proofs.Knowing.{NoneYet}
+use Rattle.crl_deeds.specs.Counts.{WaitsAway, NoneYet}
+use Rattle.crl_deeds.proofs.Laws.{by_name, lifetime_put, lives_frame}
 use Rattle.crl_lifetime.specs.Lifetime.{StageMoves, stays, created, begins, deleted, ends}
 use Rattle.crl_lifetime.proofs.Storing.{one, mapped_weight, made_of}
 use Rattle.crl_lifetime.proofs.Having.{map_is}

@@ -13,17 +13,13 @@ use Rattle.crl_model.specs.Names.{name_eq, at_node}
 use Rattle.crl_protocol.specs.Parcels.{Piece, with_load, Key, key_of, PartsGathered}
 use Rattle.crl_protocol.specs.Places.{Took}
 use Rattle.crl_protocol.specs.Lifetimes.{Lifetime, no_lifetime}
-use Rattle.crl_protocol.specs.Node.{Node, ForMap, Activity, Free, Waiting, Answer, Done, Outcome, only, is_mine, lifetime_of, message_to}
+use Rattle.crl_protocol.specs.Node.{Node, new_node, ForMap, Activity, Free, Waiting, Answer, Done, Outcome, only, is_mine, lifetime_of, message_to}
 use Rattle.crl_protocol.specs.World.{World, WorldStep, new_world, steps_node, carries, commits, note, put_in, step, is_enabled, IsRunFrom, world_after}
 use Rattle.crl_deeds.specs.Deeds.{FreeIf, Cause, Calls, Hears, parting, Lives, Deed, copies, lives, rounds, notes, refuses, idles, unmaps_doomed, unmaps_evicting, deletes_own, deletes_for, dooms, drops, warns}
-use Rattle.crl_deeds.proofs.Fitting.{same_name}
-use Rattle.crl_deeds.proofs.Turning.{Frame, Turn, calls, hears, gathers, answers, carriage, rests, deed_frame, each_at, Came, Held, HeldIn, HeldOut, all_took, turn_of, turn_count, held_turn}
-use Rattle.crl_deeds.proofs.Totals.{weigh, weighs, weigh_append, weigh_took, on_piece, sum, sum_from, sum_new, load, none_to}
-use Rattle.crl_deeds.proofs.Spans.{came, part_same, keyed_none}
-use Rattle.crl_deeds.proofs.Knowing.{Known, known_start, known_step, life_run}
-use Rattle.crl_lifetime.proofs.Mapping.{token, waits_map, none, map_life}
-use Rattle.crl_lifetime.proofs.Erasing.{waits_delete, deleting, delete_life}
-use Rattle.crl_lifetime.proofs.Erasing as erasing
+use Rattle.crl_deeds.specs.Counts.{Known}
+use Rattle.crl_deeds.specs.Tokens.{deletes_for_node, weigh, weighs, on_piece, sum, sum_from, load, came, map_token, waits_map, waits_delete, deleting, delete_token}
+use Rattle.crl_deeds.specs.Turns.{Frame, Turn, calls, hears, gathers, answers, carriage, rests, Came, Held, HeldIn, HeldOut}
+use Rattle.crl_deeds.proofs.Laws.{same_name, deed_frame, each_at, all_took, turn_of, turn_count, held_turn, weigh_append, weigh_took, sum_new, none_to, part_same, keyed_none, known_start, known_step, life_run, map_life, delete_life}
 use Rattle.crl_lifetime.specs.Lifetime.{one_if}
 use Rattle.crl_lifetime.proofs.Weights.{if_named, told_weight, live_weight, order_weight, answer_weight, Talk, live_talk, order_talk, answer_talk, parting_none, copies_silent, rounds_silent, nothing, under, under_step, under_carried}
 use Rattle.crl_lifetime.proofs.Storing.{one, flag_few, deleted_few, going_deleted}
@@ -279,7 +275,7 @@ under_less_from f g h i (suc k) nodes = let a = under_less_from f g h (i + 1) k 
 pub under_less : (f g : Message → ℕ) → ((x : Message) → f x ≤ g x) → (w : World) → under f w ≤ under g w
 under_less f g h w = under_less_from f g h 0 w.count w.nodes
 
-live_few : (m : ℕ) (r : Name) (x : Message) → live_weight one m r x ≤ token m r x
+live_few : (m : ℕ) (r : Name) (x : Message) → live_weight one m r x ≤ map_token m r x
 live_few m r x = go x.kind
   where
     told_few : (t : Told) → told_weight one t ≤ 1
@@ -287,7 +283,7 @@ live_few m r x = go x.kind
     told_few told.Unknown = omega arith
     told_few told.Deleted = omega arith
 
-    go : (k : Kind) → live_weight one m r (record x { kind = k }) ≤ token m r (record x { kind = k })
+    go : (k : Kind) → live_weight one m r (record x { kind = k }) ≤ map_token m r (record x { kind = k })
     go (kind.InfoIs name t) = both (x.addressee == m) (name_eq name r) (told_few t)
       where
         both : (b c : Bool) → told_weight one t ≤ 1 → (if b then (if c then told_weight one t else 0) else 0) ≤ (if b then (if c then 1 else 0) else 0)
@@ -300,8 +296,8 @@ live_few m r x = go x.kind
 pub record Followed (w : World) : Type 0 where
   pub known : Known w
   pub held : Held (Lived w.count) (Spoken w.count) w
-  pub maps : (i : ℕ) (r : Name) → i < w.count → sum (load (token i r) none) w ≡ waits_map r (w.nodes i).activity
-  pub deletes : (i : ℕ) (r : Name) → i < w.count → sum (load (erasing.token i r) (deleting i r)) w ≡ waits_delete r (w.nodes i).activity
+  pub maps : (i : ℕ) (r : Name) → i < w.count → sum (load (map_token i r) nothing) w ≡ waits_map r (w.nodes i).activity
+  pub deletes : (i : ℕ) (r : Name) → i < w.count → sum (load (delete_token i r) (deleting i r)) w ≡ waits_delete r (w.nodes i).activity
   pub pairs : (r : Name) (m : ℕ) → m < w.count → (r.home == m) ≡ false → PairAt r m w
 
 pub followed_step : (w : World) (e : Event) → is_enabled e w ≡ true → Followed w → Followed (step e w).world
@@ -309,10 +305,10 @@ followed_step w e may x = record {
   known = known_step w e may x.known;
   held = subst (λ k. Held (Lived k) (Spoken k) (step e w).world) (sym same) (held_turn (Lived w.count) (Spoken w.count) w _ turn (lived_local w.count) x.held);
   maps = λ i r small. maps_now i r (subst (λ k. i < k) same small);
-  deletes = λ i r small. let s = subst (λ k. i < k) same small in life_run i (erasing.token i r) (deleting i r) (waits_delete r) (delete_life i r) (e ∷ []) w s (may, tt) x.known (x.deletes i r s);
+  deletes = λ i r small. let s = subst (λ k. i < k) same small in life_run i (delete_token i r) (deleting i r) (waits_delete r) (delete_life i r) (e ∷ []) w s (may, tt) x.known (x.deletes i r s);
   pairs = λ r m small apart.
       let s = subst (λ k. m < k) same small in
-      let few = under_less (live_weight one m r) (token m r) (live_few m r) (step e w).world in
+      let few = under_less (live_weight one m r) (map_token m r) (live_few m r) (step e w).world in
       let waits = maps_now m r s in
       pair_turn w _ r m turn s apart x.held (omega arith) (x.pairs r m s apart);
 }
@@ -323,8 +319,11 @@ followed_step w e may x = record {
     same : (step e w).world.count ≡ w.count
     same = turn_count w _ turn
 
-    maps_now : (i : ℕ) (r : Name) → i < w.count → sum (load (token i r) none) (step e w).world ≡ waits_map r ((step e w).world.nodes i).activity
-    maps_now i r s = life_run i (token i r) none (waits_map r) (map_life i r) (e ∷ []) w s (may, tt) x.known (x.maps i r s)
+    maps_now : (i : ℕ) (r : Name) → i < w.count → sum (load (map_token i r) nothing) (step e w).world ≡ waits_map r ((step e w).world.nodes i).activity
+    maps_now i r s = life_run i (map_token i r) nothing (waits_map r) (map_life i r) (e ∷ []) w s (may, tt) x.known (x.maps i r s)
+
+none_deleting : (i : ℕ) (r : Name) (count capacity j : ℕ) → load (delete_token i r) (deleting i r) (new_node count capacity j) ≡ 0
+none_deleting i r count capacity j = cond_both (r.home == j) _ _ (λ (l : Lifetime). 0 + 0 + deletes_for_node i l.stage ≡ 0) (λ w. refl) (λ w. refl)
 
 start_agrees : (count capacity : ℕ) (r : Name) (m : ℕ) → PairAt r m (new_world count capacity)
 start_agrees count capacity r m =
@@ -339,8 +338,8 @@ pub followed_start : (count capacity : ℕ) → Followed (new_world count capaci
 followed_start count capacity = record {
   known = known_start count capacity;
   held = lived_start count capacity;
-  maps = λ i r small. sum_new (load (token i r) none) count capacity (λ j. refl);
-  deletes = λ i r small. sum_new (load (erasing.token i r) (deleting i r)) count capacity (erasing.none_deleting i r count capacity);
+  maps = λ i r small. sum_new (load (map_token i r) nothing) count capacity (λ j. refl);
+  deletes = λ i r small. sum_new (load (delete_token i r) (deleting i r)) count capacity (none_deleting i r count capacity);
   pairs = λ r m small apart. start_agrees count capacity r m;
 }
 

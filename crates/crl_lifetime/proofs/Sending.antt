@@ -13,9 +13,9 @@ use Rattle.crl_protocol.specs.Remote.{Remote, remote_flushes}
 use Rattle.crl_protocol.specs.Node.{Node, Outcome, is_mine, letter_messages, mail_messages, message_to}
 use Rattle.crl_protocol.specs.Calls.{results_from}
 use Rattle.crl_deeds.specs.Deeds.{Cause, parting, Copies, Lives, Rounds, Deed, copies, lives, rounds, home_opens, home_waits, side_opens, side_waits, home_ends, side_ends, side_flushes, home_serves, home_serves_own, grant_comes, side_called, map_asks, map_told, map_refused, unmaps_doomed, unmaps_evicting, deletes_own, delete_asks, deletes_alone_for, deletes_for, delete_refused, dooms, drops, warns, ends_for, comes_away, comes_last, part_last, part_last_idle}
-use Rattle.crl_deeds.proofs.Counting.{Plain}
-use Rattle.crl_deeds.proofs.Placing.{all_append}
-use Rattle.crl_deeds.proofs.Turning.{Came}
+use Rattle.crl_deeds.specs.Counts.{Plain}
+use Rattle.crl_deeds.specs.Turns.{Came}
+use Rattle.crl_deeds.proofs.Laws.{all_append}
 
 abbrev pub SentKind : ℕ → ℕ → Kind → Type 0
 SentKind from to (kind.InfoAsk name) = to ≡ name.home

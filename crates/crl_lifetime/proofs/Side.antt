@@ -11,10 +11,8 @@ use Rattle.crl_protocol.specs.Node.{Node, ForMap, Activity, Free, Waiting, Ready
 use Rattle.crl_protocol.specs.Calls.{size_of}
 use Rattle.crl_protocol.specs.Handlers.{purges_waiting}
 use Rattle.crl_deeds.specs.Deeds.{FreeIf, Cause, Calls, Hears, parting, Copies, Lives, Rounds, Notes, Idles, Deed, copies, lives, rounds, notes, refuses, idles, home_waits, side_waits, home_serves_own, grant_comes, maps_more, maps_own, maps_cached, map_asks, map_comes, map_denied, unmaps_one, unmaps_own, unmaps_doomed, unmaps_keeping, unmaps_evicting, deletes_own, delete_asks, deletes_for, delete_comes, dooms, drops, warns, ends_own, comes_away, comes_home, part_last, result_comes, flushes_own}
-use Rattle.crl_deeds.proofs.Fitting.{by_name, same_name}
-use Rattle.crl_deeds.proofs.Totals.{weigh, weigh_append, none_to}
-use Rattle.crl_deeds.proofs.Spans.{came}
-use Rattle.crl_lifetime.proofs.Mapping.{waits_map}
+use Rattle.crl_deeds.specs.Tokens.{weigh, came, waits_map}
+use Rattle.crl_deeds.proofs.Laws.{by_name, same_name, weigh_append, none_to}
 use Rattle.crl_lifetime.specs.Lifetime.{one_if}
 use Rattle.crl_lifetime.proofs.Weights.{if_named, live_weight, order_weight, answer_weight, order_talk, answer_talk, parting_none, copies_silent, rounds_silent}
 use Rattle.crl_lifetime.proofs.Storing.{one, stored_weight, sound_map, doomed_map, marked_maps, mapped_weight, named_self, named_other, flag_few, two_maps, stored_none, stored_out, stored_in, marked_few}

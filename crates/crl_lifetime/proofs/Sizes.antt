@@ -19,12 +19,11 @@ use Rattle.crl_protocol.specs.Node.{Node, Outcome, is_mine, home_of, lifetime_of
 use Rattle.crl_protocol.specs.Calls.{size_of}
 use Rattle.crl_protocol.specs.World.{World, WorldStep, new_world, steps_node, commits, step, IsRunFrom, world_after}
 use Rattle.crl_deeds.specs.Deeds.{Cause, Calls, parting, Copies, Lives, Rounds, Notes, Deed, copies, lives, rounds, notes, refuses, idles, Unfit, never, going, gone, home_opens, maps_more, maps_own, maps_cached, map_told, map_refused, map_comes, unmaps_one, unmaps_own, unmaps_doomed, unmaps_keeping, unmaps_evicting, deletes_own, deletes_for, dooms, drops, comes_away, flushes_own}
-use Rattle.crl_deeds.proofs.Fitting.{by_name, LiveFits}
-use Rattle.crl_deeds.proofs.Outcomes.{here_if}
-use Rattle.crl_deeds.proofs.Turning.{Turn, calls, hears, gathers, answers, carriage, rests, Held, turn_of}
-use Rattle.crl_deeds.proofs.Totals.{weigh, weigh_append, sum_new, load, none_to}
-use Rattle.crl_deeds.proofs.Spans.{came}
-use Rattle.crl_deeds.proofs.Knowing.{Known}
+use Rattle.crl_deeds.specs.Counts.{Known}
+use Rattle.crl_deeds.specs.NodeFacts.{LiveFits}
+use Rattle.crl_deeds.specs.Tokens.{weigh, load, came}
+use Rattle.crl_deeds.specs.Turns.{Turn, calls, hears, gathers, answers, carriage, rests, Held}
+use Rattle.crl_deeds.proofs.Laws.{by_name, here_if, turn_of, weigh_append, sum_new, none_to}
 use Rattle.crl_lifetime.proofs.Weights.{if_named, live_weight, Talk, live_talk, parting_none, copies_silent, rounds_silent, nothing, under}
 use Rattle.crl_lifetime.proofs.Storing.{named_self, mapped_weight, stored_weight, entry_weight, stored_out, stored_in}
 use Rattle.crl_lifetime.proofs.Cases.{at_true}
@@ -199,9 +198,9 @@ sizes_quiet w v r m table entry flow g size ok =
 
 pub sizes_turn : (w : World) (v : WorldStep) (r : Name) (m : ℕ) → Turn w v → (r.home == m) ≡ false → Known w → Held (Lived w.count) (Spoken w.count) w → SizesAt r m w → SizesAt r m v.world
 sizes_turn w v r m (calls j e c o few free may d) apart x held g =
-    sizes_deed w r m apart j (w.nodes j) e (Calls c) o (held j).node.counted.me d (λ q mine. (here_if j (x.drafts j) (w.nodes j) q mine (x.fits j)).live) refl (λ f. refl) (flow_calls w j e c o few d) g
+    sizes_deed w r m apart j (w.nodes j) e (Calls c) o (held j).node.counted.me d (λ q mine. (here_if j (w.nodes j) q mine (x.fits j)).live) refl (λ f. refl) (flow_calls w j e c o few d) g
 sizes_turn w v r m (hears j e p rest parcels part o few took d) apart x held g =
-    sizes_deed w r m apart j (record (w.nodes j) { inbox = rest; parcels = parcels }) e _ o (held j).node.counted.me d (λ q mine. (here_if j (x.drafts j) (w.nodes j) q mine (x.fits j)).live) refl (λ f. refl) (flow_hears w held j e p rest parcels part o few took d) g
+    sizes_deed w r m apart j (record (w.nodes j) { inbox = rest; parcels = parcels }) e _ o (held j).node.counted.me d (λ q mine. (here_if j (w.nodes j) q mine (x.fits j)).live) refl (λ f. refl) (flow_hears w held j e p rest parcels part o few took d) g
 sizes_turn w v r m (gathers j e p rest parcels key few took keyed) apart x held g =
     sizes_quiet w v.world r m (same_at (λ n. home_of n r) w.nodes j _ refl r.home) (λ f. same_at (entry_weight f r) w.nodes j _ refl m) (flow_gathers w j e p rest parcels key few took keyed) g
 sizes_turn w v r m (answers j e answer few ready) apart x held g =

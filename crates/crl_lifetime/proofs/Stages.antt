@@ -9,11 +9,11 @@ use Rattle.crl_protocol.specs.Home.{Home}
 use Rattle.crl_protocol.specs.Lifetimes.{Lifetime}
 use Rattle.crl_protocol.specs.Node.{Node, home_of, lifetime_of}
 use Rattle.crl_protocol.specs.World.{World, WorldStep, new_world, step, is_enabled, IsRunFrom, world_after}
-use Rattle.crl_deeds.proofs.Fitting.{LiveFits}
-use Rattle.crl_deeds.proofs.Outcomes.{here_if}
-use Rattle.crl_deeds.proofs.Knowing.{Known}
-use Rattle.crl_deeds.proofs.Turning.{Turn, calls, hears, gathers, answers, carriage, rests, each_at, turn_of, turn_count, Held}
-use Rattle.crl_lifetime.specs.Lifetime.{StageMoves, stays, created, begins, deleted, ends, stage_in, table_in}
+use Rattle.crl_deeds.specs.Counts.{Known}
+use Rattle.crl_deeds.specs.NodeFacts.{LiveFits}
+use Rattle.crl_deeds.specs.Turns.{Turn, calls, hears, gathers, answers, carriage, rests, Held}
+use Rattle.crl_deeds.proofs.Laws.{here_if, each_at, turn_of, turn_count}
+use Rattle.crl_lifetime.specs.Lifetime.{StageMoves, stays, created, begins, deleted, ends, home_stage, home_table}
 use Rattle.crl_lifetime.proofs.Lived.{Lived, Spoken}
 use Rattle.crl_lifetime.proofs.Moving.{moved_deed}
 use Rattle.crl_lifetime.proofs.Tables.{SameTable, table_deed}
@@ -40,7 +40,7 @@ moved_turn w v r (carriage i e p rest few took) held = λ j.
     record { stage = subst (λ s. StageMoves (lifetime_of (w.nodes j) r).stage s) (sym a) stays; table = subst (SameTable (home_of (w.nodes j) r)) (sym b) (λ h e. (h, e, refl)) }
 moved_turn w v r rests held = λ j. still r (w.nodes j)
 
-pub moved_step : (w : World) (e : Event) (r : Name) → is_enabled e w ≡ true → Followed w → StageMoves (stage_in r w) (stage_in r (step e w).world)
+pub moved_step : (w : World) (e : Event) (r : Name) → is_enabled e w ≡ true → Followed w → StageMoves (home_stage r w) (home_stage r (step e w).world)
 moved_step w e r may x = (moved_turn w _ r (turn_of w e may) x.held r.home).stage
 
 -- A region that was created has a table.
@@ -61,17 +61,17 @@ table_moves s t o p (begins deleter) same live had k = kept o p same (had (λ e.
 table_moves s t o p deleted same live had k = kept o p same (had (λ e. cc))
 table_moves s t o p (ends deleter) same live had k = kept o p same (had (λ e. cc))
 
-live_in : (w : World) (r : Name) → Known w → LiveFits (stage_in r w) (table_in r w)
-live_in w r x = (here_if r.home (x.drafts r.home) (w.nodes r.home) r (eq-eqb r.home (w.nodes r.home).me (sym (x.fits r.home).me)) (x.fits r.home)).live
+live_in : (w : World) (r : Name) → Known w → LiveFits (home_stage r w) (home_table r w)
+live_in w r x = (here_if r.home (w.nodes r.home) r (eq-eqb r.home (w.nodes r.home).me (sym (x.fits r.home).me)) (x.fits r.home)).live
 
-table_run : (es : List Event) (w : World) (r : Name) → IsRunFrom w es → Followed w → HasTable (stage_in r w) (table_in r w) → HasTable (stage_in r (world_after w es)) (table_in r (world_after w es))
+table_run : (es : List Event) (w : World) (r : Name) → IsRunFrom w es → Followed w → HasTable (home_stage r w) (home_table r w) → HasTable (home_stage r (world_after w es)) (home_table r (world_after w es))
 table_run [] w r h x t = t
 table_run (e ∷ es) w r h x t =
     let y = followed_step w e h.0 x in
     let m = moved_turn w _ r (turn_of w e h.0) x.held r.home in
-    table_run es (step e w).world r h.1 y (table_moves (stage_in r w) _ _ _ m.stage m.table (live_in (step e w).world r y.known) t)
+    table_run es (step e w).world r h.1 y (table_moves (home_stage r w) _ _ _ m.stage m.table (live_in (step e w).world r y.known) t)
 
-pub created_have_tables : (count capacity : ℕ) (run : List Event) (r : Name) → IsRunFrom (new_world count capacity) run → HasTable (stage_in r (world_after (new_world count capacity) run)) (table_in r (world_after (new_world count capacity) run))
+pub created_have_tables : (count capacity : ℕ) (run : List Event) (r : Name) → IsRunFrom (new_world count capacity) run → HasTable (home_stage r (world_after (new_world count capacity) run)) (home_table r (world_after (new_world count capacity) run))
 created_have_tables count capacity run r h = table_run run (new_world count capacity) r h (followed_start count capacity)
     (λ made. absurd (made (cond_both (r.home == r.home) _ _ (λ (l : Lifetime). l.stage ≡ stage.Unknown) (λ w. refl) (λ w. refl))))
 

@@ -7,8 +7,8 @@ use Rattle.crl_model.specs.declared.stage.Stage.TheVariants as stage
 use Rattle.crl_model.specs.Names.{name_eq}
 use Rattle.crl_protocol.specs.Lifetimes.{Mapping, Cached, CacheStep, cached_size, cache_without, cache_with, push_out}
 use Rattle.crl_protocol.specs.Node.{Node, ForMap, Activity, Waiting}
-use Rattle.crl_deeds.proofs.Fitting.{same_name, name_self}
-use Rattle.crl_lifetime.proofs.Mapping.{waits_map}
+use Rattle.crl_deeds.specs.Tokens.{waits_map}
+use Rattle.crl_deeds.proofs.Laws.{same_name, name_self}
 use Rattle.crl_lifetime.specs.Lifetime.{one_if}
 use Rattle.crl_lifetime.proofs.Weights.{if_named}
 

@@ -11,8 +11,7 @@ use Rattle.crl_protocol.specs.Home.{Home, HomeStep, new_home, is_servable, open_
 use Rattle.crl_protocol.specs.Remote.{Remote, RemoteStep}
 use Rattle.crl_protocol.specs.Node.{Node, Outcome, home_of, with_home, next_name}
 use Rattle.crl_deeds.specs.Deeds.{Cause, Copies, Lives, Rounds, Notes, Deed, copies, lives, rounds, notes, EndsCall, a_read, a_write, Serves, ask_comes, copy_returns, copy_lowers, home_opens, home_waits, home_ends, home_serves, home_serves_own, made, used_up, comes_away, flushes_own}
-use Rattle.crl_deeds.proofs.Fitting.{by_name}
-use Rattle.crl_deeds.proofs.Tabling.{home_put, home_end, home_next, home_none}
+use Rattle.crl_deeds.proofs.Laws.{by_name, home_put, home_end, home_next, home_none}
 
 serve_size : (me : ℕ) (h : Home) (queue : List Asked) → (serve me h queue).home.size ≡ h.size
 serve_size me h [] = refl

@@ -21,10 +21,10 @@ use Rattle.crl_protocol.specs.Node.{Node, Outcome, letter_messages, mail_message
 use Rattle.crl_protocol.specs.Calls.{results_from}
 use Rattle.crl_protocol.specs.World.{World, steps_node, carries, commits, note, put_in}
 use Rattle.crl_deeds.specs.Deeds.{Cause, parting, Copies, Rounds, home_opens, home_waits, side_opens, side_waits, home_ends, side_ends, side_flushes, home_serves, home_serves_own, grant_comes, side_called, Serves, ask_comes, copy_returns, copy_lowers, CallsBack, wholly, to_share, comes_away, comes_home, comes_last, part_comes, part_last, part_last_idle, result_comes}
-use Rattle.crl_deeds.proofs.Counting.{PlainKind}
-use Rattle.crl_deeds.proofs.Turning.{Frame}
-use Rattle.crl_deeds.proofs.Totals.{weigh, weighs, weigh_append, weigh_took, on_piece, weighs_posted, sum, sum_from, sum_with, load}
-use Rattle.crl_deeds.proofs.Spans.{NoMail, whole_of, came}
+use Rattle.crl_deeds.specs.Counts.{PlainKind}
+use Rattle.crl_deeds.specs.Tokens.{weigh, weighs, on_piece, sum, sum_from, load, NoMail, came}
+use Rattle.crl_deeds.specs.Turns.{Frame}
+use Rattle.crl_deeds.proofs.Laws.{weigh_append, weigh_took, weighs_posted, sum_with, whole_of}
 
 abbrev pub if_named : Name → Name → ℕ → ℕ
 if_named name r x = if name_eq name r then x else 0

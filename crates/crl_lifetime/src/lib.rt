@@ -9,14 +9,14 @@ ghost use Rattle.crl_model.specs.declared.event.Event.{Event};
 ghost use Rattle.crl_protocol.specs.Places.{Took};
 ghost use Rattle.crl_protocol.specs.Parcels.{Piece};
 ghost use Rattle.crl_protocol.specs.World.{pieces_in_boxes, is_enabled, step, new_world, world_of, IsRunFrom};
-ghost use Rattle.crl_lifetime.specs.Lifetime.{StageMoves, stage_in, waits_for_map, waits_for_delete, WaitsHaveOne, HomeFits, OwnFits, NodeFits, MessageFits};
+ghost use Rattle.crl_lifetime.specs.Lifetime.{StageMoves, home_stage, waits_for_map, waits_for_delete, WaitsHaveOne, HomeAgrees, OwnAgrees, NodeAgrees, MessageFits};
 
 /// A name moves from Unknown to Live, to Going, to Gone, and never back. No region has a name whose home is no node,
 /// or whose serial is 0.
 pub fn stages_only_move_on()
-    ensures moves { (count capacity : ℕ) (run : List Event) (e : Event) (r : Name) → IsRunFrom (new_world count capacity) run → is_enabled e (world_of count capacity run) ≡ true → StageMoves (stage_in r (world_of count capacity run)) (stage_in r (step e (world_of count capacity run)).world) }
-    ensures nowhere { (count capacity : ℕ) (run : List Event) (r : Name) → IsRunFrom (new_world count capacity) run → count ≤ r.home → stage_in r (world_of count capacity run) ≡ Unknown }
-    ensures serials { (count capacity : ℕ) (run : List Event) (r : Name) → IsRunFrom (new_world count capacity) run → r.serial ≡ 0 → stage_in r (world_of count capacity run) ≡ Unknown }
+    ensures moves { (count capacity : ℕ) (run : List Event) (e : Event) (r : Name) → IsRunFrom (new_world count capacity) run → is_enabled e (world_of count capacity run) ≡ true → StageMoves (home_stage r (world_of count capacity run)) (home_stage r (step e (world_of count capacity run)).world) }
+    ensures nowhere { (count capacity : ℕ) (run : List Event) (r : Name) → IsRunFrom (new_world count capacity) run → count ≤ r.home → home_stage r (world_of count capacity run) ≡ Unknown }
+    ensures serials { (count capacity : ℕ) (run : List Event) (r : Name) → IsRunFrom (new_world count capacity) run → r.serial ≡ 0 → home_stage r (world_of count capacity run) ≡ Unknown }
 {}
 
 /// A node that waits for a map has one InfoAsk or InfoIs of it under way, else none. One that waits for a delete has one
@@ -27,9 +27,9 @@ pub fn waits_have_one()
 
 /// What a home knows of its region, what it has of it itself, and what each other node has of it, fit together.
 pub fn homes_and_nodes_agree()
-    ensures home { (count capacity : ℕ) (run : List Event) (r : Name) → IsRunFrom (new_world count capacity) run → HomeFits r (world_of count capacity run) }
-    ensures own { (count capacity : ℕ) (run : List Event) (r : Name) → IsRunFrom (new_world count capacity) run → r.home < count → OwnFits r (world_of count capacity run) }
-    ensures node { (count capacity : ℕ) (run : List Event) (n : ℕ) (r : Name) → IsRunFrom (new_world count capacity) run → n < count → (r.home == n) ≡ false → NodeFits r n (world_of count capacity run) }
+    ensures home { (count capacity : ℕ) (run : List Event) (r : Name) → IsRunFrom (new_world count capacity) run → HomeAgrees r (world_of count capacity run) }
+    ensures own { (count capacity : ℕ) (run : List Event) (r : Name) → IsRunFrom (new_world count capacity) run → r.home < count → OwnAgrees r (world_of count capacity run) }
+    ensures node { (count capacity : ℕ) (run : List Event) (n : ℕ) (r : Name) → IsRunFrom (new_world count capacity) run → n < count → (r.home == n) ≡ false → NodeAgrees r n (world_of count capacity run) }
 {}
 
 /// Each message of maps and deletes that is in a box meets the test of its handler at its addressee: nothing is

@@ -154,7 +154,7 @@ delete_near i r count from to (kind.DeleteAsk name) small h = inr h
 delete_near i r count from to (kind.DeleteIs name t) small h = near_if to i (of_name name r) count small (to == i) refl
 delete_near i r count from to _ small h = inl refl
 
-delete_life : (i : ℕ) (r : Name) → Life i (delete_token i r) (deleting i r) (waits_delete r)
+pub delete_life : (i : ℕ) (r : Name) → Life i (delete_token i r) (deleting i r) (waits_delete r)
 delete_life i r = record {
   tokens = record { whole = λ m. whole_of (delete_token i r) (span i r).mail m.sender m.addressee m.kind; blind = λ n inbox outbox parcels records notes posted. refl; answered = λ n. refl; free = refl; ready = λ answer. refl };
   span = span i r;

@@ -23,7 +23,7 @@ use Rattle.crl_deeds.proofs.Tokens.Spans.{whole_of, no_wait, no_wait_as, even, s
 use Rattle.crl_deeds.proofs.Tokens.Sums.{weigh_append, sum_new, none_to, boxed_sum}
 use Rattle.crl_deeds.specs.Deeds as deed
 
-abbrev none : Node → ℕ
+abbrev pub none : Node → ℕ
 none n = 0
 
 mail_none : (i : ℕ) (r : Name) (from to : ℕ) (name : Name) (m : Mail) → map_token_kind i r from to (kind_about name m) ≡ 0
@@ -100,7 +100,7 @@ map_near i r count from to (kind.InfoAsk name) small h = inr h.1
 map_near i r count from to (kind.InfoIs name t) small h = inr h
 map_near i r count from to _ small h = inl refl
 
-map_life : (i : ℕ) (r : Name) → Life i (map_token i r) none (waits_map r)
+pub map_life : (i : ℕ) (r : Name) → Life i (map_token i r) none (waits_map r)
 map_life i r = record {
   tokens = record { whole = λ m. whole_of (map_token i r) (span i r).mail m.sender m.addressee m.kind; blind = λ n inbox outbox parcels records notes posted. refl; answered = λ n. refl; free = refl; ready = λ answer. refl };
   span = span i r;
