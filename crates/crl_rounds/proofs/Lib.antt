@@ -1,0 +1,6 @@
+mod Balances
+mod Boxes
+mod Counts
+mod States
+mod Story
+mod Still
