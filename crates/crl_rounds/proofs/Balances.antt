@@ -1,7 +1,7 @@
 -- What stands for a collective call that waits is balanced by each deed.
-use Rattle.std.proofs.Common.{◌≡◌, ℕ, ◌+◌, ◌-◌, ◌≤◌, ◌<◌, ◌==◌, Bool, true, false, None, Some, Option, List, [], ◌∷◌, if◌then◌else◌, refl, ap, sym, ◌∙◌, subst, arith}
+use Rattle.std.proofs.Common.{◌≡◌, ℕ, ◌+◌, ◌-◌, ◌<◌, ◌==◌, Bool, true, false, None, Some, List, [], ◌∷◌, if◌then◌else◌, refl, ap, sym, ◌∙◌, subst, arith}
 use Rattle.std.specs.List.{AllByRecursion}
-use Rattle.std.proofs.lemmas.Bool.{cond-true, cond-false, eqb-true, eqb-false, eq-eqb, ne_eqb}
+use Rattle.std.proofs.lemmas.Bool.{cond-true, eqb-true, eqb-false, eq-eqb}
 use Rattle.crl_model.specs.declared.collective.Part.{Part}
 use Rattle.crl_model.specs.declared.collective.Fold.{Fold}
 use Rattle.crl_model.specs.declared.call.CallKind.{CallKind}
@@ -16,7 +16,7 @@ use Rattle.crl_protocol.specs.Calls.{results}
 use Rattle.crl_deeds.proofs.Fitting.{Leaves, Fits}
 use Rattle.crl_deeds.proofs.Turning.{Came}
 use Rattle.crl_deeds.proofs.Totals.{weigh, waited, none_to, Balance}
-use Rattle.crl_deeds.proofs.Spans.{no_wait, no_wait_as, came}
+use Rattle.crl_deeds.proofs.Spans.{no_wait_as, came}
 use Rattle.crl_deeds.specs.Deeds.{FreeIf, Cause, Calls, Hears, with_parts, next_round, Rounds, comes_away, comes_home, comes_last, part_comes, part_last, part_last_idle, result_comes, Idles, Deed, copies, lives, rounds, notes, refuses, idles}
 use Rattle.crl_model.specs.declared.name.Name.{Name}
 use Rattle.crl_model.specs.declared.call.Call.{Call}
@@ -29,9 +29,9 @@ use Rattle.crl_model.specs.Calls.{kind_of}
 use Rattle.crl_machine.specs.SingleMachine.{State}
 use Rattle.crl_protocol.specs.Verdict.{verdict, word_of, place_of}
 use Rattle.crl_rounds.proofs.States.{NotMixed, refused_same, same_self, all_same, all_fit}
-use Rattle.crl_rounds.specs.Standing.{RoundCall, round_awaited, IsBetween, StandsIn, Stands, FitsRounds}
+use Rattle.crl_rounds.specs.Standing.{round_awaited, IsBetween, StandsIn, Stands, FitsRounds}
 use Rattle.crl_rounds.proofs.Still.{IsOtherKind, IsOther, IsOtherCause, Still, still_copies, still_lives, still_notes, cause_copies, cause_lives, refused_apart}
-use Rattle.crl_rounds.proofs.Counts.{of_round, token_kind, token, there, gathered, gathering, waits_call, waits_round, one_round, is_round, at_most_one, is_there, none_there, awaits_none, gathers_some, waits_in, there_put, all_there, results_before, results_at, Facts}
+use Rattle.crl_rounds.proofs.Counts.{of_round, token_kind, token, there, gathered, gathering, waits_call, waits_round, one_round, at_most_one, none_there, awaits_none, gathers_some, waits_in, there_put, all_there, results_before, results_at, Facts}
 
 -- the tokens with a part more, with all parts, and of the results
 put_gathered : (i j : ℕ) (from : ℕ) (p : Part) (g : Gathering) → g.parts from ≡ None → gathered i j (with_parts from p g) ≡ gathered i j g + (if from == i then of_round g.round j else 0)
@@ -58,7 +58,7 @@ none_next : (i j : ℕ) (n : Node) (g : Gathering) → (if n.me == 0 then gather
 none_next i j n g = ap (λ x. if n.me == 0 then x else 0) (none_to (g.round + 1 == j) 0) ∙ none_to (n.me == 0) 0
 
 -- node 0 waits in the round that it completes
-open_first : (count : ℕ) (g : Gathering) (activities : ℕ → Activity) (n : Node) (cause : Cause) → Facts count g activities n cause → n.me ≡ 0 → FreeIf cause n → came (token 0 n.gathering.round) n.me cause ≡ 0 → n.activity ≡ Free → n.gathering.parts 0 ≡ None
+pub open_first : (count : ℕ) (g : Gathering) (activities : ℕ → Activity) (n : Node) (cause : Cause) → Facts count g activities n cause → n.me ≡ 0 → FreeIf cause n → came (token 0 n.gathering.round) n.me cause ≡ 0 → n.activity ≡ Free → n.gathering.parts 0 ≡ None
 open_first count g activities n cause f first free none idle =
     let k = n.gathering.round in
     let p = f.portion 0 k (subst (λ x. x < count) first f.small) in

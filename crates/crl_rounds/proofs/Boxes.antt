@@ -1,7 +1,7 @@
 -- The messages of rounds in the boxes of all nodes.
-use Rattle.std.proofs.Common.{◌≡◌, ℕ, zero, suc, ◌+◌, ◌-◌, ◌≤◌, ◌<◌, ◌==◌, Bool, true, false, None, Some, Option, List, [], ◌∷◌, ◌++◌, length, if◌then◌else◌, refl, ap, sym, ◌∙◌, subst, arith}
+use Rattle.std.proofs.Common.{◌≡◌, ℕ, zero, suc, ◌+◌, ◌≤◌, ◌<◌, ◌==◌, false, Some, List, [], ◌∷◌, length, if◌then◌else◌, refl, ap, sym, ◌∙◌, subst, arith}
 use Rattle.std.specs.List.{AllByRecursion}
-use Rattle.std.proofs.lemmas.Bool.{cond_both, cond-true, cond-false, eqb-true, eqb-false, eq-eqb}
+use Rattle.std.proofs.lemmas.Bool.{cond_both, cond-true, eqb-true, eq-eqb}
 use Rattle.crl_model.specs.declared.collective.Part.{Part}
 use Rattle.crl_model.specs.declared.collective.Fold.{Fold}
 use Rattle.crl_model.specs.declared.event.Event.{Event}
@@ -14,15 +14,14 @@ use Rattle.crl_machine.specs.SingleMachine.{State, part_at, parts_of}
 use Rattle.crl_pieces.specs.Pieces.{count, cut, Cell, fresh, left_from}
 use Rattle.crl_protocol.specs.Parcels.{Piece, load_of, with_load, piece_of, pieces_of, pieces_in}
 use Rattle.crl_protocol.specs.Places.{Took}
-use Rattle.crl_protocol.specs.Node.{Node, Activity, Outcome}
-use Rattle.crl_protocol.specs.Calls.{results_from}
-use Rattle.crl_protocol.specs.World.{World, WorldStep, note, put_in, commits, steps_node, carries}
+use Rattle.crl_protocol.specs.Node.{Node, Outcome}
+use Rattle.crl_protocol.specs.World.{World, note, put_in, commits, steps_node, carries}
 use Rattle.crl_deeds.proofs.Placing.{all_append}
 use Rattle.crl_deeds.proofs.Turning.{Frame, Parts, HeldIn, HeldOut, all_took, each_at}
-use Rattle.crl_deeds.proofs.Totals.{weigh, weighs, sum_from, sum, sum_with, sum_part, load}
+use Rattle.crl_deeds.proofs.Totals.{weighs, sum_from, sum, sum_with, sum_part, load}
 use Rattle.crl_rounds.proofs.Still.{IsOther, IsOtherKind}
 use Rattle.crl_rounds.proofs.States.{Grows, parts_of_grow}
-use Rattle.crl_rounds.proofs.Counts.{of_round, token_kind, token, gathering, one_round}
+use Rattle.crl_rounds.proofs.Counts.{of_round, token_kind, token, one_round}
 
 -- A part that goes to node 0 is that with which its sender came to the current round; a result is that of the round
 -- before, to which all came.
@@ -152,10 +151,10 @@ zero_box count current s h n box empty = record {
 }
 
 -- what stands in boxes, and what node 0 has gathered
-abbrev none : Node → ℕ
+abbrev pub none : Node → ℕ
 none n = 0
 
-split_from : (f : Message → ℕ) (g : Node → ℕ) (i k : ℕ) (nodes : ℕ → Node) → sum_from (load f g) i k nodes ≡ sum_from (load f none) i k nodes + sum_from g i k nodes
+pub split_from : (f : Message → ℕ) (g : Node → ℕ) (i k : ℕ) (nodes : ℕ → Node) → sum_from (load f g) i k nodes ≡ sum_from (load f none) i k nodes + sum_from g i k nodes
 split_from f g i zero nodes = refl
 split_from f g i (suc k) nodes = let h = split_from f g (i + 1) k nodes in omega arith
 

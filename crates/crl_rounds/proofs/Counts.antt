@@ -1,7 +1,6 @@
 -- What stands for a collective call that waits: its part under way, its part gathered, its result under way. There is one
 -- of the three, of its own round, and none for a node that waits in no round.
-use Rattle.std.proofs.Common.{◌≡◌, ℕ, zero, suc, ◌+◌, ◌-◌, ◌≤◌, ◌<◌, ◌==◌, Bool, true, false, None, Some, Option, List, [], ◌∷◌, if◌then◌else◌, refl, ap, sym, ◌∙◌, subst, arith}
-use Rattle.std.specs.List.{AllByRecursion}
+use Rattle.std.proofs.Common.{◌≡◌, ℕ, zero, suc, ◌+◌, ◌≤◌, ◌<◌, ◌==◌, Bool, true, false, None, Some, Option, List, if◌then◌else◌, refl, ap, sym, ◌∙◌, arith}
 use Rattle.std.proofs.lemmas.Bool.{cond-true, cond-false, eqb-true, eqb-false, eq-eqb, ne_eqb}
 use Rattle.crl_model.specs.declared.name.Name.{Name}
 use Rattle.crl_model.specs.declared.collective.Part.{Part}
@@ -11,16 +10,14 @@ use Rattle.crl_model.specs.declared.message.Message.{Message}
 use Rattle.crl_model.specs.declared.message.Kind.{Kind}
 use Rattle.crl_model.specs.declared.message.Kind.TheVariants as kind
 use Rattle.crl_model.specs.Names.{at_node}
-use Rattle.crl_model.specs.FoldOf.{fold_of}
 use Rattle.crl_protocol.specs.Mail.{Mail, Ask, kind_about}
-use Rattle.crl_protocol.specs.Gathering.{Gathering, all_parts, with_part, awaits, no_parts}
-use Rattle.crl_protocol.specs.Node.{Node, ForRound, Activity, Free, Waiting, Outcome}
+use Rattle.crl_protocol.specs.Gathering.{Gathering, all_parts, with_part, awaits}
+use Rattle.crl_protocol.specs.Node.{Node, ForRound, Activity, Waiting}
 use Rattle.crl_protocol.specs.Calls.{results_from}
-use Rattle.crl_deeds.proofs.Totals.{weigh, waited, none_to, Tokens, Balance}
-use Rattle.crl_deeds.proofs.Spans.{whole_of, no_wait, no_wait_as, came}
-use Rattle.crl_deeds.specs.Deeds.{FreeIf, Cause, Calls, Hears, Rounds, comes_away, comes_home, comes_last, part_comes, part_last, part_last_idle, result_comes, Idles}
+use Rattle.crl_deeds.proofs.Totals.{weigh, Tokens}
+use Rattle.crl_deeds.proofs.Spans.{whole_of, came}
+use Rattle.crl_deeds.specs.Deeds.{Cause, Hears}
 use Rattle.crl_rounds.specs.Standing.{RoundCall, round_awaited}
-use Rattle.crl_rounds.proofs.Still.{IsOtherKind, IsOther, IsOtherCause, Still}
 
 -- a round counts where it is this one
 abbrev pub of_round : ℕ → ℕ → ℕ

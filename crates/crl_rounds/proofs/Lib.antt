@@ -1,6 +1,11 @@
 mod Balances
 mod Boxes
 mod Counts
+mod Ending
+mod Final
+pub mod Laws
+mod Rounding
+mod Runs
 mod States
-mod Story
 mod Still
+mod Story

@@ -1,7 +1,7 @@
 -- What entries change of the rounds in the single machine.
-use Rattle.std.proofs.Common.{◌≡◌, ℕ, zero, suc, ◌+◌, ◌-◌, ◌≤◌, ◌<◌, ◌==◌, true, false, None, Some, Option, List, [], ◌∷◌, ◌++◌, length, get_or, refl, ap, sym, ◌∙◌, subst, arith}
+use Rattle.std.proofs.Common.{◌≡◌, ℕ, zero, suc, ◌+◌, ◌-◌, ◌≤◌, ◌<◌, ◌==◌, None, Some, Option, List, [], ◌∷◌, ◌++◌, length, get_or, refl, ap, sym, ◌∙◌, subst, arith}
 use Rattle.std.specs.List.{AllByRecursion}
-use Rattle.std.proofs.lemmas.Bool.{cond_both, cond-true, cond-false, eqb-true, eqb-false, eq-eqb}
+use Rattle.std.proofs.lemmas.Bool.{cond_both, cond-true, eqb-true, eq-eqb}
 use Rattle.std.proofs.Math.Seq.{get_or-append_seam}
 use Rattle.std.proofs.lemmas.List.{get_or_append_left}
 use Rattle.crl_model.specs.declared.collective.Part.{Part}
@@ -18,9 +18,9 @@ use Rattle.crl_model.specs.declared.entry.What.{What}
 use Rattle.crl_model.specs.declared.entry.What.TheVariants as what
 use Rattle.crl_model.specs.Names.{at_node}
 use Rattle.crl_machine.specs.SingleMachine.{State, change, after, after_all, told_after, part_at, parts_from, parts_of}
-use Rattle.crl_protocol.specs.Node.{Node, Activity, entry_of}
+use Rattle.crl_protocol.specs.Node.{Node}
 use Rattle.crl_protocol.specs.Calls.{result_of}
-use Rattle.crl_rounds.specs.Standing.{RoundCall, round_awaited, IsBetween, WaitsIn, StandsIn, Stands, FitsRounds}
+use Rattle.crl_rounds.specs.Standing.{RoundCall, round_awaited, StandsIn, Stands, FitsRounds, FitAll}
 
 abbrev pub NotMixed : Refusal → Type 0
 NotMixed refusal.Mixed = ⊥
@@ -148,14 +148,10 @@ pub stands_same : (k : ℕ) (s t : State) (i : ℕ) (n m : Node) → t.came i �
 stands_same k s t i n m came told rounds awaited h = record {
   came = ap length came ∙ h.came ∙ sym rounds;
   call = subst (λ r. StandsIn k t i r (round_awaited m.activity)) (sym rounds)
-  (subst (λ o. StandsIn k t i n.rounds o) (sym awaited) (stands_in_same k s t i n.rounds (round_awaited n.activity) told (ap (λ xs. get_or xs (n.rounds - 1) part.Barrier) came) h.call));
+      (subst (λ o. StandsIn k t i n.rounds o) (sym awaited) (stands_in_same k s t i n.rounds (round_awaited n.activity) told (ap (λ xs. get_or xs (n.rounds - 1) part.Barrier) came) h.call));
 }
 
 -- The entries of an event, each in its place.
-abbrev pub FitAll : State → List Entry → Type 0
-FitAll s [] = Unit {0}
-FitAll s (e ∷ es) = FitsRounds s e.node e.what × FitAll (after s e) es
-
 fits_other : (s : State) (n : ℕ) (w : What) → IsOtherWhat w → FitsRounds s n w
 fits_other s n (what.Come part) h = absurd h
 fits_other s n (what.Came round fold) h = absurd h

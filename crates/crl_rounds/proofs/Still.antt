@@ -1,5 +1,5 @@
 -- What a deed leaves alone that has nothing to do with rounds.
-use Rattle.std.proofs.Common.{◌≡◌, ℕ, ◌==◌, ◌||◌, Bool, true, false, not, if◌then◌else◌, None, Some, Option, List, [], ◌∷◌, ◌++◌, map, length, refl, ap, sym, ◌∙◌, subst}
+use Rattle.std.proofs.Common.{◌≡◌, ℕ, ◌==◌, ◌||◌, Bool, true, false, not, if◌then◌else◌, None, Some, Option, List, [], ◌∷◌, map, length, refl, ap, sym, ◌∙◌, subst}
 use Rattle.std.specs.Prelude.{nat_lt}
 use Rattle.std.specs.List.{AllByRecursion}
 use Rattle.crl_model.specs.declared.TheConstants.{REGION_LIMIT}
@@ -11,7 +11,6 @@ use Rattle.crl_model.specs.declared.call.Refusal.{Refusal}
 use Rattle.crl_model.specs.declared.call.Refusal.TheVariants as refusal
 use Rattle.crl_model.specs.declared.stage.Stage.{Stage}
 use Rattle.crl_model.specs.declared.stage.Stage.TheVariants as stage
-use Rattle.crl_model.specs.declared.entry.Entry.{Entry}
 use Rattle.crl_model.specs.declared.entry.What.{What}
 use Rattle.crl_model.specs.declared.entry.What.TheVariants as what
 use Rattle.crl_model.specs.declared.collective.Part.{Part}
@@ -26,7 +25,7 @@ use Rattle.crl_protocol.specs.Home.{Home, HomeStep}
 use Rattle.crl_protocol.specs.Lifetimes.{Mapping, cached_size}
 use Rattle.crl_protocol.specs.Remote.{Remote, RemoteStep, remote_flushes, is_closed}
 use Rattle.crl_protocol.specs.Sections.{section_at, count_of, is_writing}
-use Rattle.crl_protocol.specs.Node.{Node, ForSection, ForMap, ForDelete, Activity, Free, Waiting, Ready, Outcome, letter_messages, mail_messages, message_to, is_mine, is_real, serials_used, lifetime_of, map_count, COUNT_LIMIT}
+use Rattle.crl_protocol.specs.Node.{Node, ForSection, ForMap, Activity, Free, Waiting, Outcome, letter_messages, mail_messages, message_to, is_mine, is_real, serials_used, lifetime_of, map_count, COUNT_LIMIT}
 use Rattle.crl_protocol.specs.Handlers.{purges_waiting}
 use Rattle.crl_protocol.specs.Verdict.{verdict, else_if, refuse_if, of_create, of_map, of_mapped, of_cached, of_delete, of_more, of_unmapped, of_open, of_start, of_end, of_change, of_part, by_stage}
 use Rattle.crl_deeds.proofs.Placing.{all_append}
@@ -36,10 +35,10 @@ use Rattle.crl_deeds.proofs.Outcomes.{home_bytes, queue_of, asking_of}
 use Rattle.crl_deeds.proofs.Serving.{HomeGoes, asked_goes, returned_goes, released_goes}
 use Rattle.crl_deeds.proofs.Mapping.{going_own}
 use Rattle.crl_deeds.proofs.Turning.{Came}
-use Rattle.crl_deeds.specs.Deeds.{FreeIf, Cause, Calls, Hears, parting, StartsCall, to_read, to_write, EndsCall, a_read, a_write, Serves, ask_comes, copy_returns, copy_lowers, CallsBack, wholly, to_share, Copies, home_opens, home_waits, side_opens, side_waits, home_ends, side_ends, side_flushes, home_serves, home_serves_own, grant_comes, side_called, Unfit, never, going, gone, Lives, made, used_up, map_asks, map_told, map_refused, map_comes, map_denied, unmaps_doomed, unmaps_evicting, deletes_own, delete_asks, deletes_alone_for, deletes_for, deletes_alone, delete_refused, delete_comes, dooms, drops, warns, counts_off, ends_own, ends_for, Notes, ends_nowhere}
+use Rattle.crl_deeds.specs.Deeds.{FreeIf, Cause, Calls, Hears, parting, EndsCall, a_read, a_write, Serves, ask_comes, copy_returns, copy_lowers, CallsBack, wholly, Copies, home_opens, home_waits, side_opens, side_waits, home_ends, side_ends, side_flushes, home_serves, home_serves_own, grant_comes, side_called, Unfit, never, Lives, made, used_up, map_asks, map_told, map_refused, map_comes, map_denied, unmaps_doomed, unmaps_evicting, deletes_own, delete_asks, deletes_alone_for, deletes_for, deletes_alone, delete_refused, delete_comes, dooms, drops, warns, counts_off, ends_own, ends_for, Notes, ends_nowhere}
 use Rattle.crl_machine.specs.SingleMachine.{State, after_all}
-use Rattle.crl_rounds.specs.Standing.{RoundCall, round_awaited, Stands}
-use Rattle.crl_rounds.proofs.States.{NotMixed, IsOtherWhat, IsOtherEntry, SameRounds, all_same, FitAll, all_fit}
+use Rattle.crl_rounds.specs.Standing.{FitAll, round_awaited, Stands}
+use Rattle.crl_rounds.proofs.States.{NotMixed, IsOtherWhat, IsOtherEntry, SameRounds, all_same, all_fit}
 
 -- messages, causes and entries that are of no round
 abbrev pub IsOtherKind : Kind → Type 0

@@ -1,29 +1,22 @@
 -- Where all nodes of a world stand in their rounds, and what an outcome of one node leaves of that.
-use Rattle.std.proofs.Common.{◌≡◌, ℕ, zero, suc, ◌+◌, ◌-◌, ◌≤◌, ◌<◌, ◌==◌, Bool, true, false, None, Some, Option, List, [], ◌∷◌, length, if◌then◌else◌, refl, ap, sym, ◌∙◌, subst, arith}
+use Rattle.std.proofs.Common.{◌≡◌, ℕ, ◌+◌, ◌≤◌, ◌<◌, ◌==◌, Bool, true, false, None, Some, List, length, if◌then◌else◌, refl, ap, sym, ◌∙◌, subst, arith}
 use Rattle.std.specs.List.{AllByRecursion}
-use Rattle.std.proofs.lemmas.Bool.{cond_both, cond-true, cond-false, eqb-true, eqb-false, eq-eqb, ne_eqb}
-use Rattle.std.proofs.Math.Logic.{◌⊎◌, inl, inr}
+use Rattle.std.proofs.lemmas.Bool.{cond_both, cond-false, eqb-true, eqb-false}
+use Rattle.std.proofs.Math.Logic.{inl}
 use Rattle.crl_model.specs.declared.collective.Part.{Part}
-use Rattle.crl_model.specs.declared.collective.Fold.{Fold}
-use Rattle.crl_model.specs.declared.collective.Fold.TheVariants as fold
-use Rattle.crl_model.specs.declared.call.CallKind.{CallKind}
 use Rattle.crl_model.specs.declared.event.Event.{Event}
 use Rattle.crl_model.specs.declared.entry.What.TheVariants as what
 use Rattle.crl_model.specs.declared.message.Message.{Message}
-use Rattle.crl_model.specs.declared.message.Kind.TheVariants as kind
 use Rattle.crl_model.specs.Calls.{kind_of}
-use Rattle.crl_model.specs.Names.{at_node}
-use Rattle.crl_model.specs.FoldOf.{fold_of}
-use Rattle.crl_machine.specs.SingleMachine.{State, change, after_all, part_at, parts_from, parts_of, IsFull}
-use Rattle.crl_protocol.specs.Gathering.{Gathering, with_part, all_parts}
-use Rattle.crl_protocol.specs.Node.{Node, Activity, Free, Outcome}
-use Rattle.crl_protocol.specs.Calls.{result_of, results_from, results}
+use Rattle.crl_machine.specs.SingleMachine.{State, change, after_all, part_at}
+use Rattle.crl_protocol.specs.Gathering.{Gathering, all_parts}
+use Rattle.crl_protocol.specs.Node.{Node, Free, Outcome}
 use Rattle.crl_protocol.specs.World.{World, commits, steps_node}
 use Rattle.crl_deeds.proofs.Turning.{Frame}
 use Rattle.crl_deeds.proofs.Totals.{sum, load}
-use Rattle.crl_deeds.specs.Deeds.{with_parts, next_round}
-use Rattle.crl_rounds.specs.Standing.{RoundCall, round_awaited, IsBetween, WaitsIn, StandsIn, Stands, IsTold, FitsRounds}
-use Rattle.crl_rounds.proofs.States.{SameRounds, Grows, grows_same, grows_one, length_put, part_last_came, stands_same, told_result, came_result, nodes_result}
+use Rattle.crl_deeds.specs.Deeds.{with_parts}
+use Rattle.crl_rounds.specs.Standing.{round_awaited, IsBetween, StandsIn, Stands}
+use Rattle.crl_rounds.proofs.States.{SameRounds, Grows, grows_same, grows_one, length_put, part_last_came, stands_same}
 use Rattle.crl_rounds.proofs.Still.{IsOther, Still}
 use Rattle.crl_rounds.proofs.Counts.{token, gathering, waits_round}
 use Rattle.crl_rounds.proofs.Boxes.{Kept, kept_parts, kept_grows, kept_other, all_map, BoxAt, Boxed, box_map, boxed_outcome}
@@ -79,7 +72,7 @@ story_after w t g j n e o l frame tokens = record {
   first = cond_both (j == 0) (commits w.events e o) (w.nodes 0) (λ m. m.gathering ≡ g) (λ x. l.own_first (eqb-true j 0 x)) (λ x. l.other_first (eqb-false j 0 x));
   positive = l.positive;
   each = λ i small. cond_both (j == i) (commits w.events e o) (w.nodes i) (λ m. Stands g.round t i m)
-  (λ x. subst (λ k. Stands g.round t k (commits w.events e o)) (eqb-true j i x) (record { came = l.own.came; call = l.own.call })) (λ x. l.others i small x);
+      (λ x. subst (λ k. Stands g.round t k (commits w.events e o)) (eqb-true j i x) (record { came = l.own.came; call = l.own.call })) (λ x. l.others i small x);
   gathered = l.gathered;
   missing = l.missing;
   tokens = tokens;
@@ -104,7 +97,7 @@ there_put count g t from part one h i p small e = go (from == i) refl e
     go false w x = h i p small x
 
 -- An outcome that is of no round.
-stands_self : (w : World) (s : State) (g : Gathering) (j : ℕ) (n : Node) → Story w s g → Steps w s g j n → Stands g.round s n.me n
+pub stands_self : (w : World) (s : State) (g : Gathering) (j : ℕ) (n : Node) → Story w s g → Steps w s g j n → Stands g.round s n.me n
 stands_self w s g j n h st = subst (λ k. Stands g.round s k n) (sym st.me) (stands_same g.round s s j (w.nodes j) n refl refl st.rounds (ap round_awaited st.activity) (h.each j st.few))
 
 pub first_of : (w : World) (s : State) (g : Gathering) (j : ℕ) (n : Node) → Story w s g → Steps w s g j n → j ≡ 0 → n.gathering ≡ g
@@ -147,7 +140,7 @@ story_still w s g j n e o h st still frame tokens = story_after w t g j n e o le
 pub between : (k : ℕ) (s : State) (n : Node) → Stands k s n.me n → n.activity ≡ Free → IsBetween k s n.me n.rounds
 between k s n h free = subst (λ a. StandsIn k s n.me n.rounds (round_awaited a)) free h.call
 
-own_comes : (k : ℕ) (s : State) (n m : Node) (part : Part) → Stands k s n.me n → n.activity ≡ Free → m.rounds ≡ n.rounds + 1 → round_awaited m.activity ≡ Some (record { round = n.rounds + 1; kind = kind_of part })
+pub own_comes : (k : ℕ) (s : State) (n m : Node) (part : Part) → Stands k s n.me n → n.activity ≡ Free → m.rounds ≡ n.rounds + 1 → round_awaited m.activity ≡ Some (record { round = n.rounds + 1; kind = kind_of part })
     → Stands k (change s n.me (what.Come part)) n.me m
 own_comes k s n m part h free rounds awaited =
     let t : State = change s n.me (what.Come part) in
@@ -158,7 +151,7 @@ own_comes k s n m part h free rounds awaited =
     record {
       came = long ∙ ap (λ x. x + 1) came ∙ sym rounds;
       call = subst (λ r. StandsIn k t n.me r (round_awaited m.activity)) (sym rounds)
-      (subst (λ o. StandsIn k t n.me (n.rounds + 1) o) (sym awaited) (record { own = refl; kind = sym (ap kind_of last); told = ap (λ x. x + 1) b.told; near = inl b.next }));
+          (subst (λ o. StandsIn k t n.me (n.rounds + 1) o) (sym awaited) (record { own = refl; kind = sym (ap kind_of last); told = ap (λ x. x + 1) b.told; near = inl b.next }));
     }
 
 others_come : (k : ℕ) (s : State) (me j i : ℕ) (part : Part) (m : Node) → me ≡ j → (j == i) ≡ false → Stands k s i m → Stands k (change s me (what.Come part)) i m

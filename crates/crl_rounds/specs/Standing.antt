@@ -1,6 +1,6 @@
 -- Where each node of a run stands in its rounds, and what of them is under way. What the nodes brought to the rounds
 -- and which results they were told is what the single machine has of it after the run's account.
-use Rattle.std.specs.Prelude.{◌≡◌, ◌⊎◌, ℕ, ◌+◌, ◌<◌, ◌≤◌, ◌==◌, Bool, true, false, ◌&&◌, if◌then◌else◌, List, [], ◌∷◌, length}
+use Rattle.std.specs.Prelude.{◌≡◌, ◌⊎◌, ℕ, ◌+◌, ◌<◌, ◌≤◌, ◌==◌, Bool, true, false, ◌&&◌, if◌then◌else◌, List, [], ◌∷◌, ◌++◌, length}
 use Rattle.std.specs.declared.option.Option.{Option}
 use Rattle.std.specs.declared.option.Option.TheVariants.{None, Some}
 use Rattle.crl_model.specs.declared.collective.Part.{Part}
@@ -14,12 +14,11 @@ use Rattle.crl_model.specs.declared.entry.Place.TheVariants.{Round}
 use Rattle.crl_model.specs.declared.entry.What.{What}
 use Rattle.crl_model.specs.declared.entry.What.TheVariants as what
 use Rattle.crl_model.specs.declared.event.Event.{Event}
-use Rattle.crl_model.specs.declared.message.Message.{Message}
 use Rattle.crl_model.specs.declared.message.Kind.{Kind}
 use Rattle.crl_model.specs.declared.message.Kind.TheVariants as kind
 use Rattle.crl_model.specs.Calls.{kind_of}
 use Rattle.crl_model.specs.FoldOf.{fold_of}
-use Rattle.crl_machine.specs.SingleMachine.{State, start, after_all, part_at, parts_of, IsFull}
+use Rattle.crl_machine.specs.SingleMachine.{State, start, after, after_all, part_at, parts_of, IsFull}
 use Rattle.crl_protocol.specs.Parcels.{Piece}
 use Rattle.crl_protocol.specs.Node.{Node, Activity, Waiting, ForRound}
 use Rattle.crl_protocol.specs.World.{World, account, pieces_in_boxes}
@@ -118,12 +117,29 @@ pub data RoundPlace (w : World) (s : State) (i : ℕ) : Option RoundCall → Typ
   gathered : (c : RoundCall) → c.round ≡ current_round w → AreUnderWay w i 0 0 (Some (part_at s i c.round)) → RoundPlace w s i (Some c)
   told : (c : RoundCall) → c.round + 1 ≡ current_round w → AreUnderWay w i 0 1 None → RoundPlace w s i (Some c)
 
+-- the part that node 0 has of a node: that with which the node came to the current round, its last
+pub record IsGathered (w : World) (s : State) (i : ℕ) (gathered : Part) : Type 0 where
+  pub came : length (s.came i) ≡ current_round w
+  pub brought : gathered ≡ part_at s i (current_round w)
+
+abbrev pub IsMissing : World → ℕ → Type 0
+IsMissing w m = (m < w.count) × (part_gathered w m ≡ None)
+
 -- a node that hasn't come to the current round
 pub record IsAbsent (w : World) (s : State) (m : ℕ) : Type 0 where
   pub node : m < w.count
   pub part : part_gathered w m ≡ None
   pub came : length (s.came m) + 1 ≡ current_round w
   pub waits : round_awaited (w.nodes m).activity ≡ None
+
+-- All of it: where each node stands and where its call is; that some part is missing; and that, where no piece is in a
+-- box, who waits in a round waits for a node that hasn't come to it.
+pub record RoundsStand (w : World) (s : State) : Type 0 where
+  pub stands : (i : ℕ) → i < w.count → Stands (current_round w) s i (w.nodes i)
+  pub place : (i : ℕ) → i < w.count → RoundPlace w s i (round_awaited (w.nodes i).activity)
+  pub gathered : (i : ℕ) (p : Part) → i < w.count → part_gathered w i ≡ Some p → IsGathered w s i p
+  pub missing : 0 < w.count → (m : ℕ) × IsMissing w m
+  pub absent : pieces_in_boxes w ≡ [] → (i : ℕ) (c : RoundCall) → i < w.count → round_awaited (w.nodes i).activity ≡ Some c → (c.round ≡ current_round w) × (m : ℕ) × IsAbsent w s m
 
 -- Entries of rounds: who comes is free of rounds, and who is told a round's result is told what all parts give.
 pub record IsTold (s : State) (i round : ℕ) (fold : Fold) : Type 0 where
@@ -143,3 +159,30 @@ FitsRounds s i (what.Come part) = length (s.came i) ≤ s.told i
 FitsRounds s i (what.Came round fold) = IsTold s i round fold
 FitsRounds s i (what.Refused kind (Round round) why) = IsRoundRefused s i round kind why
 FitsRounds s i _ = Unit {0}
+
+-- the entries of an event, each in the state that those before it leave
+abbrev pub FitAll : State → List Entry → Type 0
+FitAll s [] = Unit {0}
+FitAll s (e ∷ es) = FitsRounds s e.node e.what × FitAll (after s e) es
+
+-- What an account has of a node's rounds: the parts with which it came, and how many results it was told.
+abbrev pub part_in : What → List Part
+part_in (what.Come part) = part ∷ []
+part_in _ = []
+
+abbrev pub is_mixed : Refusal → Bool
+is_mixed Mixed = true
+is_mixed _ = false
+
+abbrev pub is_result : What → Bool
+is_result (what.Came round fold) = true
+is_result (what.Refused kind place why) = is_mixed why
+is_result _ = false
+
+abbrev pub parts_brought : ℕ → List Entry → List Part
+parts_brought i [] = []
+parts_brought i (e ∷ es) = if e.node == i then part_in e.what ++ parts_brought i es else parts_brought i es
+
+abbrev pub results_told : ℕ → List Entry → ℕ
+results_told i [] = 0
+results_told i (e ∷ es) = if (e.node == i) && is_result e.what then 1 + results_told i es else results_told i es
