@@ -1,0 +1,5 @@
+mod Costs
+mod Credits
+mod Deeds
+mod Homes
+mod Sides

@@ -1,0 +1,7 @@
+//! The theorems.
+ghost use Rattle.std.specs.Prelude.{ℕ};
+
+/// Nothing yet.
+pub fn nothing_yet()
+    ensures { ℕ }
+{}
