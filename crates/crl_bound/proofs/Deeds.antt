@@ -108,10 +108,10 @@ written_as j d n name after f counts e may = go (n.sections.records name) refl (
         record { mapping = m; mapped = mapped; size = eqb-true (length after) (length (bytes_at name n.sections)) same ∙ bytes ∙ fits.0 }
 
 -- Copies.
-home_pieces : (P : Name → ℕ) (k : ℕ) (es : List Entry) (j : ℕ) (d : Name → List ℕ) (n : Node) (name : Name) (h : Home) → home_of n name ≡ Some h → Fits j n d → Facts P k es n → count (length h.bytes) ≡ P name
+pub home_pieces : (P : Name → ℕ) (k : ℕ) (es : List Entry) (j : ℕ) (d : Name → List ℕ) (n : Node) (name : Name) (h : Home) → home_of n name ≡ Some h → Fits j n d → Facts P k es n → count (length h.bytes) ≡ P name
 home_pieces P k es j d n name h is f x = ap count (home_bytes j d n name h is f) ∙ sym (x.home name h is)
 
-serves_credit : (P : Name → ℕ) (nodes k : ℕ) (es : List Entry) (j : ℕ) (d : Name → List ℕ) (n : Node) (h : Home) (from : ℕ) (m : Kind) (name : Name) (s : HomeStep) → Serves n h from m name s → home_of n name ≡ Some h → Fits j n d → Facts P k es n → HomeCredit (P name) n.me h s (token_kind P nodes m)
+pub serves_credit : (P : Name → ℕ) (nodes k : ℕ) (es : List Entry) (j : ℕ) (d : Name → List ℕ) (n : Node) (h : Home) (from : ℕ) (m : Kind) (name : Name) (s : HomeStep) → Serves n h from m name s → home_of n name ≡ Some h → Fits j n d → Facts P k es n → HomeCredit (P name) n.me h s (token_kind P nodes m)
 serves_credit P nodes k es j d n h from m name s (ask_comes y q write have free) is f x = asked_credits (P q) n.me (record { node = from; write = write; have = have }) h (home_pieces P k es j d n q h is f x)
 serves_credit P nodes k es j d n h from m name s (copy_returns y q version bytes fits) is f x = returned_credits (P q) n.me from version bytes h (home_pieces P k es j d n q h is f x) (x.home q h is) fits
 serves_credit P nodes k es j d n h from m name s (copy_lowers y q version bytes fits) is f x = released_credits (P q) n.me from version bytes h (x.home q h is) fits
@@ -121,7 +121,7 @@ serves_goes n h from k name s (ask_comes f q write have free) away b = asked_goe
 serves_goes n h from k name s (copy_returns f q version bytes fits) away b = returned_goes n.me from version bytes h b fits
 serves_goes n h from k name s (copy_lowers f q version bytes fits) away b = released_goes n.me from version bytes h b fits
 
-home_end_credit : (P : Name → ℕ) (k : ℕ) (es : List Entry) (j : ℕ) (d : Name → List ℕ) (n : Node) (c : Call) (name : Name) (w : What) (ends : Home → HomeStep) (lowers : Remote → RemoteStep) (h : Home) → EndsCall (bytes_at name n.sections) n c name w ends lowers → is_call n c (verdict n c) ≡ true
+pub home_end_credit : (P : Name → ℕ) (k : ℕ) (es : List Entry) (j : ℕ) (d : Name → List ℕ) (n : Node) (c : Call) (name : Name) (w : What) (ends : Home → HomeStep) (lowers : Remote → RemoteStep) (h : Home) → EndsCall (bytes_at name n.sections) n c name w ends lowers → is_call n c (verdict n c) ≡ true
     → home_of n name ≡ Some h → Fits j n d → Facts P k es n → HomeCredit (P name) n.me h (ends h) 0
 home_end_credit P k es j d n c name w ends lowers h (a_read q e) may is f x = read_credits (P q) n.me h (home_pieces P k es j d n q h is f x)
 home_end_credit P k es j d n c name w ends lowers h (a_write q after e) may is f x =
@@ -290,7 +290,7 @@ parts_more m (suc k) from parts p = go (from == m) refl (parts_more (m + 1) k fr
         let here : there (at_node parts from (Some p) m) ≡ 1 = ap there (cond-true (from == m) (Some p) (parts m) x) in omega arith
     go false x rest = let here : there (at_node parts from (Some p) m) ≡ there (parts m) = ap there (cond-false (from == m) (Some p) (parts m) x) in omega arith
 
-parts_none : (m k : ℕ) → parts_credit m k no_parts ≡ 0
+pub parts_none : (m k : ℕ) → parts_credit m k no_parts ≡ 0
 parts_none m zero = refl
 parts_none m (suc k) = let h = parts_none (m + 1) k in omega arith
 
