@@ -1,19 +1,18 @@
 -- What all nodes have sent, and may still send, is at most what the calls have paid.
-use Rattle.std.proofs.Common.{◌≡◌, ℕ, zero, suc, ◌+◌, ◌-◌, ◌*◌, ◌≤◌, ◌<◌, ◌==◌, Bool, true, false, None, Some, Option, List, [], ◌∷◌, ◌++◌, length, if◌then◌else◌, refl, ap, sym, ◌∙◌, subst, arith}
+use Rattle.std.proofs.Common.{◌≡◌, ℕ, zero, suc, ◌+◌, ◌≤◌, ◌<◌, ◌==◌, Bool, true, false, Some, List, [], ◌∷◌, refl, ap, sym, ◌∙◌, arith}
 use Rattle.std.proofs.Math.Logic.{◌⊎◌, inl, inr}
 use Rattle.std.proofs.lemmas.Bool.{cond_both, cond-true, cond-false, eqb-true, eqb-false, eq-eqb, ne_eqb, cases_lt}
 use Rattle.crl_model.specs.declared.name.Name.{Name}
 use Rattle.crl_model.specs.declared.event.Event.{Event}
-use Rattle.crl_model.specs.declared.message.Message.{Message}
 use Rattle.crl_model.specs.Names.{at_node}
 use Rattle.crl_protocol.specs.Parcels.{Piece, pieces_in}
 use Rattle.crl_protocol.specs.Places.{Took}
 use Rattle.crl_protocol.specs.Node.{Node, Outcome}
 use Rattle.crl_protocol.specs.World.{World, note, put_in, commits, steps_node, carries}
 use Rattle.crl_deeds.proofs.Turning.{Frame}
-use Rattle.crl_deeds.proofs.Totals.{on_piece, weigh, weigh_append, weigh_took, weighs, sum_from, sum, sum_with}
+use Rattle.crl_deeds.proofs.Totals.{on_piece, weigh_append, weigh_took, weighs, sum_from, sum, sum_with}
 use Rattle.crl_bound.proofs.Costs.{token, cost, whole_all}
-use Rattle.crl_bound.proofs.Credits.{name_credit, fixed_credit, sum_names, Distinct, Covers, covers}
+use Rattle.crl_bound.proofs.Credits.{name_credit, fixed_credit, sum_names, Distinct, covers}
 use Rattle.crl_bound.proofs.Deeds.{Paid}
 
 -- of a node, with so many names of its regions
@@ -70,7 +69,7 @@ budget_outcome P w j n e o came more budget few mes frame me posted before paid 
         ap (λ (qs : List Name). (w.nodes m).posted + boxes P w.count (w.nodes m) + fixed_credit P (w.nodes m) + sum_names (name_credit P (w.nodes m)) qs) e
 
 -- a piece that is carried
-sum_past : (f : Node → ℕ) (i k j : ℕ) (nodes : ℕ → Node) (n : Node) → i + k ≤ j → sum_from f i k (at_node nodes j n) ≡ sum_from f i k nodes
+pub sum_past : (f : Node → ℕ) (i k j : ℕ) (nodes : ℕ → Node) (n : Node) → i + k ≤ j → sum_from f i k (at_node nodes j n) ≡ sum_from f i k nodes
 sum_past f i zero j nodes n h = refl
 sum_past f i (suc k) j nodes n h =
     let t = sum_past f (i + 1) k j nodes n (omega arith) in

@@ -1,5 +1,5 @@
 -- What messages cost: the pieces that are sent, and what those under way may still make their addressee send.
-use Rattle.std.proofs.Common.{◌≡◌, ℕ, zero, suc, ◌+◌, ◌-◌, ◌*◌, ◌/◌, ◌≤◌, ◌<◌, ◌==◌, Bool, true, false, ◌||◌, not, None, Some, Option, List, [], ◌∷◌, ◌++◌, length, drop, if◌then◌else◌, refl, ap, sym, ◌∙◌, subst, arith}
+use Rattle.std.proofs.Common.{◌≡◌, ℕ, zero, suc, ◌+◌, ◌-◌, ◌*◌, ◌≤◌, None, Some, List, [], ◌∷◌, ◌++◌, length, drop, refl, ap, ◌∙◌, arith}
 use Rattle.crl_model.specs.declared.name.Name.{Name}
 use Rattle.crl_model.specs.declared.message.Granted.{Granted}
 use Rattle.crl_model.specs.declared.message.Granted.TheVariants.{Shared, Exclusive, Upgrade}
@@ -7,8 +7,8 @@ use Rattle.crl_model.specs.declared.message.Message.{Message}
 use Rattle.crl_model.specs.declared.message.Kind.{Kind}
 use Rattle.crl_model.specs.declared.message.Kind.TheVariants as kind
 use Rattle.crl_pieces.specs.declared.TheConstants.{PIECE_LEN}
-use Rattle.crl_pieces.specs.Pieces.{count, cut, cut_in, Cell, fresh, left_from}
-use Rattle.crl_protocol.specs.Parcels.{Piece, load_of, with_load, piece_of, pieces_of, pieces_in, grant_with, return_with, Key, key_in}
+use Rattle.crl_pieces.specs.Pieces.{count, cut, cut_in, fresh, left_from}
+use Rattle.crl_protocol.specs.Parcels.{load_of, with_load, piece_of, pieces_of, pieces_in, Key, key_in}
 use Rattle.crl_protocol.specs.Mail.{Mail, Ask, Grant, Recall, Yield, Return, Release, Letter, kind_about}
 use Rattle.crl_protocol.specs.Node.{Node, letter_messages, mail_messages, message_to}
 use Rattle.crl_deeds.proofs.Totals.{on_piece, weigh, weigh_append, weighs}

@@ -1,23 +1,21 @@
 -- What a node may still send, by names: a step changes it at one name.
-use Rattle.std.proofs.Common.{◌≡◌, ℕ, zero, suc, ◌+◌, ◌-◌, ◌*◌, ◌≤◌, ◌<◌, ◌==◌, Bool, true, false, None, Some, Option, List, [], ◌∷◌, ◌++◌, if◌then◌else◌, refl, ap, sym, ◌∙◌, subst, arith}
+use Rattle.std.proofs.Common.{◌≡◌, ℕ, zero, suc, ◌+◌, ◌-◌, ◌*◌, ◌≤◌, ◌==◌, Bool, true, false, None, Some, Option, List, [], ◌∷◌, ◌++◌, if◌then◌else◌, refl, ap, sym, ◌∙◌, subst, arith}
 use Rattle.std.specs.List.{AllByRecursion}
-use Rattle.std.proofs.lemmas.Bool.{cond_both, cond-true, cond-false, eqb-true, eqb-false, eq-eqb}
+use Rattle.std.proofs.lemmas.Bool.{cond_both, cond-true, cond-false}
 use Rattle.crl_model.specs.declared.name.Name.{Name}
 use Rattle.crl_model.specs.declared.collective.Part.{Part}
 use Rattle.crl_model.specs.declared.stage.Stage.{Stage}
 use Rattle.crl_model.specs.declared.stage.Stage.TheVariants as stage
-use Rattle.crl_model.specs.declared.message.Message.{Message}
 use Rattle.crl_model.specs.Names.{name_eq, at_name, at_node}
 use Rattle.crl_protocol.specs.Home.{Home, HomeStep, new_home}
 use Rattle.crl_protocol.specs.Remote.{Remote, RemoteStep, remote_flushes}
 use Rattle.crl_protocol.specs.Lifetimes.{Lifetime, new_lifetime}
-use Rattle.crl_protocol.specs.Gathering.{Gathering}
 use Rattle.crl_protocol.specs.Node.{Node, Activity, Waiting, ForSection, is_mine, home_of, lifetime_of, with_home, with_remote, with_lifetime, next_name, serials_used, letter_messages, mail_messages}
 use Rattle.crl_protocol.specs.Calls.{creates}
 use Rattle.crl_deeds.proofs.Fitting.{same_name, name_self, CopyFits}
-use Rattle.crl_deeds.proofs.Tabling.{home_put, home_end, home_next, home_none, lifetime_put}
+use Rattle.crl_deeds.proofs.Tabling.{home_put, home_end, home_none, lifetime_put}
 use Rattle.crl_deeds.specs.Deeds.{parting, forgotten}
-use Rattle.crl_bound.proofs.Costs.{cost, letters_cost, mails_cost, cost_letters, cost_mails}
+use Rattle.crl_bound.proofs.Costs.{cost, cost_letters, cost_mails}
 use Rattle.crl_bound.proofs.Homes.{table_credit, HomeCredit, new_credit}
 use Rattle.crl_bound.proofs.Sides.{side_credit, SideCredit, flush_credits}
 use Rattle.crl_pieces.specs.Pieces.{count}
@@ -121,9 +119,9 @@ home_moved P nodes n name h s slack is c = record {
   name = name;
   others = λ q x. (let e : table_credit (P q) n.me (home_of (with_home name s.home n) q) ≡ table_credit (P q) n.me (home_of n q) = ap (table_credit (P q) n.me) (home_put n name h s.home is q ∙ cond-false (name_eq name q) (Some s.home) (home_of n q) x) in omega arith);
   own = (let e : table_credit (P name) n.me (home_of (with_home name s.home n) name) ≡ table_credit (P name) n.me (Some s.home) = ap (table_credit (P name) n.me) (home_put n name h s.home is name ∙ cond-true (name_eq name name) (Some s.home) (home_of n name) (name_self name)) in
-  let f : table_credit (P name) n.me (home_of n name) ≡ table_credit (P name) n.me (Some h) = ap (table_credit (P name) n.me) is in
-  let paid = c.credit in
-  let sent = cost_letters P nodes n name s.posts in omega arith);
+      let f : table_credit (P name) n.me (home_of n name) ≡ table_credit (P name) n.me (Some h) = ap (table_credit (P name) n.me) is in
+      let paid = c.credit in
+      let sent = cost_letters P nodes n name s.posts in omega arith);
 }
 
 pub side_put : (P : Name → ℕ) (n : Node) (name q : Name) (o : Option Remote) → name_eq name q ≡ false → side_credit (P q) ((with_remote name o n).remotes q) ≡ side_credit (P q) (n.remotes q)
@@ -138,8 +136,8 @@ side_moved P nodes n name r s slack is c = record {
   name = name;
   others = λ q x. (let e = side_put P n name q (Some s.remote) x in omega arith);
   own = (let e = side_there P n name (Some s.remote) in
-  let f : side_credit (P name) (n.remotes name) ≡ side_credit (P name) (Some r) = ap (side_credit (P name)) is in
-  let sent = cost_mails P nodes n name s.posts in omega arith);
+      let f : side_credit (P name) (n.remotes name) ≡ side_credit (P name) (Some r) = ap (side_credit (P name)) is in
+      let sent = cost_mails P nodes n name s.posts in omega arith);
 }
 
 pub forget_moved : (P : Name → ℕ) (nodes : ℕ) (n : Node) (name : Name) (o : Option Remote) → n.remotes name ≡ o → ((r : Remote) → o ≡ Some r → CopyFits r.copy r.size × (P name ≡ count r.size))
@@ -155,8 +153,8 @@ forget_moved P nodes n name (Some r) is fits =
       name = name;
       others = λ q x. (let e = side_put P n name q None x in omega arith);
       own = (let e = side_there P n name None in
-      let g : side_credit (P name) (n.remotes name) ≡ side_credit (P name) (Some r) = ap (side_credit (P name)) is in
-      let sent = cost_mails P nodes n name (remote_flushes r).posts in omega arith);
+          let g : side_credit (P name) (n.remotes name) ≡ side_credit (P name) (Some r) = ap (side_credit (P name)) is in
+          let sent = cost_mails P nodes n name (remote_flushes r).posts in omega arith);
     }
 
 pub stage_moved : (P : Name → ℕ) (n : Node) (name : Name) (lifetime : Lifetime) (s t : Stage) (spent slack : ℕ) → is_mine n name ≡ true → (lifetime_of n name).stage ≡ s → lifetime.stage ≡ t → stage_credit n.me t + spent ≤ stage_credit n.me s + slack
@@ -165,7 +163,7 @@ stage_moved P n name lifetime s t spent slack mine was now h = record {
   name = name;
   others = λ q x. (let e : stage_credit n.me (lifetime_of (with_lifetime name lifetime n) q).stage ≡ stage_credit n.me (lifetime_of n q).stage = ap (λ (l : Lifetime). stage_credit n.me l.stage) (lifetime_put n name lifetime mine q ∙ cond-false (name_eq name q) lifetime (lifetime_of n q) x) in omega arith);
   own = (let e : stage_credit n.me (lifetime_of (with_lifetime name lifetime n) name).stage ≡ stage_credit n.me t = ap (λ (l : Lifetime). stage_credit n.me l.stage) (lifetime_put n name lifetime mine name ∙ cond-true (name_eq name name) lifetime (lifetime_of n name) (name_self name)) ∙ ap (stage_credit n.me) now in
-  let f : stage_credit n.me (lifetime_of n name).stage ≡ stage_credit n.me s = ap (stage_credit n.me) was in omega arith);
+      let f : stage_credit n.me (lifetime_of n name).stage ≡ stage_credit n.me s = ap (stage_credit n.me) was in omega arith);
 }
 
 made_stage : (n : Node) (size : ℕ) (q : Name) → stage_credit n.me (lifetime_of (creates size n).node q).stage ≤ stage_credit n.me (lifetime_of n q).stage
@@ -182,10 +180,10 @@ made_moved P n size slack =
     record {
       name = name;
       others = λ q x. (let e : table_credit (P q) n.me (home_of (creates size n).node q) ≡ table_credit (P q) n.me (home_of n q) = ap (table_credit (P q) n.me) (at q ∙ cond-false (name_eq name q) (Some (new_home n.nodes size)) (home_of n q) x) in
-      let s = made_stage n size q in omega arith);
+          let s = made_stage n size q in omega arith);
       own = (let e : table_credit (P name) n.me (home_of (creates size n).node name) ≡ table_credit (P name) n.me (Some (new_home n.nodes size)) = ap (table_credit (P name) n.me) (at name ∙ cond-true (name_eq name name) (Some (new_home n.nodes size)) (home_of n name) (name_self name)) in
-      let none = new_credit (P name) n.me n.nodes size in
-      let s = made_stage n size name in omega arith);
+          let none = new_credit (P name) n.me n.nodes size in
+          let s = made_stage n size name in omega arith);
     }
 
 pub used_moved : (P : Name → ℕ) (n : Node) (slack : ℕ) → Moved (name_credit P n) (name_credit P (record n { homes = n.homes ++ None ∷ [] })) 0 slack

@@ -1,8 +1,7 @@
 -- What each deed sends is paid: by the call, by what came, or by what the node had.
-use Rattle.std.proofs.Common.{◌≡◌, ℕ, zero, suc, ◌+◌, ◌-◌, ◌*◌, ◌≤◌, ◌<◌, ◌==◌, Bool, true, false, not, None, Some, Option, List, [], ◌∷◌, ◌++◌, map, length, if◌then◌else◌, refl, ap, sym, ◌∙◌, subst, arith}
+use Rattle.std.proofs.Common.{◌≡◌, ℕ, zero, suc, ◌+◌, ◌-◌, ◌*◌, ◌≤◌, ◌<◌, ◌==◌, Bool, true, false, not, None, Some, Option, List, [], ◌∷◌, map, length, if◌then◌else◌, refl, ap, sym, ◌∙◌, subst, arith}
 use Rattle.std.proofs.lemmas.Bool.{cond_both, cond-true, cond-false, eqb-true, eqb-false, eq-eqb, ne_eqb}
 use Rattle.crl_model.specs.declared.name.Name.{Name}
-use Rattle.crl_model.specs.declared.stage.Stage.{Stage}
 use Rattle.crl_model.specs.declared.stage.Stage.TheVariants as stage
 use Rattle.crl_model.specs.declared.collective.Part.{Part}
 use Rattle.crl_model.specs.declared.collective.Fold.{Fold}
@@ -10,7 +9,6 @@ use Rattle.crl_model.specs.declared.call.Call.{Call}
 use Rattle.crl_model.specs.declared.call.Call.TheVariants as call
 use Rattle.crl_model.specs.declared.entry.Entry.{Entry}
 use Rattle.crl_model.specs.declared.entry.What.{What}
-use Rattle.crl_model.specs.declared.message.Message.{Message}
 use Rattle.crl_model.specs.declared.message.Kind.{Kind}
 use Rattle.crl_model.specs.declared.message.Kind.TheVariants as kind
 use Rattle.crl_model.specs.Names.{at_node}
@@ -18,8 +16,8 @@ use Rattle.crl_model.specs.FoldOf.{fold_of}
 use Rattle.crl_pieces.specs.Pieces.{count}
 use Rattle.crl_protocol.specs.Home.{Home, HomeStep}
 use Rattle.crl_protocol.specs.Remote.{Remote, RemoteStep}
-use Rattle.crl_protocol.specs.Lifetimes.{Mapping, Lifetime, members, members_from}
-use Rattle.crl_protocol.specs.Gathering.{Gathering, with_part, all_parts, no_parts}
+use Rattle.crl_protocol.specs.Lifetimes.{Mapping, members, members_from}
+use Rattle.crl_protocol.specs.Gathering.{with_part, all_parts, no_parts}
 use Rattle.crl_protocol.specs.Sections.{OpenSection, section_at, section_of, section_bytes, bytes_at, is_writing}
 use Rattle.crl_protocol.specs.Node.{Node, ForSection, Activity, Free, Waiting, Outcome, is_mine, home_of, lifetime_of, map_count, message_to, mail_messages, letter_messages}
 use Rattle.crl_protocol.specs.Calls.{results_from, results}
@@ -29,16 +27,15 @@ use Rattle.crl_model.specs.declared.call.Refusal.TheVariants as refusal
 use Rattle.crl_protocol.specs.World.{is_call}
 use Rattle.crl_protocol.specs.Talk.{created_pieces, bound_of}
 use Rattle.crl_deeds.proofs.Fitting.{IsAway, Leaves, RecordFits, CopyFits, Fits}
-use Rattle.crl_deeds.proofs.Handling.{waits_own, waits_granted}
+use Rattle.crl_deeds.proofs.Handling.{waits_granted}
 use Rattle.crl_deeds.proofs.Serving.{HomeGoes, asked_goes, returned_goes, released_goes}
-use Rattle.crl_deeds.proofs.Outcomes.{not_mine, home_bytes, remote_bytes, queue_of, asking_of, mapped_home, mapped_remote}
-use Rattle.crl_deeds.proofs.Mapping.{going_own}
+use Rattle.crl_deeds.proofs.Outcomes.{not_mine, home_bytes, remote_bytes, asking_of, mapped_home, mapped_remote}
 use Rattle.crl_deeds.proofs.Counting.{Counts}
 use Rattle.crl_deeds.proofs.Turning.{Came}
-use Rattle.crl_deeds.specs.Deeds.{FreeIf, Cause, Calls, Hears, parting, StartsCall, to_read, to_write, EndsCall, a_read, a_write, Serves, ask_comes, copy_returns, copy_lowers, CallsBack, wholly, to_share, Copies, home_opens, home_waits, side_opens, side_waits, home_ends, side_ends, side_flushes, home_serves, home_serves_own, grant_comes, side_called, Lives, made, used_up, maps_more, maps_own, maps_cached, map_asks, map_told, map_refused, map_comes, map_denied, unmaps_one, unmaps_own, unmaps_doomed, unmaps_keeping, unmaps_evicting, deletes_alone, deletes_own, delete_asks, deletes_alone_for, deletes_for, delete_refused, delete_comes, dooms, drops, warns, counts_off, ends_own, ends_for, Rounds, comes_away, comes_home, comes_last, part_comes, part_last, part_last_idle, result_comes, Notes, ends_nowhere, Deed, copies, lives, rounds, notes, refuses, idles}
-use Rattle.crl_bound.proofs.Costs.{token_kind, token, cost, cost_append, cost_more, cost_one, one_piece}
+use Rattle.crl_deeds.specs.Deeds.{FreeIf, Cause, Calls, Hears, parting, StartsCall, to_read, to_write, EndsCall, a_read, a_write, Serves, ask_comes, copy_returns, copy_lowers, CallsBack, wholly, to_share, Copies, home_opens, home_waits, side_opens, side_waits, home_ends, side_ends, side_flushes, home_serves, home_serves_own, grant_comes, side_called, Lives, made, used_up, map_asks, map_told, map_refused, map_comes, map_denied, unmaps_doomed, unmaps_evicting, deletes_alone, deletes_own, delete_asks, deletes_alone_for, deletes_for, delete_refused, delete_comes, dooms, drops, warns, counts_off, ends_own, ends_for, Rounds, comes_away, comes_home, comes_last, part_comes, part_last, part_last_idle, result_comes, Notes, ends_nowhere, Deed, copies, lives, rounds, notes, refuses, idles}
+use Rattle.crl_bound.proofs.Costs.{token_kind, cost, cost_append, cost_more, cost_one, one_piece}
 use Rattle.crl_bound.proofs.Homes.{HomeCredit, asked_credits, returned_credits, released_credits, started_credits, read_credits, write_credits}
-use Rattle.crl_bound.proofs.Sides.{SideCredit, IsExclusive, side_credit, recall_credits, yield_credits, flush_credits, read_end_credits, write_end_credits, start_credits, open_credits, grant_credits}
+use Rattle.crl_bound.proofs.Sides.{SideCredit, IsExclusive, recall_credits, yield_credits, flush_credits, read_end_credits, write_end_credits, start_credits, open_credits, grant_credits}
 use Rattle.crl_bound.proofs.Credits.{name_credit, wait_credit, there, parts_credit, fixed_credit, stage_credit, Moved, still_moved, home_moved, side_moved, forget_moved, stage_moved, made_moved, used_moved}
 
 -- what is known of the node: the numbers of pieces are those of its tables and copies, and who writes has an exclusive copy
@@ -116,7 +113,7 @@ serves_credit P nodes k es j d n h from m name s (ask_comes y q write have free)
 serves_credit P nodes k es j d n h from m name s (copy_returns y q version bytes fits) is f x = returned_credits (P q) n.me from version bytes h (home_pieces P k es j d n q h is f x) (x.home q h is) fits
 serves_credit P nodes k es j d n h from m name s (copy_lowers y q version bytes fits) is f x = released_credits (P q) n.me from version bytes h (x.home q h is) fits
 
-serves_goes : (n : Node) (h : Home) (from : ℕ) (k : Kind) (name : Name) (s : HomeStep) → Serves n h from k name s → IsAway from n.me k → length h.bytes ≡ h.size → HomeGoes n.me h s
+pub serves_goes : (n : Node) (h : Home) (from : ℕ) (k : Kind) (name : Name) (s : HomeStep) → Serves n h from k name s → IsAway from n.me k → length h.bytes ≡ h.size → HomeGoes n.me h s
 serves_goes n h from k name s (ask_comes f q write have free) away b = asked_goes n.me (record { node = from; write = write; have = have }) h away b
 serves_goes n h from k name s (copy_returns f q version bytes fits) away b = returned_goes n.me from version bytes h b fits
 serves_goes n h from k name s (copy_lowers f q version bytes fits) away b = released_goes n.me from version bytes h b fits

@@ -1,12 +1,11 @@
 -- Each event of a run by its kind: what a node does at a call, at a message, with a piece, with an answer; or a piece that
 -- is carried.
-use Rattle.std.proofs.Common.{◌≡◌, ℕ, zero, suc, ◌+◌, ◌<◌, ◌==◌, ◌&&◌, true, None, Some, Option, List, [], ◌∷◌, length, refl, sym, subst, arith}
+use Rattle.std.proofs.Common.{◌≡◌, ℕ, zero, suc, ◌<◌, ◌&&◌, true, None, Some, Option, List, [], ◌∷◌, length, refl, sym, subst, arith}
 use Rattle.std.specs.Prelude.{nat_lt}
 use Rattle.std.proofs.lemmas.Bool.{cond_both, and_parts, ltb-true}
 use Rattle.crl_model.specs.declared.call.Call.{Call}
 use Rattle.crl_model.specs.declared.event.Event.{Event}
 use Rattle.crl_model.specs.declared.event.Event.TheVariants as event
-use Rattle.crl_model.specs.declared.message.Message.{Message}
 use Rattle.crl_model.specs.declared.message.Kind.{Kind}
 use Rattle.crl_model.specs.declared.message.Kind.TheVariants as kind
 use Rattle.crl_model.specs.declared.message.Granted.TheVariants.{Shared, Exclusive, Upgrade}
@@ -18,7 +17,7 @@ use Rattle.crl_protocol.specs.Node.{Node, Answer, Done, Activity, Free, Waiting,
 use Rattle.crl_protocol.specs.Calls.{node_calls}
 use Rattle.crl_protocol.specs.Handlers.{node_handles}
 use Rattle.crl_protocol.specs.Verdict.{verdict}
-use Rattle.crl_protocol.specs.World.{World, WorldStep, is_call, collects, carries, steps_node, handles_at, stays, step, is_free, is_ready, is_enabled, noted_call}
+use Rattle.crl_protocol.specs.World.{World, WorldStep, is_call, collects, carries, steps_node, handles_at, step, is_free, is_ready, is_enabled, noted_call}
 use Rattle.crl_deeds.specs.Deeds.{Calls, Hears, Deed}
 use Rattle.crl_deeds.proofs.Deeding.{call_deed}
 use Rattle.crl_deeds.proofs.Hearing.{message_deed}

@@ -1,8 +1,7 @@
 -- What a region's table may make its home send: Serve's credit is the work.
-use Rattle.std.proofs.Common.{◌≡◌, ℕ, zero, suc, ◌+◌, ◌-◌, ◌*◌, ◌/◌, ◌≤◌, ◌<◌, ◌==◌, Bool, true, false, ◌&&◌, ◌||◌, not, None, Some, Option, List, [], ◌∷◌, ◌++◌, length, replicate, if◌then◌else◌, refl, ap, sym, ◌∙◌, subst, arith}
+use Rattle.std.proofs.Common.{◌≡◌, ℕ, zero, suc, ◌+◌, ◌≤◌, ◌==◌, Bool, true, false, ◌&&◌, not, None, Some, Option, List, [], ◌∷◌, ◌++◌, length, replicate, if◌then◌else◌, refl, ap, sym, ◌∙◌, arith}
 use Rattle.std.proofs.lemmas.Bool.{cond_both, and_parts, eqb-true, cond-true, cond-false}
 use Rattle.crl_model.specs.declared.directory.Section.{Section}
-use Rattle.crl_model.specs.declared.directory.Mark.{Mark}
 use Rattle.crl_model.specs.declared.directory.Mark.TheVariants.{Plain, Recalled, Yielding}
 use Rattle.crl_model.specs.declared.directory.Listing.{Listing}
 use Rattle.crl_model.specs.declared.directory.Asked.{Asked}
@@ -94,10 +93,10 @@ serves p me h (ask ∷ queue) e = go (is_servable h ask) (ask.node == me) refl (
     go true false w x y = record {
       size = y.size;
       credit = (let c = y.credit in
-      let put = listed_put ask.node (Some (record { exclusive = ask.write; version = h.last + 1; mark = Plain })) h.listed in
-      let sent = granted_cost p (at ask.node h.listed) ask.write h.bytes e in
-      let paid : asked_credit p me ask ≡ 2 + p = cond-false (ask.node == me) _ _ w in
-      let most = at_most ask.write in omega arith);
+          let put = listed_put ask.node (Some (record { exclusive = ask.write; version = h.last + 1; mark = Plain })) h.listed in
+          let sent = granted_cost p (at ask.node h.listed) ask.write h.bytes e in
+          let paid : asked_credit p me ask ≡ 2 + p = cond-false (ask.node == me) _ _ w in
+          let most = at_most ask.write in omega arith);
     }
       where
         at_most : (b : Bool) → one_if b ≤ 1

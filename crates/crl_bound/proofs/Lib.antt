@@ -1,10 +1,12 @@
 mod Budgets
 mod Costs
+mod Counters
 mod Credits
 mod Deeds
 mod Events
 mod Homes
 pub mod Laws
+mod Numbers
 mod Posts
 mod Runs
 mod Sides

@@ -1,5 +1,5 @@
 -- A deed leaves the counts of what was sent and recorded as they are.
-use Rattle.std.proofs.Common.{◌≡◌, ℕ, refl}
+use Rattle.std.proofs.Common.{◌≡◌, refl}
 use Rattle.crl_model.specs.declared.call.Call.{Call}
 use Rattle.crl_model.specs.declared.entry.What.{What}
 use Rattle.crl_protocol.specs.Node.{Node, Outcome}

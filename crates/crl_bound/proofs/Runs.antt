@@ -1,30 +1,27 @@
 -- Of every run: what is sent is at most what its calls pay.
-use Rattle.std.proofs.Common.{◌≡◌, ℕ, zero, suc, ◌+◌, ◌-◌, ◌*◌, ◌≤◌, ◌<◌, ◌==◌, Bool, true, false, None, Some, Option, List, [], ◌∷◌, ◌++◌, length, if◌then◌else◌, refl, ap, sym, ◌∙◌, subst, arith}
-use Rattle.std.proofs.lemmas.Bool.{cond_both, cond-true, cond-false, eqb-true, eqb-false, eq-eqb}
+use Rattle.std.proofs.Common.{◌≡◌, ℕ, zero, suc, ◌+◌, ◌-◌, ◌≤◌, ◌<◌, ◌==◌, Bool, true, false, None, Some, Option, List, [], ◌∷◌, ◌++◌, if◌then◌else◌, refl, ap, sym, ◌∙◌, subst, arith}
+use Rattle.std.proofs.lemmas.Bool.{cond_both, eqb-true}
 use Rattle.crl_model.specs.declared.name.Name.{Name}
 use Rattle.crl_model.specs.declared.directory.Section.{Section}
 use Rattle.crl_model.specs.declared.directory.Section.TheVariants as section
-use Rattle.crl_model.specs.declared.call.Call.{Call}
 use Rattle.crl_model.specs.declared.entry.Entry.{Entry}
 use Rattle.crl_model.specs.declared.event.Event.{Event}
 use Rattle.crl_model.specs.declared.event.Event.TheVariants as event
-use Rattle.crl_model.specs.declared.message.Message.{Message}
 use Rattle.crl_model.specs.Names.{at_node}
 use Rattle.crl_pieces.specs.Pieces.{count}
 use Rattle.crl_protocol.specs.Home.{Home}
-use Rattle.crl_protocol.specs.Remote.{Copy, Remote}
+use Rattle.crl_protocol.specs.Remote.{Copy}
 use Rattle.crl_protocol.specs.Lifetimes.{Lifetime}
-use Rattle.crl_protocol.specs.Sections.{section_at, is_writing}
+use Rattle.crl_protocol.specs.Sections.{is_writing}
 use Rattle.crl_protocol.specs.Parcels.{Piece, with_load, PartsGathered}
-use Rattle.crl_protocol.specs.Places.{Took, at}
 use Rattle.crl_protocol.specs.Node.{Node, new_node, Done, Free, Outcome, only, is_mine, home_of, at_serial}
 use Rattle.crl_protocol.specs.Talk.{created_size, pieces_or_one, created_pieces, bound_of, bound_at, bound_from, bound}
 use Rattle.crl_protocol.specs.World.{World, WorldStep, new_world, note, put_in, steps_node, carries, step, is_enabled, IsRunFrom, world_after, account_from, account, world_of, messages_sent, messages_sent_from}
 use Rattle.crl_deeds.proofs.Fitting.{Leaves, ComesIn, Fits}
 use Rattle.crl_deeds.proofs.Sound.{away_load}
 use Rattle.crl_deeds.proofs.Growing.{world_grows}
-use Rattle.crl_deeds.proofs.Turning.{Frame, Came, deed_frame, all_took, each_at}
-use Rattle.crl_deeds.proofs.Totals.{on_piece, weigh_took, sum_from, sum, sum_new}
+use Rattle.crl_deeds.proofs.Turning.{Came, deed_frame, all_took, each_at}
+use Rattle.crl_deeds.proofs.Totals.{on_piece, weigh_took, sum_from, sum_new}
 use Rattle.crl_deeds.proofs.Knowing.{Known, known_start, known_step}
 use Rattle.crl_deeds.specs.Deeds.{Cause, Calls, Hears, Deed}
 use Rattle.crl_coherence.specs.Pairs.{SectionFits}
@@ -33,10 +30,10 @@ use Rattle.crl_regions.proofs.Laws.{sides_in_runs}
 use Rattle.crl_bound.proofs.Costs.{token, token_part, token_keyed, count_some}
 use Rattle.crl_bound.proofs.Sides.{IsExclusive}
 use Rattle.crl_bound.proofs.Credits.{name_credit, parts_credit, fixed_credit, sum_names, Distinct, still_moved}
-use Rattle.crl_bound.proofs.Deeds.{Facts, MayCall, Paid, paid_deed, parts_none}
+use Rattle.crl_bound.proofs.Deeds.{Facts, Paid, paid_deed, parts_none}
 use Rattle.crl_bound.proofs.Events.{Happens, calls, hears, gathers, answers, carriage, happens}
-use Rattle.crl_bound.proofs.Budgets.{boxes, spends, Budget, budget_outcome, budget_carried}
-use Rattle.crl_bound.proofs.Tables.{table_size, size_at, Tables, first_of, created_append, first_none, table_deed, TableDeed, keeps_tables, tables_outcome}
+use Rattle.crl_bound.proofs.Budgets.{spends, Budget, budget_outcome, budget_carried}
+use Rattle.crl_bound.proofs.Tables.{table_size, size_at, Tables, first_of, created_append, first_none, table_deed, keeps_tables, tables_outcome}
 
 -- What is known of a world in a run whose regions have so many pieces.
 pub record Open (P : Name → ℕ) (w : World) (es : List Entry) : Type 0 where
@@ -103,7 +100,7 @@ pays P w es budget e v (calls i c noted o few free may d) x h =
     let mes : (k : ℕ) → (w.nodes k).me ≡ k = λ k. (x.known.fits k).me in
     record {
       budget_after = budget_outcome P w i (w.nodes i) noted o 0 (bound_of w.count es c) budget few mes (deed_frame _ _ _ d) (mes i) (posted_same _ _ o d) (λ names. (let y = names_me P w mes i names in omega arith))
-      (paid_deed P w.count es i (x.known.drafts i) (w.nodes i) (Calls c) o d (x.known.fits i) tt free may f) h;
+          (paid_deed P w.count es i (x.known.drafts i) (w.nodes i) (Calls c) o d (x.known.fits i) tt free may f) h;
       tables_after = tables_outcome w es i (w.nodes i) noted o (λ q. refl) (mes i) (table_deed P w.count es i (x.known.drafts i) (w.nodes i) (Calls c) o d (x.known.fits i) may f) x.tables;
     }
 pays P w es budget e v (hears i place p rest parcels part o few took d) x h =
@@ -130,7 +127,7 @@ pays P w es budget e v (gathers i place p rest parcels key few took keyed) x h =
     let none = token_keyed P w.count p.message.sender p.message.kind key keyed in
     record {
       budget_after = budget_outcome P w i n (event.Handle i place) (only n Done) 0 0 budget few mes (record { me = refl; nodes = refl; capacity = refl; inbox = refl; outbox = refl; parcels = refl }) (mes i) refl (λ names. (let y = names_me P w mes i names in omega arith))
-      (record { slack = 0; moved = still_moved (name_credit P n) 0 0 (omega arith); fixed = omega arith }) h;
+          (record { slack = 0; moved = still_moved (name_credit P n) 0 0 (omega arith); fixed = omega arith }) h;
       tables_after = tables_outcome w es i n (event.Handle i place) (only n Done) (λ q. refl) (mes i) (keeps_tables (λ q. refl) tt) x.tables;
     }
 pays P w es budget e v (answers i answer few ready) x h =
@@ -139,7 +136,7 @@ pays P w es budget e v (answers i answer few ready) x h =
     let mes : (k : ℕ) → (w.nodes k).me ≡ k = λ k. (x.known.fits k).me in
     record {
       budget_after = budget_outcome P w i n (event.Collect i) o 0 0 budget few mes (record { me = refl; nodes = refl; capacity = refl; inbox = refl; outbox = refl; parcels = refl }) (mes i) refl (λ names. (let y = names_me P w mes i names in omega arith))
-      (record { slack = 0; moved = still_moved (name_credit P n) 0 0 (omega arith); fixed = omega arith }) h;
+          (record { slack = 0; moved = still_moved (name_credit P n) 0 0 (omega arith); fixed = omega arith }) h;
       tables_after = tables_outcome w es i n (event.Collect i) o (λ q. refl) (mes i) (keeps_tables (λ q. refl) tt) x.tables;
     }
 pays P w es budget e v (carriage i place p rest few took) x h =

@@ -1,13 +1,13 @@
 -- What a node's copy of another node's region may make it send.
-use Rattle.std.proofs.Common.{◌≡◌, ℕ, zero, suc, ◌+◌, ◌-◌, ◌*◌, ◌/◌, ◌≤◌, ◌<◌, ◌==◌, nat_lt, Bool, true, false, ◌&&◌, ◌||◌, not, None, Some, Option, List, [], ◌∷◌, ◌++◌, length, if◌then◌else◌, refl, ap, sym, ◌∙◌, subst, arith}
-use Rattle.std.proofs.lemmas.Bool.{cond_both, and_parts, eqb-true, cond-true, cond-false}
+use Rattle.std.proofs.Common.{◌≡◌, ℕ, ◌+◌, ◌*◌, ◌≤◌, ◌==◌, nat_lt, Bool, true, false, ◌&&◌, ◌||◌, None, Some, Option, List, length, if◌then◌else◌, refl, ap, sym, ◌∙◌, arith}
+use Rattle.std.proofs.lemmas.Bool.{cond_both, and_parts, cond-true}
 use Rattle.crl_model.specs.declared.directory.Section.{Section}
 use Rattle.crl_model.specs.declared.directory.Section.TheVariants as section
 use Rattle.crl_model.specs.declared.message.Granted.{Granted}
 use Rattle.crl_model.specs.declared.message.Granted.TheVariants.{Shared, Exclusive, Upgrade}
 use Rattle.crl_pieces.specs.Pieces.{count}
-use Rattle.crl_protocol.specs.Home.{one_section_more, one_section_less}
-use Rattle.crl_protocol.specs.Remote.{Copy, Remote, RemoteStep, sends_nothing, without_copy, bytes_back, gives_back, lowers, remote_starts, starts_over, opens_here, asks_home, remote_takes_grant, copy_after_grant, notes_due, with_due, is_newer, overtakes, recall_in, recall_over, remote_takes_recall, yield_in, yield_over, remote_takes_yield, leaves_over, lowers_over, is_closed, remote_ends_read, with_written, remote_ends_write, flushes_over, remote_flushes}
+use Rattle.crl_protocol.specs.Home.{one_section_less}
+use Rattle.crl_protocol.specs.Remote.{Copy, Remote, RemoteStep, sends_nothing, gives_back, lowers, remote_starts, starts_over, opens_here, asks_home, remote_takes_grant, copy_after_grant, notes_due, is_newer, overtakes, recall_in, recall_over, remote_takes_recall, yield_in, yield_over, remote_takes_yield, leaves_over, lowers_over, is_closed, remote_ends_read, with_written, remote_ends_write, flushes_over, remote_flushes}
 use Rattle.crl_deeds.proofs.Fitting.{CopyFits}
 use Rattle.crl_bound.proofs.Costs.{count_some, mail_cost, mails_cost}
 

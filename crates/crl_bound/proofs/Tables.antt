@@ -1,7 +1,7 @@
 -- The regions that are there, and their sizes, are those that the account creates.
-use Rattle.std.proofs.Common.{◌≡◌, ℕ, zero, suc, ◌+◌, ◌-◌, ◌≤◌, ◌<◌, ◌==◌, Bool, true, false, None, Some, Option, List, [], ◌∷◌, ◌++◌, if◌then◌else◌, refl, ap, sym, ◌∙◌, subst, arith}
+use Rattle.std.proofs.Common.{◌≡◌, ℕ, ◌==◌, Bool, true, false, None, Some, Option, List, [], ◌∷◌, ◌++◌, if◌then◌else◌, refl, ap, sym, ◌∙◌}
 use Rattle.std.specs.List.{AllByRecursion}
-use Rattle.std.proofs.lemmas.Bool.{cond_both, cond-true, cond-false, eqb-true, eqb-false, eq-eqb, and_parts}
+use Rattle.std.proofs.lemmas.Bool.{cond_both, eqb-true, and_parts}
 use Rattle.crl_model.specs.declared.name.Name.{Name}
 use Rattle.crl_model.specs.declared.collective.Fold.{Fold}
 use Rattle.crl_model.specs.declared.collective.Fold.TheVariants as fold
@@ -11,20 +11,17 @@ use Rattle.crl_model.specs.declared.entry.Entry.{Entry}
 use Rattle.crl_model.specs.declared.entry.What.{What}
 use Rattle.crl_model.specs.declared.entry.What.TheVariants as what
 use Rattle.crl_model.specs.declared.event.Event.{Event}
-use Rattle.crl_model.specs.declared.message.Kind.{Kind}
 use Rattle.crl_model.specs.Names.{name_eq, at_name, at_node}
-use Rattle.crl_pieces.specs.Pieces.{count}
 use Rattle.crl_protocol.specs.Home.{Home, HomeStep, new_home}
 use Rattle.crl_protocol.specs.Remote.{Remote, RemoteStep}
-use Rattle.crl_protocol.specs.Node.{Node, Outcome, is_mine, home_of, with_home, next_name, entry_of}
+use Rattle.crl_protocol.specs.Node.{Node, Outcome, home_of, with_home, next_name, entry_of}
 use Rattle.crl_protocol.specs.Calls.{creates, result_of}
-use Rattle.crl_protocol.specs.Sections.{bytes_at, is_writing}
-use Rattle.crl_protocol.specs.Talk.{size_in, created_size, pieces_or_one, created_pieces}
+use Rattle.crl_protocol.specs.Sections.{is_writing}
+use Rattle.crl_protocol.specs.Talk.{size_in, created_size}
 use Rattle.crl_protocol.specs.World.{World, commits, steps_node}
 use Rattle.crl_deeds.proofs.Fitting.{same_name, Fits}
 use Rattle.crl_deeds.proofs.Tabling.{home_put, home_end, home_next, home_none}
-use Rattle.crl_deeds.proofs.Turning.{Frame, deed_frame}
-use Rattle.crl_deeds.specs.Deeds.{FreeIf, Cause, Calls, Hears, StartsCall, to_read, to_write, EndsCall, a_read, a_write, Copies, home_opens, home_waits, side_opens, side_waits, home_ends, side_ends, side_flushes, home_serves, home_serves_own, grant_comes, side_called, Lives, made, used_up, map_asks, map_comes, map_denied, deletes_alone, delete_asks, deletes_alone_for, delete_comes, dooms, drops, warns, counts_off, Rounds, comes_away, comes_home, comes_last, part_comes, part_last, part_last_idle, result_comes, Notes, ends_nowhere, Deed, copies, lives, rounds, notes, refuses, idles}
+use Rattle.crl_deeds.specs.Deeds.{Cause, EndsCall, a_read, a_write, Copies, home_opens, home_waits, side_opens, side_waits, home_ends, side_ends, side_flushes, home_serves, home_serves_own, grant_comes, side_called, Lives, made, used_up, map_asks, map_comes, map_denied, deletes_alone, delete_asks, deletes_alone_for, delete_comes, dooms, drops, warns, counts_off, Rounds, comes_away, comes_home, comes_last, part_comes, part_last, part_last_idle, result_comes, Notes, ends_nowhere, Deed, copies, lives, rounds, notes, refuses, idles}
 use Rattle.crl_bound.proofs.Homes.{started_credits}
 use Rattle.crl_bound.proofs.Deeds.{Facts, MayCall, home_pieces, serves_credit, home_end_credit}
 

@@ -1,11 +1,9 @@
 -- What a node has of another node's region, in every run.
-use Rattle.std.proofs.Common.{◌≡◌, ◌≢◌, ℕ, ◌==◌, true, false, None, Some, Option, List, [], refl, ap, sym, ◌∙◌, subst}
-use Rattle.std.proofs.lemmas.Bool.{eqb-false, eq-eqb}
+use Rattle.std.proofs.Common.{◌≡◌, ◌≢◌, ℕ, None, Some, List, [], ap, sym, ◌∙◌, subst}
+use Rattle.std.proofs.lemmas.Bool.{eq-eqb}
 use Rattle.crl_model.specs.declared.name.Name.{Name}
 use Rattle.crl_model.specs.declared.event.Event.{Event}
-use Rattle.crl_protocol.specs.Home.{Home}
 use Rattle.crl_protocol.specs.Remote.{Remote}
-use Rattle.crl_protocol.specs.Sections.{section_at}
 use Rattle.crl_protocol.specs.Node.{home_of}
 use Rattle.crl_protocol.specs.Parcels.{Piece}
 use Rattle.crl_protocol.specs.World.{World, new_world, world_after, IsRunFrom}
