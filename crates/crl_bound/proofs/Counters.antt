@@ -18,11 +18,10 @@ use Rattle.crl_protocol.specs.Sections.{Sections, OpenSection, SectionStart, beg
 use Rattle.crl_protocol.specs.Node.{Node, new_node, Outcome, Done, Free, only, is_mine, home_of, at_serial, with_home, next_name}
 use Rattle.crl_protocol.specs.Calls.{creates}
 use Rattle.crl_protocol.specs.World.{World, WorldStep, new_world, note, put_in, commits, step, IsRunFrom, world_after, world_of, messages_sent_from}
-use Rattle.crl_protocol.specs.Talk.{bound}
 use Rattle.crl_deeds.proofs.Tabling.{home_put, home_end, home_none}
 use Rattle.crl_deeds.proofs.Turning.{Turn, calls, hears, gathers, answers, carriage, rests, turn_of, each_at}
 use Rattle.crl_deeds.specs.Deeds.{Cause, EndsCall, a_read, a_write, Serves, ask_comes, copy_returns, copy_lowers, Copies, home_opens, home_waits, side_opens, home_ends, side_ends, home_serves, home_serves_own, grant_comes, Lives, made, used_up, Rounds, comes_away, Notes, ends_nowhere, Deed, copies, lives, rounds, notes}
-use Rattle.crl_bound.specs.Counters.{CountersFit, AllCountersFit}
+use Rattle.crl_bound.specs.Counters.{BoundsEachRun, CountersFew, CountersFit}
 use Rattle.crl_bound.proofs.Runs.{messages_bounded}
 
 -- Serve grants a copy for an ask that leaves the queue.
@@ -315,7 +314,7 @@ posted_part i (suc k) j nodes l h = go (j == i) refl (λ w. posted_part (i + 1) 
     go true e rest = let same : (nodes j).posted ≡ (nodes i).posted = ap (λ x. (nodes x).posted) (eqb-true j i e) in omega arith
     go false e rest = let ne = Rattle.std.proofs.lemmas.Bool.eqb-false j i e in let r = rest (grind arith) in omega arith
 
-pub counters_fit : (count capacity : ℕ) (run : List Event) → IsRunFrom (new_world count capacity) run → AllCountersFit (world_of count capacity run) (length run) (bound count capacity run)
+pub counters_fit : BoundsEachRun CountersFew
 counters_fit count capacity run r i small =
     let start = new_world count capacity in
     let w = world_of count capacity run in

@@ -21,7 +21,7 @@ use Rattle.crl_deeds.proofs.Turning.{Came, deed_frame, all_took}
 use Rattle.crl_deeds.proofs.Totals.{sum_from, sum, sum_with, sum_new}
 use Rattle.crl_deeds.proofs.Knowing.{Known, known_start, known_step}
 use Rattle.crl_deeds.specs.Deeds.{Cause, Calls, Hears, Copies, Lives, Rounds, Notes, Deed, copies, lives, rounds, notes, home_serves_own, grant_comes, home_waits, side_waits, map_asks, map_comes, map_denied, deletes_own, delete_asks, delete_comes, warns, ends_own, comes_away, comes_home, part_last, result_comes, flushes_own}
-use Rattle.crl_bound.specs.Counters.{count_calls, count_collects, count_handles, count_carries, EventsFew}
+use Rattle.crl_bound.specs.Counters.{BoundsEachRun, count_calls, count_collects, count_handles, count_carries, EventsFew}
 use Rattle.crl_bound.proofs.Events.{Happens, calls, hears, gathers, answers, carriage, happens}
 use Rattle.crl_bound.proofs.Budgets.{sum_past}
 use Rattle.crl_bound.proofs.Deeds.{serves_goes}
@@ -261,7 +261,7 @@ event_kinds (event.Collect i ∷ es) = let h = event_kinds es in omega arith
 event_kinds (event.Handle i place ∷ es) = let h = event_kinds es in omega arith
 event_kinds (event.Carry i place ∷ es) = let h = event_kinds es in omega arith
 
-pub events_few : (count capacity : ℕ) (run : List Event) → IsRunFrom (new_world count capacity) run → EventsFew count capacity run
+pub events_few : BoundsEachRun EventsFew
 events_few count capacity run r =
     let start = new_world count capacity in
     let w = world_of count capacity run in

@@ -15,8 +15,8 @@ use Rattle.crl_protocol.specs.Lifetimes.{Lifetime}
 use Rattle.crl_protocol.specs.Sections.{is_writing}
 use Rattle.crl_protocol.specs.Parcels.{Piece, with_load, PartsGathered}
 use Rattle.crl_protocol.specs.Node.{Node, new_node, Done, Free, Outcome, only, is_mine, home_of, at_serial}
-use Rattle.crl_protocol.specs.Talk.{created_size, pieces_or_one, created_pieces, bound_of, bound_at, bound_from, bound}
-use Rattle.crl_protocol.specs.World.{World, WorldStep, new_world, note, put_in, steps_node, carries, step, is_enabled, IsRunFrom, world_after, account_from, account, world_of, messages_sent, messages_sent_from}
+use Rattle.crl_protocol.specs.Talk.{created_size, pieces_or_one, created_pieces, bound_of, bound_at, bound_from}
+use Rattle.crl_protocol.specs.World.{World, WorldStep, new_world, note, put_in, steps_node, carries, step, is_enabled, IsRunFrom, world_after, account_from, account, world_of, messages_sent_from}
 use Rattle.crl_deeds.proofs.Fitting.{Leaves, ComesIn, Fits}
 use Rattle.crl_deeds.proofs.Sound.{away_load}
 use Rattle.crl_deeds.proofs.Growing.{world_grows}
@@ -27,6 +27,7 @@ use Rattle.crl_deeds.specs.Deeds.{Cause, Calls, Hears, Deed}
 use Rattle.crl_coherence.specs.Pairs.{SectionFits}
 use Rattle.crl_regions.specs.Sides.{SidesFit}
 use Rattle.crl_regions.proofs.Laws.{sides_in_runs}
+use Rattle.crl_bound.specs.Counters.{BoundsEachRun, MessagesFew}
 use Rattle.crl_bound.proofs.Costs.{token, token_part, token_keyed, count_some}
 use Rattle.crl_bound.proofs.Sides.{IsExclusive}
 use Rattle.crl_bound.proofs.Credits.{name_credit, parts_credit, fixed_credit, sum_names, Distinct, still_moved}
@@ -222,7 +223,7 @@ sent_part : (P : Name → ℕ) (nodes_count : ℕ) (names : ℕ → List Name) (
 sent_part P nodes_count names i zero nodes = omega arith
 sent_part P nodes_count names i (suc k) nodes = let h = sent_part P nodes_count names (i + 1) k nodes in omega arith
 
-pub messages_bounded : (count capacity : ℕ) (run : List Event) → IsRunFrom (new_world count capacity) run → messages_sent (world_of count capacity run) ≤ bound count capacity run
+pub messages_bounded : BoundsEachRun MessagesFew
 messages_bounded count capacity run r =
     let start = new_world count capacity in
     let all = account count capacity run in

@@ -7,7 +7,7 @@ use Rattle.crl_model.specs.declared.event.Event.TheVariants as event
 use Rattle.crl_protocol.specs.Home.{Home}
 use Rattle.crl_protocol.specs.Sections.{OpenSection}
 use Rattle.crl_protocol.specs.Talk.{bound}
-use Rattle.crl_protocol.specs.World.{World, world_of, messages_sent}
+use Rattle.crl_protocol.specs.World.{World, new_world, world_of, messages_sent, IsRunFrom}
 use Rattle.crl_protocol.specs.Node.{Node, serials_used, home_of}
 
 abbrev pub count_calls : List Event → ℕ
@@ -49,3 +49,13 @@ pub record CountersFit (events : ℕ) (n : Node) : Type 0 where
 -- and what it sent
 abbrev pub AllCountersFit : World → ℕ → ℕ → Type 0
 AllCountersFit w events sent = (i : ℕ) → i < w.count → CountersFit events (w.nodes i) × ((w.nodes i).posted ≤ sent)
+
+-- The statements, of a run among so many nodes.
+abbrev pub MessagesFew : ℕ → ℕ → List Event → Type 0
+MessagesFew nodes capacity run = messages_sent (world_of nodes capacity run) ≤ bound nodes capacity run
+
+abbrev pub CountersFew : ℕ → ℕ → List Event → Type 0
+CountersFew nodes capacity run = AllCountersFit (world_of nodes capacity run) (length run) (bound nodes capacity run)
+
+abbrev pub BoundsEachRun : (ℕ → ℕ → List Event → Type 0) → Type 0
+BoundsEachRun Holds = (nodes capacity : ℕ) (run : List Event) → IsRunFrom (new_world nodes capacity) run → Holds nodes capacity run

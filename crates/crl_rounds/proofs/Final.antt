@@ -19,11 +19,11 @@ use Rattle.crl_machine.specs.SingleMachine.{State, start, change, after, after_a
 use Rattle.crl_protocol.specs.Parcels.{Piece}
 use Rattle.crl_protocol.specs.Gathering.{Gathering, with_part, all_parts}
 use Rattle.crl_protocol.specs.Node.{Node}
-use Rattle.crl_protocol.specs.World.{World, boxes_from, pieces_in_boxes, new_world, world_after, world_of, step, is_enabled, IsRunFrom}
+use Rattle.crl_protocol.specs.World.{World, boxes_from, pieces_in_boxes, new_world, world_of, step, IsRunFrom}
 use Rattle.crl_deeds.proofs.Placing.{all_append}
-use Rattle.crl_deeds.proofs.Turning.{HeldIn, HeldOut, turn_of}
+use Rattle.crl_deeds.proofs.Turning.{HeldIn, turn_of}
 use Rattle.crl_deeds.proofs.Totals.{weighs, sum_from, boxed_sum, none_to}
-use Rattle.crl_rounds.specs.Standing.{FitAll, RoundsStand, RoundCall, round_awaited, current_round, part_gathered, WaitsIn, StandsIn, Stands, IsRoundMail, RoundMailFits, is_part_from, is_result_for, count_parts, count_results, RoundPlace, nowhere, sent, gathered, told, IsGathered, IsMissing, IsAbsent, part_in, is_mixed, is_result, parts_brought, results_told, machine_of}
+use Rattle.crl_rounds.specs.Standing.{InEveryRun, RoundMailFitsAll, RoundEntriesFit, RoundsStand, RoundCall, round_awaited, current_round, part_gathered, WaitsIn, StandsIn, Stands, IsRoundMail, RoundMailFits, is_part_from, is_result_for, count_parts, count_results, RoundPlace, nowhere, sent, gathered, told, IsGathered, IsMissing, IsAbsent, part_in, is_mixed, is_result, parts_brought, results_told, machine_of}
 use Rattle.crl_rounds.proofs.Counts.{of_round, token_kind, token, there, gathering, waits_call, waits_round, one_round, at_most_one, none_there, waits_in}
 use Rattle.crl_rounds.proofs.Counts as counts
 use Rattle.crl_rounds.proofs.Boxes.{KindKept, Kept, split_from, all_map}
@@ -317,14 +317,10 @@ told_is_counted s (e ∷ es) i =
 pub run_story : (count capacity : ℕ) (run : List Event) → IsRunFrom (new_world count capacity) run → RunStory (world_of count capacity run) (machine_of count capacity run)
 run_story count capacity run r = story_of count capacity run r
 
-pub entries_fit : (count capacity : ℕ) (run : List Event) (e : Event) → IsRunFrom (new_world count capacity) run → is_enabled e (world_of count capacity run) ≡ true → FitAll (machine_of count capacity run) (step e (world_of count capacity run)).entries
-entries_fit count capacity run e r h =
+pub entries_fit : InEveryRun RoundEntriesFit
+entries_fit count capacity run r e h =
     let x = run_story count capacity run r in
     let w = world_of count capacity run in (story_turn w (machine_of count capacity run) x.gathering (step e w) (turn_of w e h) x.known x.story).1
-
-pub count_after : (es : List Event) (w : World) → IsRunFrom w es → (world_after w es).count ≡ w.count
-count_after [] w r = refl
-count_after (e ∷ es) w r = count_after es (step e w).world r.1 ∙ Rattle.crl_deeds.proofs.Turning.turn_count w (step e w) (turn_of w e r.0)
 
 pub rounds_stand : (w : World) (s : State) → RunStory w s → RoundsStand w s
 rounds_stand w s h = record { stands = stands w s h; place = place w s h; gathered = part_there w s h; missing = missing w s h; absent = absent_when_quiet w s h }
@@ -332,10 +328,10 @@ rounds_stand w s h = record { stands = stands w s h; place = place w s h; gather
 pub told_from_start : (count i : ℕ) (es : List Entry) → (after_all (start count) es).told i ≡ results_told i es
 told_from_start count i es = let h = told_is_counted (start count) es i in omega arith
 
-pub rounds_in_runs : (count capacity : ℕ) (run : List Event) → IsRunFrom (new_world count capacity) run → RoundsStand (world_of count capacity run) (machine_of count capacity run)
+pub rounds_in_runs : InEveryRun RoundsStand
 rounds_in_runs count capacity run r = rounds_stand (world_of count capacity run) (machine_of count capacity run) (run_story count capacity run r)
 
-pub mail_in_runs : (count capacity : ℕ) (run : List Event) → IsRunFrom (new_world count capacity) run → All (RoundMailFits (world_of count capacity run) (machine_of count capacity run)) (pieces_in_boxes (world_of count capacity run))
+pub mail_in_runs : InEveryRun RoundMailFitsAll
 mail_in_runs count capacity run r = mail_fits_all (world_of count capacity run) (machine_of count capacity run) (run_story count capacity run r)
 
 pub came_from_start : (count i : ℕ) (es : List Entry) → (after_all (start count) es).came i ≡ parts_brought i es

@@ -1,6 +1,7 @@
 -- Where each node of a run stands in its rounds, and what of them is under way. What the nodes brought to the rounds
 -- and which results they were told is what the single machine has of it after the run's account.
 use Rattle.std.specs.Prelude.{◌≡◌, ◌⊎◌, ℕ, ◌+◌, ◌<◌, ◌≤◌, ◌==◌, Bool, true, false, ◌&&◌, if◌then◌else◌, List, [], ◌∷◌, ◌++◌, length}
+use Rattle.std.specs.List.{All}
 use Rattle.std.specs.declared.option.Option.{Option}
 use Rattle.std.specs.declared.option.Option.TheVariants.{None, Some}
 use Rattle.crl_model.specs.declared.collective.Part.{Part}
@@ -21,7 +22,7 @@ use Rattle.crl_model.specs.FoldOf.{fold_of}
 use Rattle.crl_machine.specs.SingleMachine.{State, start, after, after_all, part_at, parts_of, IsFull}
 use Rattle.crl_protocol.specs.Parcels.{Piece}
 use Rattle.crl_protocol.specs.Node.{Node, Activity, Waiting, ForRound}
-use Rattle.crl_protocol.specs.World.{World, account, pieces_in_boxes}
+use Rattle.crl_protocol.specs.World.{World, new_world, world_of, account, pieces_in_boxes, step, is_enabled, IsRunFrom}
 
 -- the single machine after a run's account
 abbrev pub machine_of : ℕ → ℕ → List Event → State
@@ -186,3 +187,13 @@ parts_brought i (e ∷ es) = if e.node == i then part_in e.what ++ parts_brought
 abbrev pub results_told : ℕ → List Entry → ℕ
 results_told i [] = 0
 results_told i (e ∷ es) = if (e.node == i) && is_result e.what then 1 + results_told i es else results_told i es
+
+-- The statements, of a world and the single machine after the same run.
+abbrev pub RoundMailFitsAll : World → State → Type 0
+RoundMailFitsAll w s = All (RoundMailFits w s) (pieces_in_boxes w)
+
+abbrev pub RoundEntriesFit : World → State → Type 0
+RoundEntriesFit w s = (e : Event) → is_enabled e w ≡ true → FitAll s (step e w).entries
+
+abbrev pub InEveryRun : (World → State → Type 0) → Type 0
+InEveryRun Holds = (count capacity : ℕ) (run : List Event) → IsRunFrom (new_world count capacity) run → Holds (world_of count capacity run) (machine_of count capacity run)

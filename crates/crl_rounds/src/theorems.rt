@@ -1,31 +1,28 @@
 //! The theorems.
-ghost use Rattle.std.specs.Prelude.{◌≡◌, ◌++◌, ℕ, List, true};
-ghost use Rattle.std.specs.List.{All};
+ghost use Rattle.std.specs.Prelude.{◌≡◌, ℕ, List};
 ghost use Rattle.crl_model.specs.declared.entry.Entry.{Entry};
-ghost use Rattle.crl_model.specs.declared.event.Event.{Event};
 ghost use Rattle.crl_machine.specs.SingleMachine.{start, after_all};
-ghost use Rattle.crl_protocol.specs.World.{new_world, world_of, step, is_enabled, pieces_in_boxes, IsRunFrom};
-ghost use Rattle.crl_rounds.specs.Standing.{machine_of, RoundsStand, RoundMailFits, FitAll, parts_brought, results_told};
+ghost use Rattle.crl_rounds.specs.Standing.{InEveryRun, RoundsStand, RoundMailFitsAll, RoundEntriesFit, parts_brought, results_told};
 
 /// After each run every node came to all rounds before the one that node 0 gathers, or to this one too and then waits in
 /// it. Of a node that waits in a round there is exactly one of three: its part on its way, its part gathered, its result
 /// on its way; of another node there is none. Some part is missing. Where no piece is in a box, a node that waits in a
 /// round waits for one that hasn't come to it.
 pub fn rounds_stand()
-    ensures { (count capacity : ℕ) (run : List Event) → IsRunFrom (new_world count capacity) run → RoundsStand (world_of count capacity run) (machine_of count capacity run) }
+    ensures { InEveryRun RoundsStand }
 {}
 
 /// A part that is under way goes to node 0, which hasn't yet this node's part of its round; its sender waits in the
 /// round. A result that is under way is that of the round in which its addressee waits, and what all nodes' parts of
 /// this round give.
 pub fn round_messages_fit()
-    ensures { (count capacity : ℕ) (run : List Event) → IsRunFrom (new_world count capacity) run → All (RoundMailFits (world_of count capacity run) (machine_of count capacity run)) (pieces_in_boxes (world_of count capacity run)) }
+    ensures { InEveryRun RoundMailFitsAll }
 {}
 
 /// The entries of rounds that an event records after a run: who comes waits in no round, and who is told a result came to
 /// that round, as all nodes did, and is told what their parts give, or that they don't agree.
 pub fn round_entries_fit()
-    ensures { (count capacity : ℕ) (run : List Event) (e : Event) → IsRunFrom (new_world count capacity) run → is_enabled e (world_of count capacity run) ≡ true → FitAll (machine_of count capacity run) (step e (world_of count capacity run)).entries }
+    ensures { InEveryRun RoundEntriesFit }
 {}
 
 /// What the single machine has of a node's rounds is what the account has: the parts of its entries Come in order, and how
