@@ -9,8 +9,9 @@ use Rattle.crl_protocol.specs.Parcels.{Piece, pieces_in}
 use Rattle.crl_protocol.specs.Places.{Took}
 use Rattle.crl_protocol.specs.Node.{Node, Outcome}
 use Rattle.crl_protocol.specs.World.{World, note, put_in, commits, steps_node, carries}
-use Rattle.crl_deeds.proofs.Turning.{Frame}
-use Rattle.crl_deeds.proofs.Totals.{on_piece, weigh_append, weigh_took, weighs, sum_from, sum, sum_with}
+use Rattle.crl_deeds.proofs.Laws.{weigh_append, weigh_took, sum_with}
+use Rattle.crl_deeds.specs.Tokens.{on_piece, weighs, sum_from, sum}
+use Rattle.crl_deeds.specs.Turns.{Frame}
 use Rattle.crl_bound.proofs.Costs.{token, cost, whole_all}
 use Rattle.crl_bound.proofs.Credits.{name_credit, fixed_credit, sum_names, Distinct, covers}
 use Rattle.crl_bound.proofs.Deeds.{Paid}

@@ -1,4 +1,6 @@
 -- What messages cost: the pieces that are sent, and what those under way may still make their addressee send.
+use Rattle.crl_deeds.proofs.Laws.{weigh_append, parts_none}
+use Rattle.crl_deeds.specs.Tokens.{on_piece, weigh, weighs}
 use Rattle.std.proofs.Common.{◌≡◌, ℕ, zero, suc, ◌+◌, ◌-◌, ◌*◌, ◌≤◌, None, Some, List, [], ◌∷◌, ◌++◌, length, drop, refl, ap, ◌∙◌, arith}
 use Rattle.crl_model.specs.declared.name.Name.{Name}
 use Rattle.crl_model.specs.declared.message.Granted.{Granted}
@@ -11,8 +13,6 @@ use Rattle.crl_pieces.specs.Pieces.{count, cut, cut_in, fresh, left_from}
 use Rattle.crl_protocol.specs.Parcels.{load_of, with_load, piece_of, pieces_of, pieces_in, Key, key_in}
 use Rattle.crl_protocol.specs.Mail.{Mail, Ask, Grant, Recall, Yield, Return, Release, Letter, kind_about}
 use Rattle.crl_protocol.specs.Node.{Node, letter_messages, mail_messages, message_to}
-use Rattle.crl_deeds.proofs.Totals.{on_piece, weigh, weigh_append, weighs}
-use Rattle.crl_deeds.proofs.Spans.{parts_none}
 
 -- An ask may make its home send the pieces of a grant, and call the copy back twice. P says how many pieces a region has.
 abbrev pub token_kind : (Name → ℕ) → ℕ → Kind → ℕ

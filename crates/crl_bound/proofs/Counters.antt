@@ -18,9 +18,9 @@ use Rattle.crl_protocol.specs.Sections.{Sections, OpenSection, SectionStart, beg
 use Rattle.crl_protocol.specs.Node.{Node, new_node, Outcome, Done, Free, only, is_mine, home_of, at_serial, with_home, next_name}
 use Rattle.crl_protocol.specs.Calls.{creates}
 use Rattle.crl_protocol.specs.World.{World, WorldStep, new_world, note, put_in, commits, step, IsRunFrom, world_after, world_of, messages_sent_from}
-use Rattle.crl_deeds.proofs.Tabling.{home_put, home_end, home_none}
-use Rattle.crl_deeds.proofs.Turning.{Turn, calls, hears, gathers, answers, carriage, rests, turn_of, each_at}
 use Rattle.crl_deeds.specs.Deeds.{Cause, EndsCall, a_read, a_write, Serves, ask_comes, copy_returns, copy_lowers, Copies, home_opens, home_waits, side_opens, home_ends, side_ends, home_serves, home_serves_own, grant_comes, Lives, made, used_up, Rounds, comes_away, Notes, ends_nowhere, Deed, copies, lives, rounds, notes}
+use Rattle.crl_deeds.proofs.Laws.{home_put, home_end, home_none, turn_of, each_at}
+use Rattle.crl_deeds.specs.Turns.{rests, Turn, calls, hears, gathers, answers, carriage}
 use Rattle.crl_bound.specs.Counters.{BoundsEachRun, CountersFew, CountersFit}
 use Rattle.crl_bound.proofs.Runs.{messages_bounded}
 

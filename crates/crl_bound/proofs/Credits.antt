@@ -12,9 +12,9 @@ use Rattle.crl_protocol.specs.Remote.{Remote, RemoteStep, remote_flushes}
 use Rattle.crl_protocol.specs.Lifetimes.{Lifetime, new_lifetime}
 use Rattle.crl_protocol.specs.Node.{Node, Activity, Waiting, ForSection, is_mine, home_of, lifetime_of, with_home, with_remote, with_lifetime, next_name, serials_used, letter_messages, mail_messages}
 use Rattle.crl_protocol.specs.Calls.{creates}
-use Rattle.crl_deeds.proofs.Fitting.{same_name, name_self, CopyFits}
-use Rattle.crl_deeds.proofs.Tabling.{home_put, home_end, home_none, lifetime_put}
 use Rattle.crl_deeds.specs.Deeds.{parting, forgotten}
+use Rattle.crl_deeds.proofs.Laws.{same_name, name_self, home_put, home_end, home_none, lifetime_put}
+use Rattle.crl_deeds.specs.NodeFacts.{CopyFits}
 use Rattle.crl_bound.proofs.Costs.{cost, cost_letters, cost_mails}
 use Rattle.crl_bound.proofs.Homes.{table_credit, HomeCredit, new_credit}
 use Rattle.crl_bound.proofs.Sides.{side_credit, SideCredit, flush_credits}

@@ -26,13 +26,12 @@ use Rattle.crl_protocol.specs.Verdict.{verdict, refuse_if, of_unmapped, of_end}
 use Rattle.crl_model.specs.declared.call.Refusal.TheVariants as refusal
 use Rattle.crl_protocol.specs.World.{is_call}
 use Rattle.crl_protocol.specs.Talk.{created_pieces, bound_of}
-use Rattle.crl_deeds.proofs.Fitting.{IsAway, Leaves, RecordFits, CopyFits, Fits}
-use Rattle.crl_deeds.proofs.Handling.{waits_granted}
-use Rattle.crl_deeds.proofs.Serving.{HomeGoes, asked_goes, returned_goes, released_goes}
-use Rattle.crl_deeds.proofs.Outcomes.{not_mine, home_bytes, remote_bytes, asking_of, mapped_home, mapped_remote}
-use Rattle.crl_deeds.proofs.Counting.{Counts}
-use Rattle.crl_deeds.proofs.Turning.{Came}
 use Rattle.crl_deeds.specs.Deeds.{FreeIf, Cause, Calls, Hears, parting, StartsCall, to_read, to_write, EndsCall, a_read, a_write, Serves, ask_comes, copy_returns, copy_lowers, CallsBack, wholly, to_share, Copies, home_opens, home_waits, side_opens, side_waits, home_ends, side_ends, side_flushes, home_serves, home_serves_own, grant_comes, side_called, Lives, made, used_up, map_asks, map_told, map_refused, map_comes, map_denied, unmaps_doomed, unmaps_evicting, deletes_alone, deletes_own, delete_asks, deletes_alone_for, deletes_for, delete_refused, delete_comes, dooms, drops, warns, counts_off, ends_own, ends_for, Rounds, comes_away, comes_home, comes_last, part_comes, part_last, part_last_idle, result_comes, Notes, ends_nowhere, Deed, copies, lives, rounds, notes, refuses, idles}
+use Rattle.crl_deeds.proofs.Laws.{waits_granted, asked_goes, returned_goes, released_goes, not_mine, home_bytes, remote_bytes, asking_of, mapped_home, mapped_remote}
+use Rattle.crl_deeds.specs.Counts.{Counts}
+use Rattle.crl_deeds.specs.NodeFacts.{IsAway, Leaves, RecordFits, CopyFits, Fits}
+use Rattle.crl_deeds.specs.TableFacts.{HomeGoes}
+use Rattle.crl_deeds.specs.Turns.{Came}
 use Rattle.crl_bound.proofs.Costs.{token_kind, cost, cost_append, cost_more, cost_one, one_piece}
 use Rattle.crl_bound.proofs.Homes.{HomeCredit, asked_credits, returned_credits, released_credits, started_credits, read_credits, write_credits}
 use Rattle.crl_bound.proofs.Sides.{SideCredit, IsExclusive, recall_credits, yield_credits, flush_credits, read_end_credits, write_end_credits, start_credits, open_credits, grant_credits}
@@ -91,8 +90,8 @@ verdict_none n name after m is some e =
     let mapped : of_unmapped n name ≡ None = ap (λ o. refuse_if (map_count o == 0) refusal.NotMapped) is ∙ ap (λ b. refuse_if b refusal.NotMapped) none in
     ap (λ o. Rattle.crl_protocol.specs.Verdict.else_if o (of_end true (section_at name n.sections))) mapped ∙ e
 
-written_as : (j : ℕ) (d : Name → List ℕ) (n : Node) (name : Name) (after : List ℕ) → Fits j n d → Counts (is_mine n name) (n.maps name) → of_end true (section_at name n.sections) ≡ None → is_call n (call.EndWrite name after) (verdict n (call.EndWrite name after)) ≡ true → WrittenAs n name after
-written_as j d n name after f counts e may = go (n.sections.records name) refl (n.maps name) refl (f.each name).sections counts
+written_as : (j : ℕ) (n : Node) (name : Name) (after : List ℕ) → Fits j n → Counts (is_mine n name) (n.maps name) → of_end true (section_at name n.sections) ≡ None → is_call n (call.EndWrite name after) (verdict n (call.EndWrite name after)) ≡ true → WrittenAs n name after
+written_as j n name after f counts e may = go (n.sections.records name) refl (n.maps name) refl (f.each name).sections counts
   where
     go : (r : Option OpenSection) → n.sections.records name ≡ r → (o : Option Mapping) → n.maps name ≡ o → RecordFits r o → Counts (is_mine n name) o → WrittenAs n name after
     go None is o mapped fits counts =
@@ -105,30 +104,30 @@ written_as j d n name after f counts e may = go (n.sections.records name) refl (
         record { mapping = m; mapped = mapped; size = eqb-true (length after) (length (bytes_at name n.sections)) same ∙ bytes ∙ fits.0 }
 
 -- Copies.
-pub home_pieces : (P : Name → ℕ) (k : ℕ) (es : List Entry) (j : ℕ) (d : Name → List ℕ) (n : Node) (name : Name) (h : Home) → home_of n name ≡ Some h → Fits j n d → Facts P k es n → count (length h.bytes) ≡ P name
-home_pieces P k es j d n name h is f x = ap count (home_bytes j d n name h is f) ∙ sym (x.home name h is)
+pub home_pieces : (P : Name → ℕ) (k : ℕ) (es : List Entry) (j : ℕ) (n : Node) (name : Name) (h : Home) → home_of n name ≡ Some h → Fits j n → Facts P k es n → count (length h.bytes) ≡ P name
+home_pieces P k es j n name h is f x = ap count (home_bytes j n name h is f) ∙ sym (x.home name h is)
 
-pub serves_credit : (P : Name → ℕ) (nodes k : ℕ) (es : List Entry) (j : ℕ) (d : Name → List ℕ) (n : Node) (h : Home) (from : ℕ) (m : Kind) (name : Name) (s : HomeStep) → Serves n h from m name s → home_of n name ≡ Some h → Fits j n d → Facts P k es n → HomeCredit (P name) n.me h s (token_kind P nodes m)
-serves_credit P nodes k es j d n h from m name s (ask_comes y q write have free) is f x = asked_credits (P q) n.me (record { node = from; write = write; have = have }) h (home_pieces P k es j d n q h is f x)
-serves_credit P nodes k es j d n h from m name s (copy_returns y q version bytes fits) is f x = returned_credits (P q) n.me from version bytes h (home_pieces P k es j d n q h is f x) (x.home q h is) fits
-serves_credit P nodes k es j d n h from m name s (copy_lowers y q version bytes fits) is f x = released_credits (P q) n.me from version bytes h (x.home q h is) fits
+pub serves_credit : (P : Name → ℕ) (nodes k : ℕ) (es : List Entry) (j : ℕ) (n : Node) (h : Home) (from : ℕ) (m : Kind) (name : Name) (s : HomeStep) → Serves n h from m name s → home_of n name ≡ Some h → Fits j n → Facts P k es n → HomeCredit (P name) n.me h s (token_kind P nodes m)
+serves_credit P nodes k es j n h from m name s (ask_comes y q write have free) is f x = asked_credits (P q) n.me (record { node = from; write = write; have = have }) h (home_pieces P k es j n q h is f x)
+serves_credit P nodes k es j n h from m name s (copy_returns y q version bytes fits) is f x = returned_credits (P q) n.me from version bytes h (home_pieces P k es j n q h is f x) (x.home q h is) fits
+serves_credit P nodes k es j n h from m name s (copy_lowers y q version bytes fits) is f x = released_credits (P q) n.me from version bytes h (x.home q h is) fits
 
 pub serves_goes : (n : Node) (h : Home) (from : ℕ) (k : Kind) (name : Name) (s : HomeStep) → Serves n h from k name s → IsAway from n.me k → length h.bytes ≡ h.size → HomeGoes n.me h s
 serves_goes n h from k name s (ask_comes f q write have free) away b = asked_goes n.me (record { node = from; write = write; have = have }) h away b
 serves_goes n h from k name s (copy_returns f q version bytes fits) away b = returned_goes n.me from version bytes h b fits
 serves_goes n h from k name s (copy_lowers f q version bytes fits) away b = released_goes n.me from version bytes h b fits
 
-pub home_end_credit : (P : Name → ℕ) (k : ℕ) (es : List Entry) (j : ℕ) (d : Name → List ℕ) (n : Node) (c : Call) (name : Name) (w : What) (ends : Home → HomeStep) (lowers : Remote → RemoteStep) (h : Home) → EndsCall (bytes_at name n.sections) n c name w ends lowers → is_call n c (verdict n c) ≡ true
-    → home_of n name ≡ Some h → Fits j n d → Facts P k es n → HomeCredit (P name) n.me h (ends h) 0
-home_end_credit P k es j d n c name w ends lowers h (a_read q e) may is f x = read_credits (P q) n.me h (home_pieces P k es j d n q h is f x)
-home_end_credit P k es j d n c name w ends lowers h (a_write q after e) may is f x =
-    let a = written_as j d n q after f (x.maps q) e may in write_credits (P q) n.me after h (ap count (a.size ∙ mapped_home j d n q h a.mapping is a.mapped f) ∙ sym (x.home q h is))
+pub home_end_credit : (P : Name → ℕ) (k : ℕ) (es : List Entry) (j : ℕ) (n : Node) (c : Call) (name : Name) (w : What) (ends : Home → HomeStep) (lowers : Remote → RemoteStep) (h : Home) → EndsCall (bytes_at name n.sections) n c name w ends lowers → is_call n c (verdict n c) ≡ true
+    → home_of n name ≡ Some h → Fits j n → Facts P k es n → HomeCredit (P name) n.me h (ends h) 0
+home_end_credit P k es j n c name w ends lowers h (a_read q e) may is f x = read_credits (P q) n.me h (home_pieces P k es j n q h is f x)
+home_end_credit P k es j n c name w ends lowers h (a_write q after e) may is f x =
+    let a = written_as j n q after f (x.maps q) e may in write_credits (P q) n.me after h (ap count (a.size ∙ mapped_home j n q h a.mapping is a.mapped f) ∙ sym (x.home q h is))
 
-side_end_credit : (P : Name → ℕ) (k : ℕ) (es : List Entry) (j : ℕ) (d : Name → List ℕ) (n : Node) (c : Call) (name : Name) (w : What) (ends : Home → HomeStep) (lowers : Remote → RemoteStep) (r : Remote) → EndsCall (bytes_at name n.sections) n c name w ends lowers → is_call n c (verdict n c) ≡ true
-    → n.remotes name ≡ Some r → Fits j n d → Facts P k es n → SideCredit (P name) r (lowers r) 0
-side_end_credit P k es j d n c name w ends lowers r (a_read q e) may is f x = read_end_credits (P q) r (remote_bytes j d n q r is f) (x.side q r is)
-side_end_credit P k es j d n c name w ends lowers r (a_write q after e) may is f x =
-    let a = written_as j d n q after f (x.maps q) e may in write_end_credits (P q) after r (a.size ∙ mapped_remote j d n q r a.mapping is a.mapped f) (x.writes q r is (ends_writing n q e)) (x.side q r is)
+side_end_credit : (P : Name → ℕ) (k : ℕ) (es : List Entry) (j : ℕ) (n : Node) (c : Call) (name : Name) (w : What) (ends : Home → HomeStep) (lowers : Remote → RemoteStep) (r : Remote) → EndsCall (bytes_at name n.sections) n c name w ends lowers → is_call n c (verdict n c) ≡ true
+    → n.remotes name ≡ Some r → Fits j n → Facts P k es n → SideCredit (P name) r (lowers r) 0
+side_end_credit P k es j n c name w ends lowers r (a_read q e) may is f x = read_end_credits (P q) r (remote_bytes j n q r is f) (x.side q r is)
+side_end_credit P k es j n c name w ends lowers r (a_write q after e) may is f x =
+    let a = written_as j n q after f (x.maps q) e may in write_end_credits (P q) after r (a.size ∙ mapped_remote j n q r a.mapping is a.mapped f) (x.writes q r is (ends_writing n q e)) (x.side q r is)
 
 called_credit : (P : Name → ℕ) (r : Remote) (m : Kind) (name : Name) (s : RemoteStep) → CallsBack r m name s → CopyFits r.copy r.size → P name ≡ count r.size → SideCredit (P name) r s 0
 called_credit P r m name s (wholly q version) f e = recall_credits (P q) version r f e
@@ -141,13 +140,13 @@ start_bound P nodes k es n c write name r (to_write q) is x = ap (λ p. 3 + 3 * 
 wait_free : (P : Name → ℕ) (n : Node) → n.activity ≡ Free → wait_credit P n.me n.activity ≡ 0
 wait_free P n e = ap (wait_credit P n.me) e
 
-paid_copies : (P : Name → ℕ) (nodes : ℕ) (es : List Entry) (j : ℕ) (d : Name → List ℕ) (n : Node) (cause : Cause) (o : Outcome) → Copies n cause o → Fits j n d → Came Leaves n.me cause → FreeIf cause n → MayCall cause n → Facts P nodes es n → PaidBy P nodes es n cause o
-paid_copies P nodes es j d n cause o (home_opens c write name h is e v x) f w free may k =
-    record { slack = 0; moved = home_moved P nodes n name h _ 0 e (started_credits (P name) n.me write h (home_pieces P nodes es j d n name h e f k)); fixed = omega arith }
-paid_copies P nodes es j d n cause o (home_waits c write name h is e v x) f w free may k =
+paid_copies : (P : Name → ℕ) (nodes : ℕ) (es : List Entry) (j : ℕ) (n : Node) (cause : Cause) (o : Outcome) → Copies n cause o → Fits j n → Came Leaves n.me cause → FreeIf cause n → MayCall cause n → Facts P nodes es n → PaidBy P nodes es n cause o
+paid_copies P nodes es j n cause o (home_opens c write name h is e v x) f w free may k =
+    record { slack = 0; moved = home_moved P nodes n name h _ 0 e (started_credits (P name) n.me write h (home_pieces P nodes es j n name h e f k)); fixed = omega arith }
+paid_copies P nodes es j n cause o (home_waits c write name h is e v x) f w free may k =
     let mine : is_mine n name ≡ true = mine_of n name h e in
     let none : wait_credit P n.me (Waiting (ForSection name)) ≡ 0 = cond-true (name.home == n.me) _ _ mine in
-    record { slack = 0; moved = home_moved P nodes n name h _ 0 e (started_credits (P name) n.me write h (home_pieces P nodes es j d n name h e f k)); fixed = omega arith }
+    record { slack = 0; moved = home_moved P nodes n name h _ 0 e (started_credits (P name) n.me write h (home_pieces P nodes es j n name h e f k)); fixed = omega arith }
   where
     mine_of : (n : Node) (name : Name) (h : Home) → home_of n name ≡ Some h → is_mine n name ≡ true
     mine_of n name h e = go (is_mine n name) refl e
@@ -155,31 +154,31 @@ paid_copies P nodes es j d n cause o (home_waits c write name h is e v x) f w fr
         go : (b : Bool) → is_mine n name ≡ b → (if b then Rattle.crl_protocol.specs.Node.at_serial name.serial n.homes else None) ≡ Some h → is_mine n name ≡ true
         go true x y = x
         go false x y = cc
-paid_copies P nodes es j d n cause o (side_opens c write name r is e g v x) f w free may k =
+paid_copies P nodes es j n cause o (side_opens c write name r is e g v x) f w free may k =
     record { slack = 0; moved = side_moved P nodes n name r (Rattle.crl_protocol.specs.Remote.remote_starts write r) 0 g (open_credits (P name) write r x); fixed = omega arith }
-paid_copies P nodes es j d n cause o (side_waits c write name r is e g v x) f w free may k =
-    let other = not_mine j d n name r g f in
+paid_copies P nodes es j n cause o (side_waits c write name r is e g v x) f w free may k =
+    let other = not_mine j n name r g f in
     let wait : wait_credit P n.me (Waiting (ForSection name)) ≡ 2 * P name = cond-false (name.home == n.me) _ _ other in
     let bound = start_bound P nodes nodes es n c write name r is g k in
     record { slack = 3 + P name; moved = side_moved P nodes n name r (Rattle.crl_protocol.specs.Remote.remote_starts write r) (3 + P name) g (start_credits (P name) write r); fixed = omega arith }
-paid_copies P nodes es j d n cause o (home_ends c name y ends lowers h is e) f w free may k =
-    record { slack = 0; moved = home_moved P nodes n name h _ 0 e (home_end_credit P nodes es j d n c name y ends lowers h is may e f k); fixed = omega arith }
-paid_copies P nodes es j d n cause o (side_ends c name y ends lowers r is e g) f w free may k =
-    record { slack = 0; moved = side_moved P nodes n name r (lowers r) 0 g (side_end_credit P nodes es j d n c name y ends lowers r is may g f k); fixed = omega arith }
-paid_copies P nodes es j d n cause o (side_flushes name r other e closed) f w free may k =
-    record { slack = 0; moved = side_moved P nodes n name r (Rattle.crl_protocol.specs.Remote.remote_flushes r) 0 e (flush_credits (P name) r (remote_bytes j d n name r e f) (k.side name r e)); fixed = omega arith }
-paid_copies P nodes es j d n cause o (home_serves from m name h s is e x) f w free may k =
-    record { slack = token_kind P nodes m; moved = home_moved P nodes n name h s _ e (serves_credit P nodes nodes es j d n h from m name s is e f k); fixed = omega arith }
-paid_copies P nodes es j d n cause o (home_serves_own from m name h s is e x) f w free may k =
-    record { slack = token_kind P nodes m; moved = home_moved P nodes n name h s _ e (serves_credit P nodes nodes es j d n h from m name s is e f k); fixed = omega arith }
-paid_copies P nodes es j d n cause o (grant_comes from name version g r e y) f w free may k =
-    let waits = waits_granted name g r n.activity y (asking_of j d n name r e f) in
-    let other = not_mine j d n name r e f in
+paid_copies P nodes es j n cause o (home_ends c name y ends lowers h is e) f w free may k =
+    record { slack = 0; moved = home_moved P nodes n name h _ 0 e (home_end_credit P nodes es j n c name y ends lowers h is may e f k); fixed = omega arith }
+paid_copies P nodes es j n cause o (side_ends c name y ends lowers r is e g) f w free may k =
+    record { slack = 0; moved = side_moved P nodes n name r (lowers r) 0 g (side_end_credit P nodes es j n c name y ends lowers r is may g f k); fixed = omega arith }
+paid_copies P nodes es j n cause o (side_flushes name r other e closed) f w free may k =
+    record { slack = 0; moved = side_moved P nodes n name r (Rattle.crl_protocol.specs.Remote.remote_flushes r) 0 e (flush_credits (P name) r (remote_bytes j n name r e f) (k.side name r e)); fixed = omega arith }
+paid_copies P nodes es j n cause o (home_serves from m name h s is e x) f w free may k =
+    record { slack = token_kind P nodes m; moved = home_moved P nodes n name h s _ e (serves_credit P nodes nodes es j n h from m name s is e f k); fixed = omega arith }
+paid_copies P nodes es j n cause o (home_serves_own from m name h s is e x) f w free may k =
+    record { slack = token_kind P nodes m; moved = home_moved P nodes n name h s _ e (serves_credit P nodes nodes es j n h from m name s is e f k); fixed = omega arith }
+paid_copies P nodes es j n cause o (grant_comes from name version g r e y) f w free may k =
+    let waits = waits_granted name g r n.activity y (asking_of j n name r e f) in
+    let other = not_mine j n name r e f in
     let had : wait_credit P n.me n.activity ≡ 2 * P name = ap (wait_credit P n.me) waits ∙ cond-false (name.home == n.me) _ _ other in
     let c = grant_credits (P name) version g r (k.some name) in
     record { slack = 2 * P name; moved = side_moved P nodes n name r (record { remote = Rattle.crl_protocol.specs.Remote.remote_takes_grant version g r; posts = []; opened = false }) (2 * P name) e (omega arith); fixed = omega arith }
-paid_copies P nodes es j d n cause o (side_called from m name r s is e) f w free may k =
-    record { slack = 0; moved = side_moved P nodes n name r s 0 e (called_credit P r m name s is (remote_bytes j d n name r e f) (k.side name r e)); fixed = omega arith }
+paid_copies P nodes es j n cause o (side_called from m name r s is e) f w free may k =
+    record { slack = 0; moved = side_moved P nodes n name r s 0 e (called_credit P r m name s is (remote_bytes j n name r e f) (k.side name r e)); fixed = omega arith }
 
 -- Lifetimes.
 purges_cost : (P : Name → ℕ) (nodes : ℕ) (n : Node) (name : Name) (ms : List ℕ) → cost P nodes (map (λ m. message_to n m (kind.Purge name)) ms) ≡ 2 * length ms
@@ -207,21 +206,21 @@ purged_few P nodes es n name x = let f = x.few in let h = members_less (lifetime
 going_credit : (me deleter : ℕ) → stage_credit me (stage.Going deleter) ≤ 1
 going_credit me deleter = cond_both (deleter == me) 0 1 (λ x. x ≤ 1) (λ w. omega arith) (λ w. omega arith)
 
-forgets_fit : (P : Name → ℕ) (nodes : ℕ) (es : List Entry) (j : ℕ) (d : Name → List ℕ) (n : Node) (name : Name) → Fits j n d → Facts P nodes es n → (r : Remote) → n.remotes name ≡ Some r → CopyFits r.copy r.size × (P name ≡ count r.size)
-forgets_fit P nodes es j d n name f x r e = (remote_bytes j d n name r e f, x.side name r e)
+forgets_fit : (P : Name → ℕ) (nodes : ℕ) (es : List Entry) (j : ℕ) (n : Node) (name : Name) → Fits j n → Facts P nodes es n → (r : Remote) → n.remotes name ≡ Some r → CopyFits r.copy r.size × (P name ≡ count r.size)
+forgets_fit P nodes es j n name f x r e = (remote_bytes j n name r e f, x.side name r e)
 
 warned : (P : Name → ℕ) (me : ℕ) (name : Name) (a : Activity) → wait_credit P me (purges_waiting name a) ≡ wait_credit P me a
 warned P me name (Waiting (Rattle.crl_protocol.specs.Node.ForMap p purged)) = refl
 warned P me name _ = refl
 
-paid_lives : (P : Name → ℕ) (nodes : ℕ) (es : List Entry) (j : ℕ) (d : Name → List ℕ) (n : Node) (cause : Cause) (o : Outcome) → Lives n cause o → Fits j n d → FreeIf cause n → Facts P nodes es n → PaidBy P nodes es n cause o
-paid_lives P nodes es j d n cause o (made size e) f free x = record { slack = 0; moved = made_moved P n size 0; fixed = omega arith }
-paid_lives P nodes es j d n cause o (used_up size why e y) f free x = record { slack = 0; moved = used_moved P n 0; fixed = omega arith }
-paid_lives P nodes es j d n cause o (map_asks name e other c real) f free x = record { slack = 2; moved = still_moved (name_credit P n) _ 2 (let k = cost_one P nodes (message_to n name.home (kind.InfoAsk name)) refl in omega arith); fixed = omega arith }
-paid_lives P nodes es j d n cause o (map_told from name mine live) f free x =
+paid_lives : (P : Name → ℕ) (nodes : ℕ) (es : List Entry) (j : ℕ) (n : Node) (cause : Cause) (o : Outcome) → Lives n cause o → Fits j n → FreeIf cause n → Facts P nodes es n → PaidBy P nodes es n cause o
+paid_lives P nodes es j n cause o (made size e) f free x = record { slack = 0; moved = made_moved P n size 0; fixed = omega arith }
+paid_lives P nodes es j n cause o (used_up size why e y) f free x = record { slack = 0; moved = used_moved P n 0; fixed = omega arith }
+paid_lives P nodes es j n cause o (map_asks name e other c real) f free x = record { slack = 2; moved = still_moved (name_credit P n) _ 2 (let k = cost_one P nodes (message_to n name.home (kind.InfoAsk name)) refl in omega arith); fixed = omega arith }
+paid_lives P nodes es j n cause o (map_told from name mine live) f free x =
     record { slack = 1; moved = stage_moved P n name _ stage.Live stage.Live _ 1 mine live live (let k = cost_one P nodes (message_to n from (kind.InfoIs name (Rattle.crl_model.specs.declared.message.Told.TheVariants.Live (Rattle.crl_protocol.specs.Calls.size_of (home_of n name))))) refl in omega arith); fixed = omega arith }
-paid_lives P nodes es j d n cause o (map_refused from name why t y u) f free x = record { slack = 1; moved = still_moved (name_credit P n) _ 1 (let k = cost_one P nodes (message_to n from (kind.InfoIs name t)) refl in omega arith); fixed = omega arith }
-paid_lives P nodes es j d n cause o (map_comes from name purged size e) f free x = record { slack = 0; moved = comes_moved (n.remotes name); fixed = let z = ap (wait_credit P n.me) e in omega arith }
+paid_lives P nodes es j n cause o (map_refused from name why t y u) f free x = record { slack = 1; moved = still_moved (name_credit P n) _ 1 (let k = cost_one P nodes (message_to n from (kind.InfoIs name t)) refl in omega arith); fixed = omega arith }
+paid_lives P nodes es j n cause o (map_comes from name purged size e) f free x = record { slack = 0; moved = comes_moved (n.remotes name); fixed = let z = ap (wait_credit P n.me) e in omega arith }
   where
     comes_moved : Option Remote → Moved (name_credit P n) (name_credit P o.node) (cost P nodes o.posts) 0
     comes_moved r = record {
@@ -229,45 +228,45 @@ paid_lives P nodes es j d n cause o (map_comes from name purged size e) f free x
       others = λ q y. (let z = Rattle.crl_bound.proofs.Credits.side_put P n name q (Some (Rattle.crl_protocol.specs.Remote.new_remote size)) y in omega arith);
       own = (let z = Rattle.crl_bound.proofs.Credits.side_there P n name (Some (Rattle.crl_protocol.specs.Remote.new_remote size)) in omega arith);
     }
-paid_lives P nodes es j d n cause o (map_denied from name purged s why t y u e) f free x = record { slack = 0; moved = still_moved (name_credit P n) _ 0 (omega arith); fixed = let z = ap (wait_credit P n.me) e in omega arith }
-paid_lives P nodes es j d n cause o (unmaps_doomed name m e one other doomed closed) f free x = record { slack = 0; moved = forget_moved P nodes n name (n.remotes name) refl (forgets_fit P nodes es j d n name f x); fixed = omega arith }
-paid_lives P nodes es j d n cause o (unmaps_evicting name m old e one other sound closed kept) f free x = record { slack = 0; moved = forget_moved P nodes n old (n.remotes old) refl (forgets_fit P nodes es j d n old f x); fixed = omega arith }
-paid_lives P nodes es j d n cause o (deletes_alone name mine live e) f free x = record { slack = 0; moved = stage_moved P n name _ stage.Live stage.Gone _ 0 mine live refl (omega arith); fixed = omega arith }
-paid_lives P nodes es j d n cause o (deletes_own name m ms mine live e) f free x =
+paid_lives P nodes es j n cause o (map_denied from name purged s why t y u e) f free x = record { slack = 0; moved = still_moved (name_credit P n) _ 0 (omega arith); fixed = let z = ap (wait_credit P n.me) e in omega arith }
+paid_lives P nodes es j n cause o (unmaps_doomed name m e one other doomed closed) f free x = record { slack = 0; moved = forget_moved P nodes n name (n.remotes name) refl (forgets_fit P nodes es j n name f x); fixed = omega arith }
+paid_lives P nodes es j n cause o (unmaps_evicting name m old e one other sound closed kept) f free x = record { slack = 0; moved = forget_moved P nodes n old (n.remotes old) refl (forgets_fit P nodes es j n old f x); fixed = omega arith }
+paid_lives P nodes es j n cause o (deletes_alone name mine live e) f free x = record { slack = 0; moved = stage_moved P n name _ stage.Live stage.Gone _ 0 mine live refl (omega arith); fixed = omega arith }
+paid_lives P nodes es j n cause o (deletes_own name m ms mine live e) f free x =
     let sent = purges_cost P nodes n name (members n.nodes (lifetime_of n name).asked) in
     let few = purged_few P nodes es n name x in
     let none : stage_credit n.me (stage.Going n.me) ≡ 0 = cond-true (n.me == n.me) 0 1 (eq-eqb n.me n.me refl) in
     record { slack = 2 * nodes; moved = stage_moved P n name _ stage.Live (stage.Going n.me) _ (2 * nodes) mine live refl (omega arith); fixed = omega arith }
-paid_lives P nodes es j d n cause o (delete_asks name other real) f free x =
+paid_lives P nodes es j n cause o (delete_asks name other real) f free x =
     record { slack = 2 * nodes; moved = still_moved (name_credit P n) _ (2 * nodes) (let k = cost_one P nodes (message_to n name.home (kind.DeleteAsk name)) refl in let s = x.small in omega arith); fixed = omega arith }
-paid_lives P nodes es j d n cause o (deletes_alone_for from name mine live e) f free x =
+paid_lives P nodes es j n cause o (deletes_alone_for from name mine live e) f free x =
     let s = x.small in
     record { slack = 2 * nodes - 1; moved = stage_moved P n name _ stage.Live stage.Gone _ (2 * nodes - 1) mine live refl (let k = cost_one P nodes (message_to n from (kind.DeleteIs name Rattle.crl_model.specs.declared.message.DeleteTold.TheVariants.Done)) refl in omega arith); fixed = omega arith }
-paid_lives P nodes es j d n cause o (deletes_for from name m ms mine live e) f free x =
+paid_lives P nodes es j n cause o (deletes_for from name m ms mine live e) f free x =
     let sent = purges_cost P nodes n name (members n.nodes (lifetime_of n name).asked) in
     let few = purged_few P nodes es n name x in
     let one = going_credit n.me from in
     record { slack = 2 * nodes - 1; moved = stage_moved P n name _ stage.Live (stage.Going from) _ (2 * nodes - 1) mine live refl (omega arith); fixed = omega arith }
-paid_lives P nodes es j d n cause o (delete_refused from name why t y u) f free x =
+paid_lives P nodes es j n cause o (delete_refused from name why t y u) f free x =
     let s = x.small in
     record { slack = 2 * nodes - 1; moved = still_moved (name_credit P n) _ (2 * nodes - 1) (let k = cost_one P nodes (message_to n from (kind.DeleteIs name y)) refl in omega arith); fixed = omega arith }
-paid_lives P nodes es j d n cause o (delete_comes from name t e) f free x = record { slack = 0; moved = still_moved (name_credit P n) _ 0 (omega arith); fixed = let z = ap (wait_credit P n.me) e in omega arith }
-paid_lives P nodes es j d n cause o (dooms from name m e) f free x = record { slack = 1; moved = still_moved (name_credit P n) _ 1 (let k = cost_one P nodes (message_to n from (kind.Purged name)) refl in omega arith); fixed = omega arith }
-paid_lives P nodes es j d n cause o (drops from name size e c) f free x =
+paid_lives P nodes es j n cause o (delete_comes from name t e) f free x = record { slack = 0; moved = still_moved (name_credit P n) _ 0 (omega arith); fixed = let z = ap (wait_credit P n.me) e in omega arith }
+paid_lives P nodes es j n cause o (dooms from name m e) f free x = record { slack = 1; moved = still_moved (name_credit P n) _ 1 (let k = cost_one P nodes (message_to n from (kind.Purged name)) refl in omega arith); fixed = omega arith }
+paid_lives P nodes es j n cause o (drops from name size e c) f free x =
     let both = cost_append P nodes (parting n name (n.remotes name)) (message_to n from (kind.Purged name) ∷ []) in
     let k = cost_one P nodes (message_to n from (kind.Purged name)) refl in
-    let m = forget_moved P nodes n name (n.remotes name) refl (forgets_fit P nodes es j d n name f x) in
+    let m = forget_moved P nodes n name (n.remotes name) refl (forgets_fit P nodes es j n name f x) in
     let own = m.own in
     record { slack = 1; moved = record { name = m.name; others = m.others; own = omega arith }; fixed = omega arith }
-paid_lives P nodes es j d n cause o (warns from name e c) f free x =
+paid_lives P nodes es j n cause o (warns from name e c) f free x =
     let same = warned P n.me name n.activity in
     record { slack = 1; moved = still_moved (name_credit P n) _ 1 (let k = cost_one P nodes (message_to n from (kind.Purged name)) refl in omega arith); fixed = omega arith }
-paid_lives P nodes es j d n cause o (counts_off from name deleter m ms mine e missing left) f free x = record { slack = 0; moved = stage_moved P n name _ (stage.Going deleter) (stage.Going deleter) _ 0 mine e e (omega arith); fixed = omega arith }
-paid_lives P nodes es j d n cause o (ends_own from name mine e missing last) f free x = record { slack = 0; moved = stage_moved P n name _ (stage.Going n.me) stage.Gone _ 0 mine e refl (omega arith); fixed = omega arith }
-paid_lives P nodes es j d n cause o (ends_for from name deleter mine e other missing last) f free x =
+paid_lives P nodes es j n cause o (counts_off from name deleter m ms mine e missing left) f free x = record { slack = 0; moved = stage_moved P n name _ (stage.Going deleter) (stage.Going deleter) _ 0 mine e e (omega arith); fixed = omega arith }
+paid_lives P nodes es j n cause o (ends_own from name mine e missing last) f free x = record { slack = 0; moved = stage_moved P n name _ (stage.Going n.me) stage.Gone _ 0 mine e refl (omega arith); fixed = omega arith }
+paid_lives P nodes es j n cause o (ends_for from name deleter mine e other missing last) f free x =
     let one : stage_credit n.me (stage.Going deleter) ≡ 1 = cond-false (deleter == n.me) 0 1 other in
     record { slack = 0; moved = stage_moved P n name _ (stage.Going deleter) stage.Gone _ 0 mine e refl (let k = cost_one P nodes (message_to n deleter (kind.DeleteIs name Rattle.crl_model.specs.declared.message.DeleteTold.TheVariants.Done)) refl in omega arith); fixed = omega arith }
-paid_lives P nodes es j d n cause o _ f free x = record { slack = 0; moved = still_moved (name_credit P n) _ 0 (omega arith); fixed = omega arith }
+paid_lives P nodes es j n cause o _ f free x = record { slack = 0; moved = still_moved (name_credit P n) _ 0 (omega arith); fixed = omega arith }
 
 -- Rounds.
 parts_before : (m k from : ℕ) (parts : ℕ → Option Part) (p : Part) → from < m → parts_credit m k (at_node parts from (Some p)) ≡ parts_credit m k parts
@@ -343,10 +342,10 @@ paid_notes : (P : Name → ℕ) (nodes : ℕ) (n : Node) (c : Call) (w : What) (
 paid_notes P nodes n c w m (ends_nowhere x name y ends lowers is e) = (still_moved (name_credit P n) 0 0 (omega arith), refl)
 paid_notes P nodes n c w m _ = (still_moved (name_credit P n) 0 0 (omega arith), refl)
 
-pub paid_deed : (P : Name → ℕ) (nodes : ℕ) (es : List Entry) (j : ℕ) (d : Name → List ℕ) (n : Node) (cause : Cause) (o : Outcome) → Deed n cause o → Fits j n d → Came Leaves n.me cause → FreeIf cause n → MayCall cause n → Facts P nodes es n → PaidBy P nodes es n cause o
-paid_deed P nodes es j d n cause o (copies c) f away free may x = paid_copies P nodes es j d n cause o c f away free may x
-paid_deed P nodes es j d n cause o (lives c) f away free may x = paid_lives P nodes es j d n cause o c f free x
-paid_deed P nodes es j d n cause o (rounds c) f away free may x = paid_rounds P nodes es n cause o c free
-paid_deed P nodes es j d n cause o (notes {m = m} c) f away free may x = let p = paid_notes P nodes n _ _ m c in record { slack = 0; moved = p.0; fixed = let same = p.1 in omega arith }
-paid_deed P nodes es j d n cause o (refuses c why v) f away free may x = record { slack = 0; moved = still_moved (name_credit P n) 0 0 (omega arith); fixed = omega arith }
-paid_deed P nodes es j d n cause o (idles h) f away free may x = record { slack = 0; moved = still_moved (name_credit P n) 0 0 (omega arith); fixed = omega arith }
+pub paid_deed : (P : Name → ℕ) (nodes : ℕ) (es : List Entry) (j : ℕ) (n : Node) (cause : Cause) (o : Outcome) → Deed n cause o → Fits j n → Came Leaves n.me cause → FreeIf cause n → MayCall cause n → Facts P nodes es n → PaidBy P nodes es n cause o
+paid_deed P nodes es j n cause o (copies c) f away free may x = paid_copies P nodes es j n cause o c f away free may x
+paid_deed P nodes es j n cause o (lives c) f away free may x = paid_lives P nodes es j n cause o c f free x
+paid_deed P nodes es j n cause o (rounds c) f away free may x = paid_rounds P nodes es n cause o c free
+paid_deed P nodes es j n cause o (notes {m = m} c) f away free may x = let p = paid_notes P nodes n _ _ m c in record { slack = 0; moved = p.0; fixed = let same = p.1 in omega arith }
+paid_deed P nodes es j n cause o (refuses c why v) f away free may x = record { slack = 0; moved = still_moved (name_credit P n) 0 0 (omega arith); fixed = omega arith }
+paid_deed P nodes es j n cause o (idles h) f away free may x = record { slack = 0; moved = still_moved (name_credit P n) 0 0 (omega arith); fixed = omega arith }

@@ -1,5 +1,6 @@
 -- Each event of a run by its kind: what a node does at a call, at a message, with a piece, with an answer; or a piece that
 -- is carried.
+use Rattle.crl_deeds.proofs.Laws.{call_deed, message_deed, took_at}
 use Rattle.std.proofs.Common.{◌≡◌, ℕ, zero, suc, ◌<◌, ◌&&◌, true, None, Some, Option, List, [], ◌∷◌, length, refl, sym, subst, arith}
 use Rattle.std.specs.Prelude.{nat_lt}
 use Rattle.std.proofs.lemmas.Bool.{cond_both, and_parts, ltb-true}
@@ -19,9 +20,6 @@ use Rattle.crl_protocol.specs.Handlers.{node_handles}
 use Rattle.crl_protocol.specs.Verdict.{verdict}
 use Rattle.crl_protocol.specs.World.{World, WorldStep, is_call, collects, carries, steps_node, handles_at, step, is_free, is_ready, is_enabled, noted_call}
 use Rattle.crl_deeds.specs.Deeds.{Calls, Hears, Deed}
-use Rattle.crl_deeds.proofs.Deeding.{call_deed}
-use Rattle.crl_deeds.proofs.Hearing.{message_deed}
-use Rattle.crl_deeds.proofs.Turning.{took_at}
 
 pub data Happens (w : World) : Event → WorldStep → Type 0 where
   calls : (i : ℕ) (c : Call) (e : Event) (o : Outcome) → i < w.count → (w.nodes i).activity ≡ Free → is_call (w.nodes i) c (verdict (w.nodes i) c) ≡ true → Deed (w.nodes i) (Calls c) o → Happens w (event.Call i c) (steps_node i e o w)

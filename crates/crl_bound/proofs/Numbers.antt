@@ -12,15 +12,12 @@ use Rattle.crl_protocol.specs.Places.{Took, here, there}
 use Rattle.crl_protocol.specs.Handlers.{purges_waiting}
 use Rattle.crl_protocol.specs.Node.{Node, Activity, Free, Waiting, Ready, ForMap, Outcome, Done, only}
 use Rattle.crl_protocol.specs.World.{World, WorldStep, new_world, note, put_in, commits, carries, step, IsRunFrom, world_after, world_of, messages_sent_from}
-use Rattle.crl_deeds.proofs.Fitting.{Leaves, ComesIn, Fits}
-use Rattle.crl_deeds.proofs.Sound.{away_load}
-use Rattle.crl_deeds.proofs.Handling.{waits_own, waits_granted}
-use Rattle.crl_deeds.proofs.Outcomes.{home_bytes, queue_of, asking_of}
-use Rattle.crl_deeds.proofs.Mapping.{going_own}
-use Rattle.crl_deeds.proofs.Turning.{Came, deed_frame, all_took}
-use Rattle.crl_deeds.proofs.Totals.{sum_from, sum, sum_with, sum_new}
-use Rattle.crl_deeds.proofs.Knowing.{Known, known_start, known_step}
 use Rattle.crl_deeds.specs.Deeds.{Cause, Calls, Hears, Copies, Lives, Rounds, Notes, Deed, copies, lives, rounds, notes, home_serves_own, grant_comes, home_waits, side_waits, map_asks, map_comes, map_denied, deletes_own, delete_asks, delete_comes, warns, ends_own, comes_away, comes_home, part_last, result_comes, flushes_own}
+use Rattle.crl_deeds.proofs.Laws.{away_load, waits_own, waits_granted, home_bytes, queue_of, asking_of, going_own, deed_frame, all_took, sum_with, sum_new, known_start, known_step}
+use Rattle.crl_deeds.specs.Counts.{Known}
+use Rattle.crl_deeds.specs.NodeFacts.{Leaves, ComesIn, Fits}
+use Rattle.crl_deeds.specs.Tokens.{sum_from, sum}
+use Rattle.crl_deeds.specs.Turns.{Came}
 use Rattle.crl_bound.specs.Counters.{BoundsEachRun, count_calls, count_collects, count_handles, count_carries, EventsFew}
 use Rattle.crl_bound.proofs.Events.{Happens, calls, hears, gathers, answers, carriage, happens}
 use Rattle.crl_bound.proofs.Budgets.{sum_past}
@@ -46,28 +43,28 @@ called (Hears from k) = 0
 busy_from : (a b c : Activity) (x : ℕ) → a ≡ b → busy b ≡ 1 → busy c ≤ busy a + x
 busy_from a b c x e h = let k = ap busy e in let m = at_most c in omega arith
 
-busy_copies : (j : ℕ) (d : Name → List ℕ) (n : Node) (cause : Cause) (o : Outcome) → Copies n cause o → Fits j n d → Came Leaves n.me cause → busy o.node.activity ≤ busy n.activity + called cause
-busy_copies j d n cause o (home_waits c write name h is e v x) f w = let m = at_most o.node.activity in omega arith
-busy_copies j d n cause o (side_waits c write name r is e k v x) f w = let m = at_most o.node.activity in omega arith
-busy_copies j d n cause o (home_serves_own from k name h y is e x) f w =
-    busy_from n.activity _ o.node.activity 0 (waits_own n.me name h y n.activity x (serves_goes n h from k name y is w (home_bytes j d n name h e f)) (queue_of j d n name h e f)) refl
-busy_copies j d n cause o (grant_comes from name version g r e y) f w = busy_from n.activity _ o.node.activity 0 (waits_granted name g r n.activity y (asking_of j d n name r e f)) refl
-busy_copies j d n cause o _ f w = omega arith
+busy_copies : (j : ℕ) (n : Node) (cause : Cause) (o : Outcome) → Copies n cause o → Fits j n → Came Leaves n.me cause → busy o.node.activity ≤ busy n.activity + called cause
+busy_copies j n cause o (home_waits c write name h is e v x) f w = let m = at_most o.node.activity in omega arith
+busy_copies j n cause o (side_waits c write name r is e k v x) f w = let m = at_most o.node.activity in omega arith
+busy_copies j n cause o (home_serves_own from k name h y is e x) f w =
+    busy_from n.activity _ o.node.activity 0 (waits_own n.me name h y n.activity x (serves_goes n h from k name y is w (home_bytes j n name h e f)) (queue_of j n name h e f)) refl
+busy_copies j n cause o (grant_comes from name version g r e y) f w = busy_from n.activity _ o.node.activity 0 (waits_granted name g r n.activity y (asking_of j n name r e f)) refl
+busy_copies j n cause o _ f w = omega arith
 
 warned : (name : Name) (a : Activity) → busy (purges_waiting name a) ≡ busy a
 warned name (Waiting (ForMap p purged)) = refl
 warned name _ = refl
 
-busy_lives : (j : ℕ) (d : Name → List ℕ) (n : Node) (cause : Cause) (o : Outcome) → Lives n cause o → Fits j n d → busy o.node.activity ≤ busy n.activity + called cause
-busy_lives j d n cause o (map_asks name e other c real) f = omega arith
-busy_lives j d n cause o (map_comes from name purged size e) f = busy_from n.activity _ o.node.activity 0 e refl
-busy_lives j d n cause o (map_denied from name purged s why t q u e) f = busy_from n.activity _ o.node.activity 0 e refl
-busy_lives j d n cause o (deletes_own name m ms mine live e) f = omega arith
-busy_lives j d n cause o (delete_asks name other real) f = omega arith
-busy_lives j d n cause o (delete_comes from name t e) f = busy_from n.activity _ o.node.activity 0 e refl
-busy_lives j d n cause o (warns from name e c) f = let k = warned name n.activity in omega arith
-busy_lives j d n cause o (ends_own from name mine e missing last) f = busy_from n.activity _ o.node.activity 0 (going_own n.me name _ n.activity (f.each name).going e) refl
-busy_lives j d n cause o _ f = omega arith
+busy_lives : (j : ℕ) (n : Node) (cause : Cause) (o : Outcome) → Lives n cause o → Fits j n → busy o.node.activity ≤ busy n.activity + called cause
+busy_lives j n cause o (map_asks name e other c real) f = omega arith
+busy_lives j n cause o (map_comes from name purged size e) f = busy_from n.activity _ o.node.activity 0 e refl
+busy_lives j n cause o (map_denied from name purged s why t q u e) f = busy_from n.activity _ o.node.activity 0 e refl
+busy_lives j n cause o (deletes_own name m ms mine live e) f = omega arith
+busy_lives j n cause o (delete_asks name other real) f = omega arith
+busy_lives j n cause o (delete_comes from name t e) f = busy_from n.activity _ o.node.activity 0 e refl
+busy_lives j n cause o (warns from name e c) f = let k = warned name n.activity in omega arith
+busy_lives j n cause o (ends_own from name mine e missing last) f = busy_from n.activity _ o.node.activity 0 (going_own n.me name _ n.activity (f.each name).going e) refl
+busy_lives j n cause o _ f = omega arith
 
 busy_rounds : (n : Node) (cause : Cause) (o : Outcome) → Rounds n cause o → busy o.node.activity ≤ busy n.activity + called cause
 busy_rounds n cause o (comes_away part other fits) = omega arith
@@ -80,12 +77,12 @@ busy_notes : (n : Node) (c : Rattle.crl_model.specs.declared.call.Call.Call) (w 
 busy_notes n c w m (flushes_own name mine closed) = refl
 busy_notes n c w m _ = refl
 
-busy_deed : (j : ℕ) (d : Name → List ℕ) (n : Node) (cause : Cause) (o : Outcome) → Deed n cause o → Fits j n d → Came Leaves n.me cause → busy o.node.activity ≤ busy n.activity + called cause
-busy_deed j d n cause o (copies c) f w = busy_copies j d n cause o c f w
-busy_deed j d n cause o (lives c) f w = busy_lives j d n cause o c f
-busy_deed j d n cause o (rounds c) f w = busy_rounds n cause o c
-busy_deed j d n cause o (notes {m = m} c) f w = let same = ap busy (busy_notes n _ _ m c) in omega arith
-busy_deed j d n cause o _ f w = omega arith
+busy_deed : (j : ℕ) (n : Node) (cause : Cause) (o : Outcome) → Deed n cause o → Fits j n → Came Leaves n.me cause → busy o.node.activity ≤ busy n.activity + called cause
+busy_deed j n cause o (copies c) f w = busy_copies j n cause o c f w
+busy_deed j n cause o (lives c) f w = busy_lives j n cause o c f
+busy_deed j n cause o (rounds c) f w = busy_rounds n cause o c
+busy_deed j n cause o (notes {m = m} c) f w = let same = ap busy (busy_notes n _ _ m c) in omega arith
+busy_deed j n cause o _ f w = omega arith
 
 -- What a world has of it: pieces sent and not yet carried, carried and not yet handled, and nodes that aren't free.
 abbrev waits_out : Node → ℕ
@@ -141,12 +138,12 @@ happens_counts w e v x (hears i place p rest parcels part o few took deed) a b c
     let n : Node = record (w.nodes i) { inbox = rest; parcels = parcels } in
     let t = x.fits i in
     let mine = all_took (ComesIn (w.nodes i).me) took t.inbox in
-    let fits : Fits i n (x.drafts i) = record { me = t.me; each = t.each; cache = t.cache; fresh = t.fresh; inbox = mine.1; outbox = t.outbox } in
+    let fits : Fits i n = record { me = t.me; each = t.each; cache = t.cache; fresh = t.fresh; inbox = mine.1; outbox = t.outbox } in
     let away : Came Leaves n.me (Hears p.message.sender (with_load part p.message.kind)) = subst (λ (y : Type 0). y) (away_load p.message.sender n.me part p.message.kind) mine.0 in
     let after : Node = commits w.events (event.Handle i place) o in
     let g = grown w n (Hears p.message.sender (with_load part p.message.kind)) (event.Handle i place) o deed in
     let less = length_took took in
-    let still = busy_deed i (x.drafts i) n (Hears p.message.sender (with_load part p.message.kind)) o deed fits away in
+    let still = busy_deed i n (Hears p.message.sender (with_load part p.message.kind)) o deed fits away in
     let one = sum_with waits_out w.count i w.nodes after few in
     let two = sum_with sent w.count i w.nodes after few in
     let three = sum_with waits_in w.count i w.nodes after few in

@@ -17,16 +17,15 @@ use Rattle.crl_protocol.specs.Parcels.{Piece, with_load, PartsGathered}
 use Rattle.crl_protocol.specs.Node.{Node, new_node, Done, Free, Outcome, only, is_mine, home_of, at_serial}
 use Rattle.crl_protocol.specs.Talk.{created_size, pieces_or_one, created_pieces, bound_of, bound_at, bound_from}
 use Rattle.crl_protocol.specs.World.{World, WorldStep, new_world, note, put_in, steps_node, carries, step, is_enabled, IsRunFrom, world_after, account_from, account, world_of, messages_sent_from}
-use Rattle.crl_deeds.proofs.Fitting.{Leaves, ComesIn, Fits}
-use Rattle.crl_deeds.proofs.Sound.{away_load}
-use Rattle.crl_deeds.proofs.Growing.{world_grows}
-use Rattle.crl_deeds.proofs.Turning.{Came, deed_frame, all_took, each_at}
-use Rattle.crl_deeds.proofs.Totals.{on_piece, weigh_took, sum_from, sum_new}
-use Rattle.crl_deeds.proofs.Knowing.{Known, known_start, known_step}
 use Rattle.crl_deeds.specs.Deeds.{Cause, Calls, Hears, Deed}
 use Rattle.crl_coherence.specs.Pairs.{SectionFits}
 use Rattle.crl_regions.specs.Sides.{SidesFit}
 use Rattle.crl_regions.proofs.Laws.{sides_in_runs}
+use Rattle.crl_deeds.proofs.Laws.{away_load, deed_frame, all_took, each_at, weigh_took, sum_new, known_start, known_step}
+use Rattle.crl_deeds.specs.Counts.{Known}
+use Rattle.crl_deeds.specs.NodeFacts.{Leaves, ComesIn, Fits}
+use Rattle.crl_deeds.specs.Tokens.{on_piece, sum_from}
+use Rattle.crl_deeds.specs.Turns.{Came}
 use Rattle.crl_bound.specs.Counters.{BoundsEachRun, MessagesFew}
 use Rattle.crl_bound.proofs.Costs.{token, token_part, token_keyed, count_some}
 use Rattle.crl_bound.proofs.Sides.{IsExclusive}
@@ -101,25 +100,25 @@ pays P w es budget e v (calls i c noted o few free may d) x h =
     let mes : (k : ℕ) → (w.nodes k).me ≡ k = λ k. (x.known.fits k).me in
     record {
       budget_after = budget_outcome P w i (w.nodes i) noted o 0 (bound_of w.count es c) budget few mes (deed_frame _ _ _ d) (mes i) (posted_same _ _ o d) (λ names. (let y = names_me P w mes i names in omega arith))
-          (paid_deed P w.count es i (x.known.drafts i) (w.nodes i) (Calls c) o d (x.known.fits i) tt free may f) h;
-      tables_after = tables_outcome w es i (w.nodes i) noted o (λ q. refl) (mes i) (table_deed P w.count es i (x.known.drafts i) (w.nodes i) (Calls c) o d (x.known.fits i) may f) x.tables;
+          (paid_deed P w.count es i (w.nodes i) (Calls c) o d (x.known.fits i) tt free may f) h;
+      tables_after = tables_outcome w es i (w.nodes i) noted o (λ q. refl) (mes i) (table_deed P w.count es i (w.nodes i) (Calls c) o d (x.known.fits i) may f) x.tables;
     }
 pays P w es budget e v (hears i place p rest parcels part o few took d) x h =
     let n = hearer w i rest parcels in
     let f = heard_facts P w es x i rest parcels few in
     let t = x.known.fits i in
     let mine = all_took (ComesIn (w.nodes i).me) took t.inbox in
-    let fits : Fits i n (x.known.drafts i) = record { me = t.me; each = t.each; cache = t.cache; fresh = t.fresh; inbox = mine.1; outbox = t.outbox } in
+    let fits : Fits i n = record { me = t.me; each = t.each; cache = t.cache; fresh = t.fresh; inbox = mine.1; outbox = t.outbox } in
     let away : Came Leaves n.me (Hears p.message.sender (with_load part p.message.kind)) = subst (λ (y : Type 0). y) (away_load p.message.sender n.me part p.message.kind) mine.0 in
     let mes : (k : ℕ) → (w.nodes k).me ≡ k = λ k. (x.known.fits k).me in
     let took_out = weigh_took (on_piece (token P w.count)) took in
     let weight = token_part P w.count part p.message.kind in
     let bounded : Budget P (steps_node i (event.Handle i place) o w).world (budget + 0) =
     budget_outcome P w i n (event.Handle i place) o (token P w.count p.message) 0 budget few mes (deed_frame _ _ _ d) t.me (posted_same _ _ o d) (λ names. (let y = names_me P w mes i names in omega arith))
-    (subst (λ z. Paid P w.count n o (z + 0)) weight (paid_deed P w.count es i (x.known.drafts i) n (Hears p.message.sender (with_load part p.message.kind)) o d fits away tt tt f)) h in
+    (subst (λ z. Paid P w.count n o (z + 0)) weight (paid_deed P w.count es i n (Hears p.message.sender (with_load part p.message.kind)) o d fits away tt tt f)) h in
     record {
       budget_after = bounded;
-      tables_after = tables_outcome w es i n (event.Handle i place) o (λ q. refl) t.me (table_deed P w.count es i (x.known.drafts i) n (Hears p.message.sender (with_load part p.message.kind)) o d fits tt f) x.tables;
+      tables_after = tables_outcome w es i n (event.Handle i place) o (λ q. refl) t.me (table_deed P w.count es i n (Hears p.message.sender (with_load part p.message.kind)) o d fits tt f) x.tables;
     }
 pays P w es budget e v (gathers i place p rest parcels key few took keyed) x h =
     let n = hearer w i rest parcels in
@@ -153,6 +152,10 @@ pays P w es budget e v (carriage i place p rest few took) x h =
     }
 
 -- A run.
+world_grows : (w : World) (front : List Event) (e : Event) → world_after w (front ++ e ∷ []) ≡ (step e (world_after w front)).world
+world_grows w [] e = refl
+world_grows w (x ∷ front) e = world_grows (step x w).world front e
+
 run_snoc : (w : World) (front : List Event) (e : Event) → IsRunFrom w front → is_enabled e (world_after w front) ≡ true → IsRunFrom w (front ++ e ∷ [])
 run_snoc w [] e r h = (h, tt)
 run_snoc w (x ∷ front) e r h = (r.0, run_snoc (step x w).world front e r.1 h)

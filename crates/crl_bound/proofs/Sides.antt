@@ -8,7 +8,7 @@ use Rattle.crl_model.specs.declared.message.Granted.TheVariants.{Shared, Exclusi
 use Rattle.crl_pieces.specs.Pieces.{count}
 use Rattle.crl_protocol.specs.Home.{one_section_less}
 use Rattle.crl_protocol.specs.Remote.{Copy, Remote, RemoteStep, sends_nothing, gives_back, lowers, remote_starts, starts_over, opens_here, asks_home, remote_takes_grant, copy_after_grant, notes_due, is_newer, overtakes, recall_in, recall_over, remote_takes_recall, yield_in, yield_over, remote_takes_yield, leaves_over, lowers_over, is_closed, remote_ends_read, with_written, remote_ends_write, flushes_over, remote_flushes}
-use Rattle.crl_deeds.proofs.Fitting.{CopyFits}
+use Rattle.crl_deeds.specs.NodeFacts.{CopyFits}
 use Rattle.crl_bound.proofs.Costs.{count_some, mail_cost, mails_cost}
 
 abbrev pub copy_credit : ℕ → Bool → Option Copy → ℕ

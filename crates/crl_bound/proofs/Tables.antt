@@ -19,9 +19,9 @@ use Rattle.crl_protocol.specs.Calls.{creates, result_of}
 use Rattle.crl_protocol.specs.Sections.{is_writing}
 use Rattle.crl_protocol.specs.Talk.{size_in, created_size}
 use Rattle.crl_protocol.specs.World.{World, commits, steps_node}
-use Rattle.crl_deeds.proofs.Fitting.{same_name, Fits}
-use Rattle.crl_deeds.proofs.Tabling.{home_put, home_end, home_next, home_none}
 use Rattle.crl_deeds.specs.Deeds.{Cause, EndsCall, a_read, a_write, Copies, home_opens, home_waits, side_opens, side_waits, home_ends, side_ends, side_flushes, home_serves, home_serves_own, grant_comes, side_called, Lives, made, used_up, map_asks, map_comes, map_denied, deletes_alone, delete_asks, deletes_alone_for, delete_comes, dooms, drops, warns, counts_off, Rounds, comes_away, comes_home, comes_last, part_comes, part_last, part_last_idle, result_comes, Notes, ends_nowhere, Deed, copies, lives, rounds, notes, refuses, idles}
+use Rattle.crl_deeds.proofs.Laws.{same_name, home_put, home_end, home_next, home_none}
+use Rattle.crl_deeds.specs.NodeFacts.{Fits}
 use Rattle.crl_bound.proofs.Homes.{started_credits}
 use Rattle.crl_bound.proofs.Deeds.{Facts, MayCall, home_pieces, serves_credit, home_end_credit}
 
@@ -96,23 +96,23 @@ size_put n name h g is same q = ap table_size (home_put n name h g is q) ∙ go 
     go true x = ap Some same ∙ sym (ap table_size is) ∙ ap (λ p. table_size (home_of n p)) (same_name name q x)
     go false x = refl
 
-table_copies : (P : Name → ℕ) (nodes : ℕ) (es : List Entry) (j : ℕ) (d : Name → List ℕ) (n : Node) (cause : Cause) (o : Outcome) → Copies n cause o → Fits j n d → MayCall cause n → Facts P nodes es n → TableDeed n o
-table_copies P nodes es j d n cause o (home_opens c write name h is e v x) f may k =
-    keeps_tables (size_put n name h _ e (started_credits (P name) n.me write h (home_pieces P nodes es j d n name h e f k)).size) (start_none write name, tt)
-table_copies P nodes es j d n cause o (home_waits c write name h is e v x) f may k =
-    keeps_tables (size_put n name h _ e (started_credits (P name) n.me write h (home_pieces P nodes es j d n name h e f k)).size) tt
-table_copies P nodes es j d n cause o (home_ends c name y ends lowers h is e) f may k =
-    keeps_tables (size_put n name h _ e (home_end_credit P nodes es j d n c name y ends lowers h is may e f k).size) (end_none _ n c name y ends lowers is, tt)
-table_copies P nodes es j d n cause o (home_serves from m name h s is e x) f may k =
-    keeps_tables (size_put n name h _ e (serves_credit P nodes nodes es j d n h from m name s is e f k).size) tt
-table_copies P nodes es j d n cause o (home_serves_own from m name h s is e x) f may k =
-    keeps_tables (size_put n name h _ e (serves_credit P nodes nodes es j d n h from m name s is e f k).size) (start_none (is_writing s.home.mine) name, tt)
-table_copies P nodes es j d n cause o (side_opens c write name r is e g v x) f may k = keeps_tables (λ q. refl) (start_none write name, tt)
-table_copies P nodes es j d n cause o (side_waits c write name r is e g v x) f may k = keeps_tables (λ q. refl) tt
-table_copies P nodes es j d n cause o (side_ends c name y ends lowers r is e g) f may k = keeps_tables (λ q. refl) (end_none _ n c name y ends lowers is, tt)
-table_copies P nodes es j d n cause o (side_flushes name r other e closed) f may k = keeps_tables (λ q. refl) (tt, tt)
-table_copies P nodes es j d n cause o (grant_comes from name version g r e y) f may k = keeps_tables (λ q. refl) (start_none _ name, tt)
-table_copies P nodes es j d n cause o (side_called from m name r s is e) f may k = keeps_tables (λ q. refl) tt
+table_copies : (P : Name → ℕ) (nodes : ℕ) (es : List Entry) (j : ℕ) (n : Node) (cause : Cause) (o : Outcome) → Copies n cause o → Fits j n → MayCall cause n → Facts P nodes es n → TableDeed n o
+table_copies P nodes es j n cause o (home_opens c write name h is e v x) f may k =
+    keeps_tables (size_put n name h _ e (started_credits (P name) n.me write h (home_pieces P nodes es j n name h e f k)).size) (start_none write name, tt)
+table_copies P nodes es j n cause o (home_waits c write name h is e v x) f may k =
+    keeps_tables (size_put n name h _ e (started_credits (P name) n.me write h (home_pieces P nodes es j n name h e f k)).size) tt
+table_copies P nodes es j n cause o (home_ends c name y ends lowers h is e) f may k =
+    keeps_tables (size_put n name h _ e (home_end_credit P nodes es j n c name y ends lowers h is may e f k).size) (end_none _ n c name y ends lowers is, tt)
+table_copies P nodes es j n cause o (home_serves from m name h s is e x) f may k =
+    keeps_tables (size_put n name h _ e (serves_credit P nodes nodes es j n h from m name s is e f k).size) tt
+table_copies P nodes es j n cause o (home_serves_own from m name h s is e x) f may k =
+    keeps_tables (size_put n name h _ e (serves_credit P nodes nodes es j n h from m name s is e f k).size) (start_none (is_writing s.home.mine) name, tt)
+table_copies P nodes es j n cause o (side_opens c write name r is e g v x) f may k = keeps_tables (λ q. refl) (start_none write name, tt)
+table_copies P nodes es j n cause o (side_waits c write name r is e g v x) f may k = keeps_tables (λ q. refl) tt
+table_copies P nodes es j n cause o (side_ends c name y ends lowers r is e g) f may k = keeps_tables (λ q. refl) (end_none _ n c name y ends lowers is, tt)
+table_copies P nodes es j n cause o (side_flushes name r other e closed) f may k = keeps_tables (λ q. refl) (tt, tt)
+table_copies P nodes es j n cause o (grant_comes from name version g r e y) f may k = keeps_tables (λ q. refl) (start_none _ name, tt)
+table_copies P nodes es j n cause o (side_called from m name r s is e) f may k = keeps_tables (λ q. refl) tt
 
 table_lives : (n : Node) (cause : Cause) (o : Outcome) → Lives n cause o → TableDeed n o
 table_lives n cause o (made size e) = adds_table size (home_end n (creates size n).node (new_home n.nodes size) refl refl) refl
@@ -143,13 +143,13 @@ table_notes : (n : Node) (c : Call) (w : What) (m : Node) → Notes n c w m → 
 table_notes n c w m (ends_nowhere x name y ends lowers is e) = (end_none _ n c name y ends lowers is, λ q. refl)
 table_notes n c w m _ = (tt, λ q. refl)
 
-pub table_deed : (P : Name → ℕ) (nodes : ℕ) (es : List Entry) (j : ℕ) (d : Name → List ℕ) (n : Node) (cause : Cause) (o : Outcome) → Deed n cause o → Fits j n d → MayCall cause n → Facts P nodes es n → TableDeed n o
-table_deed P nodes es j d n cause o (copies c) f may x = table_copies P nodes es j d n cause o c f may x
-table_deed P nodes es j d n cause o (lives c) f may x = table_lives n cause o c
-table_deed P nodes es j d n cause o (rounds c) f may x = table_rounds n cause o c
-table_deed P nodes es j d n cause o (notes {m = m} c) f may x = let t = table_notes n _ _ m c in keeps_tables t.1 (t.0, tt)
-table_deed P nodes es j d n cause o (refuses c why v) f may x = keeps_tables (λ q. refl) (tt, tt)
-table_deed P nodes es j d n cause o (idles h) f may x = keeps_tables (λ q. refl) tt
+pub table_deed : (P : Name → ℕ) (nodes : ℕ) (es : List Entry) (j : ℕ) (n : Node) (cause : Cause) (o : Outcome) → Deed n cause o → Fits j n → MayCall cause n → Facts P nodes es n → TableDeed n o
+table_deed P nodes es j n cause o (copies c) f may x = table_copies P nodes es j n cause o c f may x
+table_deed P nodes es j n cause o (lives c) f may x = table_lives n cause o c
+table_deed P nodes es j n cause o (rounds c) f may x = table_rounds n cause o c
+table_deed P nodes es j n cause o (notes {m = m} c) f may x = let t = table_notes n _ _ m c in keeps_tables t.1 (t.0, tt)
+table_deed P nodes es j n cause o (refuses c why v) f may x = keeps_tables (λ q. refl) (tt, tt)
+table_deed P nodes es j n cause o (idles h) f may x = keeps_tables (λ q. refl) tt
 
 -- in the world
 at_home : (w : World) (j : ℕ) (m : Node) (q : Name) (o : Option ℕ) → ((j == q.home) ≡ true → table_size (home_of m q) ≡ o) → ((j == q.home) ≡ false → size_at w q ≡ o) → table_size (home_of (at_node w.nodes j m q.home) q) ≡ o

@@ -13,10 +13,6 @@ use Rattle.crl_model.specs.FoldOf.{fold_of}
 use Rattle.crl_protocol.specs.Gathering.{Gathering, all_parts, awaits}
 use Rattle.crl_protocol.specs.Node.{Node, ForRound, Activity, Free, Waiting, Outcome}
 use Rattle.crl_protocol.specs.Calls.{results}
-use Rattle.crl_deeds.proofs.Fitting.{Leaves, Fits}
-use Rattle.crl_deeds.proofs.Turning.{Came}
-use Rattle.crl_deeds.proofs.Totals.{weigh, waited, none_to, Balance}
-use Rattle.crl_deeds.proofs.Spans.{no_wait_as, came}
 use Rattle.crl_deeds.specs.Deeds.{FreeIf, Cause, Calls, Hears, with_parts, next_round, Rounds, comes_away, comes_home, comes_last, part_comes, part_last, part_last_idle, result_comes, Idles, Deed, copies, lives, rounds, notes, refuses, idles}
 use Rattle.crl_model.specs.declared.name.Name.{Name}
 use Rattle.crl_model.specs.declared.call.Call.{Call}
@@ -28,6 +24,10 @@ use Rattle.crl_model.specs.declared.entry.What.TheVariants as what
 use Rattle.crl_model.specs.Calls.{kind_of}
 use Rattle.crl_machine.specs.SingleMachine.{State}
 use Rattle.crl_protocol.specs.Verdict.{verdict, word_of, place_of}
+use Rattle.crl_deeds.proofs.Laws.{none_to, no_wait_as}
+use Rattle.crl_deeds.specs.NodeFacts.{Leaves, Fits}
+use Rattle.crl_deeds.specs.Tokens.{weigh, waited, Balance, came}
+use Rattle.crl_deeds.specs.Turns.{Came}
 use Rattle.crl_rounds.proofs.States.{NotMixed, refused_same, same_self, all_same, all_fit}
 use Rattle.crl_rounds.specs.Standing.{round_awaited, IsBetween, StandsIn, Stands, FitsRounds}
 use Rattle.crl_rounds.proofs.Still.{IsOtherKind, IsOther, IsOtherCause, Still, still_copies, still_lives, still_notes, cause_copies, cause_lives, refused_apart}
@@ -186,16 +186,16 @@ idle_none count g acts n (Hears from (kind.Result round fold)) h f i j small =
     let w = waits_in n.activity round (omega arith) in absurd (h w.0 w.1)
 idle_none count g acts n (Hears from _) h f i j small = refl
 
-pub kinds_of : (count j : ℕ) (d : Name → List ℕ) (g : Gathering) (activities : ℕ → Activity) (n : Node) (cause : Cause) (o : Outcome) → Deed n cause o → Fits j n d → Came Leaves n.me cause → FreeIf cause n → Facts count g activities n cause → Kinds count n cause o
-kinds_of count j d g acts n cause o (copies c) t away free f = of_other (still_copies j d n cause o c t away free) (λ i j small. came_other i j n.me cause (cause_copies n cause o c))
-kinds_of count j d g acts n cause o (lives c) t away free f = of_other (still_lives j d n cause o c t free) (λ i j small. came_other i j n.me cause (cause_lives n cause o c))
-kinds_of count j d g acts n cause o (rounds c) t away free f = of_rounds c
-kinds_of count j d g acts n cause o (notes {m = m} c) t away free f =
+pub kinds_of : (count j : ℕ) (g : Gathering) (activities : ℕ → Activity) (n : Node) (cause : Cause) (o : Outcome) → Deed n cause o → Fits j n → Came Leaves n.me cause → FreeIf cause n → Facts count g activities n cause → Kinds count n cause o
+kinds_of count j g acts n cause o (copies c) t away free f = of_other (still_copies j n cause o c t away free) (λ i j small. came_other i j n.me cause (cause_copies n cause o c))
+kinds_of count j g acts n cause o (lives c) t away free f = of_other (still_lives j n cause o c t free) (λ i j small. came_other i j n.me cause (cause_lives n cause o c))
+kinds_of count j g acts n cause o (rounds c) t away free f = of_rounds c
+kinds_of count j g acts n cause o (notes {m = m} c) t away free f =
     let s = still_notes n _ _ m c in
     of_other (record { rounds = s.1; gathering = s.2; awaited = ap round_awaited s.3; same = λ x. all_same x o.entries (s.0, tt); fit = λ k x h. all_fit x o.entries (s.0, tt); posts = tt }) (λ i j small. refl)
-kinds_of count j d g acts n cause o (refuses c why v) t away free f =
+kinds_of count j g acts n cause o (refuses c why v) t away free f =
     of_other (record { rounds = refl; gathering = refl; awaited = refl; same = λ x. refused_same x n.me (word_of c) (place_of n c) why (refused_apart n c why v); fit = λ k x h. (fit_refused n c why k x v free h, tt); posts = tt }) (λ i j small. refl)
-kinds_of count j d g acts n cause o (idles h) t away free f =
+kinds_of count j g acts n cause o (idles h) t away free f =
     of_other (record { rounds = refl; gathering = refl; awaited = refl; same = λ x. same_self x; fit = λ k x w. tt; posts = tt }) (idle_none count g acts n cause h f)
 
 pub deed_balance : (i j count : ℕ) (g : Gathering) (activities : ℕ → Activity) (n : Node) (cause : Cause) (o : Outcome) → Kinds count n cause o → o.node.me ≡ n.me → Facts count g activities n cause → FreeIf cause n → i < count

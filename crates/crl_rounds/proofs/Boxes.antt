@@ -16,9 +16,9 @@ use Rattle.crl_protocol.specs.Parcels.{Piece, load_of, with_load, piece_of, piec
 use Rattle.crl_protocol.specs.Places.{Took}
 use Rattle.crl_protocol.specs.Node.{Node, Outcome}
 use Rattle.crl_protocol.specs.World.{World, note, put_in, commits, steps_node, carries}
-use Rattle.crl_deeds.proofs.Placing.{all_append}
-use Rattle.crl_deeds.proofs.Turning.{Frame, Parts, HeldIn, HeldOut, all_took, each_at}
-use Rattle.crl_deeds.proofs.Totals.{weighs, sum_from, sum, sum_with, sum_part, load}
+use Rattle.crl_deeds.proofs.Laws.{all_append, all_took, each_at, sum_with, sum_part}
+use Rattle.crl_deeds.specs.Tokens.{weighs, sum_from, sum, load}
+use Rattle.crl_deeds.specs.Turns.{Frame, Parts, HeldIn, HeldOut}
 use Rattle.crl_rounds.proofs.Still.{IsOther, IsOtherKind}
 use Rattle.crl_rounds.proofs.States.{Grows, parts_of_grow}
 use Rattle.crl_rounds.proofs.Counts.{of_round, token_kind, token, one_round}

@@ -14,9 +14,9 @@ use Rattle.crl_protocol.specs.Mail.{Mail, Ask, kind_about}
 use Rattle.crl_protocol.specs.Gathering.{Gathering, all_parts, with_part, awaits}
 use Rattle.crl_protocol.specs.Node.{Node, ForRound, Activity, Waiting}
 use Rattle.crl_protocol.specs.Calls.{results_from}
-use Rattle.crl_deeds.proofs.Totals.{weigh, Tokens}
-use Rattle.crl_deeds.proofs.Spans.{whole_of, came}
 use Rattle.crl_deeds.specs.Deeds.{Cause, Hears}
+use Rattle.crl_deeds.proofs.Laws.{whole_of}
+use Rattle.crl_deeds.specs.Tokens.{weigh, Tokens, came}
 use Rattle.crl_rounds.specs.Standing.{RoundCall, round_awaited}
 
 -- a round counts where it is this one

@@ -17,9 +17,9 @@ use Rattle.crl_protocol.specs.Gathering.{Gathering, with_part, all_parts, no_par
 use Rattle.crl_protocol.specs.Node.{Node, Outcome}
 use Rattle.crl_protocol.specs.Calls.{result_of, results_from, results}
 use Rattle.crl_protocol.specs.World.{World, steps_node}
-use Rattle.crl_deeds.proofs.Turning.{Frame}
-use Rattle.crl_deeds.proofs.Totals.{weighs, load}
 use Rattle.crl_deeds.specs.Deeds.{with_parts, next_round}
+use Rattle.crl_deeds.specs.Tokens.{weighs, load}
+use Rattle.crl_deeds.specs.Turns.{Frame}
 use Rattle.crl_rounds.specs.Standing.{RoundCall, round_awaited, WaitsIn, StandsIn, Stands, IsTold, FitsRounds}
 use Rattle.crl_rounds.proofs.States.{Grows, grows_same, stands_same, told_result, came_result, nodes_result}
 use Rattle.crl_rounds.proofs.Counts.{token, gathering, waits_round, is_there, all_there}

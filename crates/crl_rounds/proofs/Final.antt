@@ -20,9 +20,9 @@ use Rattle.crl_protocol.specs.Parcels.{Piece}
 use Rattle.crl_protocol.specs.Gathering.{Gathering, with_part, all_parts}
 use Rattle.crl_protocol.specs.Node.{Node}
 use Rattle.crl_protocol.specs.World.{World, boxes_from, pieces_in_boxes, new_world, world_of, step, IsRunFrom}
-use Rattle.crl_deeds.proofs.Placing.{all_append}
-use Rattle.crl_deeds.proofs.Turning.{HeldIn, turn_of}
-use Rattle.crl_deeds.proofs.Totals.{weighs, sum_from, boxed_sum, none_to}
+use Rattle.crl_deeds.proofs.Laws.{all_append, turn_of, boxed_sum, none_to}
+use Rattle.crl_deeds.specs.Tokens.{weighs, sum_from}
+use Rattle.crl_deeds.specs.Turns.{HeldIn}
 use Rattle.crl_rounds.specs.Standing.{InEveryRun, RoundMailFitsAll, RoundEntriesFit, RoundsStand, RoundCall, round_awaited, current_round, part_gathered, WaitsIn, StandsIn, Stands, IsRoundMail, RoundMailFits, is_part_from, is_result_for, count_parts, count_results, RoundPlace, nowhere, sent, gathered, told, IsGathered, IsMissing, IsAbsent, part_in, is_mixed, is_result, parts_brought, results_told, machine_of}
 use Rattle.crl_rounds.proofs.Counts.{of_round, token_kind, token, there, gathering, waits_call, waits_round, one_round, at_most_one, none_there, waits_in}
 use Rattle.crl_rounds.proofs.Counts as counts

@@ -12,10 +12,9 @@ use Rattle.crl_protocol.specs.Gathering.{Gathering, all_parts}
 use Rattle.crl_protocol.specs.Node.{Node, ForRound, Activity, Free, Waiting, Outcome}
 use Rattle.crl_protocol.specs.Calls.{results}
 use Rattle.crl_protocol.specs.World.{World, steps_node}
-use Rattle.crl_deeds.proofs.Turning.{Frame, Came}
-use Rattle.crl_deeds.proofs.Totals.{load}
-use Rattle.crl_deeds.proofs.Spans.{came}
 use Rattle.crl_deeds.specs.Deeds.{FreeIf, Cause, with_parts, next_round, Rounds, comes_away, comes_home, comes_last, part_comes, part_last, part_last_idle, result_comes}
+use Rattle.crl_deeds.specs.Tokens.{load, came}
+use Rattle.crl_deeds.specs.Turns.{Frame, Came}
 use Rattle.crl_rounds.specs.Standing.{FitAll, RoundCall, round_awaited, WaitsIn, StandsIn, Stands, IsTold}
 use Rattle.crl_rounds.proofs.States.{grows_same, grows_one, length_put, part_last_came, stands_same}
 use Rattle.crl_rounds.proofs.Counts.{of_round, token, gathered, gathering, waits_call, waits_round, one_round, waits_in, awaits_none, Facts}

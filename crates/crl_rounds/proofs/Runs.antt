@@ -15,14 +15,12 @@ use Rattle.crl_protocol.specs.Places.{Took}
 use Rattle.crl_protocol.specs.Gathering.{Gathering, first_round, all_parts, no_parts}
 use Rattle.crl_protocol.specs.Node.{Node, Done, Free, Outcome, only}
 use Rattle.crl_protocol.specs.World.{World, WorldStep, new_world, note, put_in, steps_node, step, IsRunFrom, world_after, account_from}
-use Rattle.crl_deeds.proofs.Fitting.{Leaves, ComesIn, Fits}
-use Rattle.crl_deeds.proofs.Counting.{PlainKind, Plain}
-use Rattle.crl_deeds.proofs.Sound.{away_load}
-use Rattle.crl_deeds.proofs.Turning.{Turn, calls, hears, gathers, answers, carriage, rests, Came, HeldIn, HeldOut, turn_of, deed_frame, all_took, each_at}
-use Rattle.crl_deeds.proofs.Totals.{on_piece, weigh_took, sum_part, sum_new, load, none_to, Balanced, Balance, token_turn}
-use Rattle.crl_deeds.proofs.Spans.{part_same, keyed_none, came}
-use Rattle.crl_deeds.proofs.Knowing.{Known, known_start, known_step}
 use Rattle.crl_deeds.specs.Deeds.{Cause, Calls, Hears}
+use Rattle.crl_deeds.proofs.Laws.{away_load, turn_of, deed_frame, all_took, each_at, weigh_took, sum_part, sum_new, none_to, token_turn, part_same, keyed_none, known_start, known_step}
+use Rattle.crl_deeds.specs.Counts.{PlainKind, Plain, Known}
+use Rattle.crl_deeds.specs.NodeFacts.{Leaves, ComesIn, Fits}
+use Rattle.crl_deeds.specs.Tokens.{on_piece, load, Balanced, Balance, came}
+use Rattle.crl_deeds.specs.Turns.{rests, Turn, calls, hears, gathers, answers, carriage, Came, HeldIn, HeldOut}
 use Rattle.crl_rounds.specs.Standing.{FitAll, round_awaited, IsBetween, StandsIn, Stands}
 use Rattle.crl_rounds.proofs.States.{same_self, after_append}
 use Rattle.crl_rounds.proofs.Counts.{token_kind, token, gathering, waits_round, tokens, no_mail, HeardFits, Facts}
@@ -51,7 +49,7 @@ record HeardSo (w : World) (s : State) (g : Gathering) (j : ℕ) (p : Piece) (re
   loads : Loads w j (hearer w j rest parcels) (heard p part)
   mail : Came (Kept w.count g.round s) (w.nodes j).me (heard p part)
   facts : Facts w.count g (activities w) (hearer w j rest parcels) (heard p part)
-  fits : (d : Name → List ℕ) → Fits j (w.nodes j) d → Fits j (hearer w j rest parcels) d
+  fits : Fits j (w.nodes j) → Fits j (hearer w j rest parcels)
   away : Came Leaves (w.nodes j).me (heard p part)
   steps : Steps w s g j (hearer w j rest parcels)
 
@@ -69,7 +67,7 @@ heard_so w s g x h j p rest parcels part few took = record {
     heard = heard_of w.count g.round s m.sender m.addressee n.me part m.kind (mine.0.1 ∙ sym t.me) mine.0.0;
     portion = λ i r small. (let a = loads i r in let b = sum_part (load (token i r) (gathering i r)) w j few in let c = h.tokens i r small in omega arith);
   };
-  fits = λ d f. record { me = f.me; each = f.each; cache = f.cache; fresh = f.fresh; inbox = (all_took (ComesIn n.me) took f.inbox).1; outbox = f.outbox };
+  fits = λ f. record { me = f.me; each = f.each; cache = f.cache; fresh = f.fresh; inbox = (all_took (ComesIn n.me) took f.inbox).1; outbox = f.outbox };
   away = subst (λ (y : Type 0). y) (away_load m.sender n.me part m.kind) (all_took (ComesIn n.me) took t.inbox).0;
   steps = record { few = few; me = t.me; nodes = (x.held j).node.few; rounds = refl; gathering = refl; activity = refl; box = record { inbox = mine.1; outbox = (h.boxes j few).outbox } };
 }
@@ -80,7 +78,7 @@ heard_so w s g x h j p rest parcels part few took = record {
     m : Message
     m = p.message
 
-    t : Fits j (w.nodes j) (x.drafts j)
+    t : Fits j (w.nodes j)
     t = x.fits j
 
     mine : HeldIn (Kept w.count g.round s) j p × AllByRecursion (HeldIn (Kept w.count g.round s) j) rest
@@ -116,11 +114,11 @@ balanced w s g x h i r small = record {
   me = λ j. (x.fits j).me;
   calls = λ j c o few free d.
       (let f = called_facts w s g x h j c few in
-      deed_balance i r w.count g (activities w) (w.nodes j) (Calls c) o (kinds_of w.count j (x.drafts j) g (activities w) (w.nodes j) (Calls c) o d (x.fits j) tt free f) (deed_frame _ _ _ d).me f free small);
+      deed_balance i r w.count g (activities w) (w.nodes j) (Calls c) o (kinds_of w.count j g (activities w) (w.nodes j) (Calls c) o d (x.fits j) tt free f) (deed_frame _ _ _ d).me f free small);
   hears = λ j p rest parcels part o few took d.
       (let y = heard_so w s g x h j p rest parcels part few took in
       subst (λ c. Balance (token i r) (gathering i r) (waits_round r) i (hearer w j rest parcels) c o) (sym (y.weight i r))
-      (deed_balance i r w.count g (activities w) (hearer w j rest parcels) (heard p part) o (kinds_of w.count j (x.drafts j) g (activities w) (hearer w j rest parcels) (heard p part) o d (y.fits (x.drafts j) (x.fits j)) y.away tt y.facts) (deed_frame _ _ _ d).me y.facts tt small));
+      (deed_balance i r w.count g (activities w) (hearer w j rest parcels) (heard p part) o (kinds_of w.count j g (activities w) (hearer w j rest parcels) (heard p part) o d (y.fits (x.fits j)) y.away tt y.facts) (deed_frame _ _ _ d).me y.facts tt small));
   gathers = λ p key e. keyed_none (token i r) (no_mail i r) p.message.sender p.message.addressee p.message.kind key e;
   carriage = λ j p rest few took. near i r w.count p.message.sender p.message.addressee p.message.kind (all_took (HeldOut (Plain w.count)) took (x.held j).outbox).0.1;
 }
@@ -134,7 +132,7 @@ story_turn w s g v (calls j e c o few free may d) x h =
     let f = called_facts w s g x h j c few in
     let st = called_steps w s g x h j few in
     let after : TokensAfter w j e o = λ i r small. token_turn (token i r) (gathering i r) (waits_round r) (tokens i r) i w _ (calls j e c o few free may d) (balanced w s g x h i r small) (h.tokens i r small) in
-    go (kinds_of w.count j (x.drafts j) g (activities w) (w.nodes j) (Calls c) o d (x.fits j) tt free f) f st after
+    go (kinds_of w.count j g (activities w) (w.nodes j) (Calls c) o d (x.fits j) tt free f) f st after
   where
     go : Kinds w.count (w.nodes j) (Calls c) o → Facts w.count g (activities w) (w.nodes j) (Calls c) → Steps w s g j (w.nodes j) → TokensAfter w j e o → TurnLeaves w s (steps_node j e o w)
     go (of_other still none) f st after = (record { gathering = g; story = story_still w s g j (w.nodes j) e o h st still (deed_frame _ _ _ d) after }, still.fit g.round s (stands_self w s g j (w.nodes j) h st))
@@ -142,7 +140,7 @@ story_turn w s g v (calls j e c o few free may d) x h =
 story_turn w s g v (hears j e p rest parcels part o few took d) x h =
     let y = heard_so w s g x h j p rest parcels part few took in
     let after : TokensAfter w j e o = λ i r small. token_turn (token i r) (gathering i r) (waits_round r) (tokens i r) i w _ (hears j e p rest parcels part o few took d) (balanced w s g x h i r small) (h.tokens i r small) in
-    go (kinds_of w.count j (x.drafts j) g (activities w) (hearer w j rest parcels) (heard p part) o d (y.fits (x.drafts j) (x.fits j)) y.away tt y.facts) y after
+    go (kinds_of w.count j g (activities w) (hearer w j rest parcels) (heard p part) o d (y.fits (x.fits j)) y.away tt y.facts) y after
   where
     go : Kinds w.count (hearer w j rest parcels) (heard p part) o → HeardSo w s g j p rest parcels part → TokensAfter w j e o → TurnLeaves w s (steps_node j e o w)
     go (of_other still none) y after = (record { gathering = g; story = story_still w s g j (hearer w j rest parcels) e o h y.steps still (deed_frame _ _ _ d) after }, still.fit g.round s (stands_self w s g j (hearer w j rest parcels) h y.steps))

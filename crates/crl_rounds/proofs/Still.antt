@@ -28,15 +28,12 @@ use Rattle.crl_protocol.specs.Sections.{section_at, count_of, is_writing}
 use Rattle.crl_protocol.specs.Node.{Node, ForSection, ForMap, Activity, Free, Waiting, Outcome, letter_messages, mail_messages, message_to, is_mine, is_real, serials_used, lifetime_of, map_count, COUNT_LIMIT}
 use Rattle.crl_protocol.specs.Handlers.{purges_waiting}
 use Rattle.crl_protocol.specs.Verdict.{verdict, else_if, refuse_if, of_create, of_map, of_mapped, of_cached, of_delete, of_more, of_unmapped, of_open, of_start, of_end, of_change, of_part, by_stage}
-use Rattle.crl_deeds.proofs.Placing.{all_append}
-use Rattle.crl_deeds.proofs.Fitting.{IsAway, Leaves, Fits}
-use Rattle.crl_deeds.proofs.Handling.{waits_own, waits_granted}
-use Rattle.crl_deeds.proofs.Outcomes.{home_bytes, queue_of, asking_of}
-use Rattle.crl_deeds.proofs.Serving.{HomeGoes, asked_goes, returned_goes, released_goes}
-use Rattle.crl_deeds.proofs.Mapping.{going_own}
-use Rattle.crl_deeds.proofs.Turning.{Came}
 use Rattle.crl_deeds.specs.Deeds.{FreeIf, Cause, Calls, Hears, parting, EndsCall, a_read, a_write, Serves, ask_comes, copy_returns, copy_lowers, CallsBack, wholly, Copies, home_opens, home_waits, side_opens, side_waits, home_ends, side_ends, side_flushes, home_serves, home_serves_own, grant_comes, side_called, Unfit, never, Lives, made, used_up, map_asks, map_told, map_refused, map_comes, map_denied, unmaps_doomed, unmaps_evicting, deletes_own, delete_asks, deletes_alone_for, deletes_for, deletes_alone, delete_refused, delete_comes, dooms, drops, warns, counts_off, ends_own, ends_for, Notes, ends_nowhere}
 use Rattle.crl_machine.specs.SingleMachine.{State, after_all}
+use Rattle.crl_deeds.proofs.Laws.{all_append, waits_own, waits_granted, home_bytes, queue_of, asking_of, asked_goes, returned_goes, released_goes, going_own}
+use Rattle.crl_deeds.specs.NodeFacts.{IsAway, Leaves, Fits}
+use Rattle.crl_deeds.specs.TableFacts.{HomeGoes}
+use Rattle.crl_deeds.specs.Turns.{Came}
 use Rattle.crl_rounds.specs.Standing.{FitAll, round_awaited, Stands}
 use Rattle.crl_rounds.proofs.States.{NotMixed, IsOtherWhat, IsOtherEntry, SameRounds, all_same, all_fit}
 
@@ -240,28 +237,28 @@ serves_goes n h from k name s (ask_comes f q write have free) away b = asked_goe
 serves_goes n h from k name s (copy_returns f q version bytes fits) away b = returned_goes n.me from version bytes h b fits
 serves_goes n h from k name s (copy_lowers f q version bytes fits) away b = released_goes n.me from version bytes h b fits
 
-awaited_copies : (j : ℕ) (d : Name → List ℕ) (n : Node) (cause : Cause) (o : Outcome) → Copies n cause o → Fits j n d → Came Leaves n.me cause → FreeIf cause n → AwaitsAs o.node.activity n.activity
-awaited_copies j d n cause o (home_waits c write name h is e v x) f w free = none_awaited n.activity Free (Waiting (ForSection name)) free refl refl
-awaited_copies j d n cause o (side_waits c write name r is e k v x) f w free = none_awaited n.activity Free (Waiting (ForSection name)) free refl refl
-awaited_copies j d n cause o (home_serves_own from k name h y is e x) f w free =
-    none_awaited n.activity (Waiting (ForSection name)) o.node.activity (waits_own n.me name h y n.activity x (serves_goes n h from k name y is w (home_bytes j d n name h e f)) (queue_of j d n name h e f)) refl refl
-awaited_copies j d n cause o (grant_comes from name version g r e y) f w free = none_awaited n.activity (Waiting (ForSection name)) o.node.activity (waits_granted name g r n.activity y (asking_of j d n name r e f)) refl refl
-awaited_copies j d n cause o _ f w free = refl
+awaited_copies : (j : ℕ) (n : Node) (cause : Cause) (o : Outcome) → Copies n cause o → Fits j n → Came Leaves n.me cause → FreeIf cause n → AwaitsAs o.node.activity n.activity
+awaited_copies j n cause o (home_waits c write name h is e v x) f w free = none_awaited n.activity Free (Waiting (ForSection name)) free refl refl
+awaited_copies j n cause o (side_waits c write name r is e k v x) f w free = none_awaited n.activity Free (Waiting (ForSection name)) free refl refl
+awaited_copies j n cause o (home_serves_own from k name h y is e x) f w free =
+    none_awaited n.activity (Waiting (ForSection name)) o.node.activity (waits_own n.me name h y n.activity x (serves_goes n h from k name y is w (home_bytes j n name h e f)) (queue_of j n name h e f)) refl refl
+awaited_copies j n cause o (grant_comes from name version g r e y) f w free = none_awaited n.activity (Waiting (ForSection name)) o.node.activity (waits_granted name g r n.activity y (asking_of j n name r e f)) refl refl
+awaited_copies j n cause o _ f w free = refl
 
 warned : (name : Name) (a : Activity) → AwaitsAs (purges_waiting name a) a
 warned name (Waiting (ForMap p purged)) = refl
 warned name _ = refl
 
-awaited_lives : (j : ℕ) (d : Name → List ℕ) (n : Node) (cause : Cause) (o : Outcome) → Lives n cause o → Fits j n d → FreeIf cause n → AwaitsAs o.node.activity n.activity
-awaited_lives j d n cause o (map_asks name e other c real) f free = none_awaited n.activity Free o.node.activity free refl refl
-awaited_lives j d n cause o (map_comes from name purged size e) f free = none_awaited n.activity _ o.node.activity e refl refl
-awaited_lives j d n cause o (map_denied from name purged s why t q u e) f free = none_awaited n.activity _ o.node.activity e refl refl
-awaited_lives j d n cause o (deletes_own name m ms mine live e) f free = none_awaited n.activity Free o.node.activity free refl refl
-awaited_lives j d n cause o (delete_asks name other real) f free = none_awaited n.activity Free o.node.activity free refl refl
-awaited_lives j d n cause o (delete_comes from name t e) f free = none_awaited n.activity _ o.node.activity e refl refl
-awaited_lives j d n cause o (warns from name e c) f free = warned name n.activity
-awaited_lives j d n cause o (ends_own from name mine e missing last) f free = none_awaited n.activity _ o.node.activity (going_own n.me name _ n.activity (f.each name).going e) refl refl
-awaited_lives j d n cause o _ f free = refl
+awaited_lives : (j : ℕ) (n : Node) (cause : Cause) (o : Outcome) → Lives n cause o → Fits j n → FreeIf cause n → AwaitsAs o.node.activity n.activity
+awaited_lives j n cause o (map_asks name e other c real) f free = none_awaited n.activity Free o.node.activity free refl refl
+awaited_lives j n cause o (map_comes from name purged size e) f free = none_awaited n.activity _ o.node.activity e refl refl
+awaited_lives j n cause o (map_denied from name purged s why t q u e) f free = none_awaited n.activity _ o.node.activity e refl refl
+awaited_lives j n cause o (deletes_own name m ms mine live e) f free = none_awaited n.activity Free o.node.activity free refl refl
+awaited_lives j n cause o (delete_asks name other real) f free = none_awaited n.activity Free o.node.activity free refl refl
+awaited_lives j n cause o (delete_comes from name t e) f free = none_awaited n.activity _ o.node.activity e refl refl
+awaited_lives j n cause o (warns from name e c) f free = warned name n.activity
+awaited_lives j n cause o (ends_own from name mine e missing last) f free = none_awaited n.activity _ o.node.activity (going_own n.me name _ n.activity (f.each name).going e) refl refl
+awaited_lives j n cause o _ f free = refl
 
 -- What caused it.
 pub cause_copies : (n : Node) (cause : Cause) (o : Outcome) → Copies n cause o → IsOtherCause cause
@@ -294,11 +291,11 @@ rounds_lives : (n : Node) (cause : Cause) (o : Outcome) → Lives n cause o → 
 rounds_lives n cause o (made size e) = (refl, refl)
 rounds_lives n cause o _ = (refl, refl)
 
-pub still_copies : (j : ℕ) (d : Name → List ℕ) (n : Node) (cause : Cause) (o : Outcome) → Copies n cause o → Fits j n d → Came Leaves n.me cause → FreeIf cause n → Still n o
-still_copies j d n cause o c f w free = let same = rounds_copies n cause o c in record { rounds = same.0; gathering = same.1; awaited = awaited_copies j d n cause o c f w free; same = λ s. all_same s o.entries (entries_copies n cause o c); fit = λ k s h. all_fit s o.entries (entries_copies n cause o c); posts = posts_copies n cause o c }
+pub still_copies : (j : ℕ) (n : Node) (cause : Cause) (o : Outcome) → Copies n cause o → Fits j n → Came Leaves n.me cause → FreeIf cause n → Still n o
+still_copies j n cause o c f w free = let same = rounds_copies n cause o c in record { rounds = same.0; gathering = same.1; awaited = awaited_copies j n cause o c f w free; same = λ s. all_same s o.entries (entries_copies n cause o c); fit = λ k s h. all_fit s o.entries (entries_copies n cause o c); posts = posts_copies n cause o c }
 
-pub still_lives : (j : ℕ) (d : Name → List ℕ) (n : Node) (cause : Cause) (o : Outcome) → Lives n cause o → Fits j n d → FreeIf cause n → Still n o
-still_lives j d n cause o c f free = let same = rounds_lives n cause o c in record { rounds = same.0; gathering = same.1; awaited = awaited_lives j d n cause o c f free; same = λ s. all_same s o.entries (entries_lives n cause o c); fit = λ k s h. all_fit s o.entries (entries_lives n cause o c); posts = posts_lives n cause o c }
+pub still_lives : (j : ℕ) (n : Node) (cause : Cause) (o : Outcome) → Lives n cause o → Fits j n → FreeIf cause n → Still n o
+still_lives j n cause o c f free = let same = rounds_lives n cause o c in record { rounds = same.0; gathering = same.1; awaited = awaited_lives j n cause o c f free; same = λ s. all_same s o.entries (entries_lives n cause o c); fit = λ k s h. all_fit s o.entries (entries_lives n cause o c); posts = posts_lives n cause o c }
 
 pub still_notes : (n : Node) (c : Call) (w : What) (m : Node) → Notes n c w m → IsOtherWhat w × (m.rounds ≡ n.rounds) × (m.gathering ≡ n.gathering) × (m.activity ≡ n.activity)
 still_notes n c w m (ends_nowhere x name y ends lowers is e) = (end_other _ n c name y ends lowers is, refl, refl, refl)

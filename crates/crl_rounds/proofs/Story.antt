@@ -12,9 +12,9 @@ use Rattle.crl_machine.specs.SingleMachine.{State, change, after_all, part_at}
 use Rattle.crl_protocol.specs.Gathering.{Gathering, all_parts}
 use Rattle.crl_protocol.specs.Node.{Node, Free, Outcome}
 use Rattle.crl_protocol.specs.World.{World, commits, steps_node}
-use Rattle.crl_deeds.proofs.Turning.{Frame}
-use Rattle.crl_deeds.proofs.Totals.{sum, load}
 use Rattle.crl_deeds.specs.Deeds.{with_parts}
+use Rattle.crl_deeds.specs.Tokens.{sum, load}
+use Rattle.crl_deeds.specs.Turns.{Frame}
 use Rattle.crl_rounds.specs.Standing.{round_awaited, IsBetween, StandsIn, Stands}
 use Rattle.crl_rounds.proofs.States.{SameRounds, Grows, grows_same, grows_one, length_put, part_last_came, stands_same}
 use Rattle.crl_rounds.proofs.Still.{IsOther, Still}
