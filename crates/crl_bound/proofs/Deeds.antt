@@ -121,13 +121,13 @@ pub home_end_credit : (P : Name → ℕ) (k : ℕ) (es : List Entry) (j : ℕ) (
     → home_of n name ≡ Some h → Fits j n → Facts P k es n → HomeCredit (P name) n.me h (ends h) 0
 home_end_credit P k es j n c name w ends lowers h (a_read q e) may is f x = read_credits (P q) n.me h (home_pieces P k es j n q h is f x)
 home_end_credit P k es j n c name w ends lowers h (a_write q after e) may is f x =
-    let a = written_as j n q after f (x.maps q) e may in write_credits (P q) n.me after h (ap count (a.size ∙ mapped_home j n q h a.mapping is a.mapped f) ∙ sym (x.home q h is))
+    let a = written_as j n q after f (x.maps q) e.section may in write_credits (P q) n.me after h (ap count (a.size ∙ mapped_home j n q h a.mapping is a.mapped f) ∙ sym (x.home q h is))
 
 side_end_credit : (P : Name → ℕ) (k : ℕ) (es : List Entry) (j : ℕ) (n : Node) (c : Call) (name : Name) (w : What) (ends : Home → HomeStep) (lowers : Remote → RemoteStep) (r : Remote) → EndsCall (bytes_at name n.sections) n c name w ends lowers → is_call n c (verdict n c) ≡ true
     → n.remotes name ≡ Some r → Fits j n → Facts P k es n → SideCredit (P name) r (lowers r) 0
 side_end_credit P k es j n c name w ends lowers r (a_read q e) may is f x = read_end_credits (P q) r (remote_bytes j n q r is f) (x.side q r is)
 side_end_credit P k es j n c name w ends lowers r (a_write q after e) may is f x =
-    let a = written_as j n q after f (x.maps q) e may in write_end_credits (P q) after r (a.size ∙ mapped_remote j n q r a.mapping is a.mapped f) (x.writes q r is (ends_writing n q e)) (x.side q r is)
+    let a = written_as j n q after f (x.maps q) e.section may in write_end_credits (P q) after r (a.size ∙ mapped_remote j n q r a.mapping is a.mapped f) (x.writes q r is (ends_writing n q e.section)) (x.side q r is)
 
 called_credit : (P : Name → ℕ) (r : Remote) (m : Kind) (name : Name) (s : RemoteStep) → CallsBack r m name s → CopyFits r.copy r.size → P name ≡ count r.size → SideCredit (P name) r s 0
 called_credit P r m name s (wholly q version) f e = recall_credits (P q) version r f e

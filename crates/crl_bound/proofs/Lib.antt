@@ -8,6 +8,7 @@ mod Homes
 pub mod Laws
 mod Numbers
 mod Posts
+mod Regions
 mod Runs
 mod Sides
 mod Tables

@@ -19,14 +19,13 @@ use Rattle.crl_protocol.specs.Talk.{created_size, pieces_or_one, created_pieces,
 use Rattle.crl_protocol.specs.World.{World, WorldStep, new_world, note, put_in, steps_node, carries, step, is_enabled, IsRunFrom, world_after, account_from, account, world_of, messages_sent_from}
 use Rattle.crl_deeds.specs.Deeds.{Cause, Calls, Hears, Deed}
 use Rattle.crl_coherence.specs.Pairs.{SectionFits}
-use Rattle.crl_regions.specs.Sides.{SidesFit}
-use Rattle.crl_regions.proofs.Laws.{sides_in_runs}
 use Rattle.crl_deeds.proofs.Laws.{away_load, deed_frame, all_took, each_at, weigh_took, sum_new, known_start, known_step}
 use Rattle.crl_deeds.specs.Counts.{Known}
 use Rattle.crl_deeds.specs.NodeFacts.{Leaves, ComesIn, Fits}
 use Rattle.crl_deeds.specs.Tokens.{on_piece, sum_from}
 use Rattle.crl_deeds.specs.Turns.{Came}
 use Rattle.crl_bound.specs.Counters.{BoundsEachRun, MessagesFew}
+use Rattle.crl_bound.proofs.Regions.{SidesFit, sides_in_runs}
 use Rattle.crl_bound.proofs.Costs.{token, token_part, token_keyed, count_some}
 use Rattle.crl_bound.proofs.Sides.{IsExclusive}
 use Rattle.crl_bound.proofs.Credits.{name_credit, parts_credit, fixed_credit, sum_names, Distinct, still_moved}
@@ -178,7 +177,7 @@ pub record Front (count capacity : ℕ) (front : List Event) (w : World) (es : L
 open_at : (count capacity : ℕ) (front : List Event) (w : World) (es more : List Entry) → Front count capacity front w es → Open (λ q. created_pieces q (es ++ more)) w es
 open_at count capacity front w es more f = record {
   known = f.known;
-  sides = subst SidesFit f.world (sides_in_runs count capacity front f.run);
+  sides = subst SidesFit f.world (sides_in_runs count capacity front f.run (subst Known (sym f.world) f.known));
   tables = f.tables;
   link = λ q size e. ap pieces_or_one (created_append q es more ∙ ap (λ o. first_of o (created_size q more)) e);
   some = λ q. one_piece_at_least (created_size q (es ++ more));
