@@ -1,0 +1,5 @@
+mod Calling
+mod Fitting
+mod Owing
+mod Putting
+mod Turns

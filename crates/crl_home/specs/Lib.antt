@@ -1,0 +1,5 @@
+pub mod Debts
+pub mod Fits
+
+pub mod Posts
+pub mod Starts
