@@ -2,4 +2,5 @@ mod Calling
 mod Fitting
 mod Owing
 mod Putting
+mod Regions
 mod Turns

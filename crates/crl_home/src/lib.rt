@@ -5,12 +5,12 @@
 
 mod copies;
 mod home;
-
+mod homes;
 mod rows;
 mod rule;
 mod serving;
-
+mod steps;
 mod waiting;
 
 pub use home::Home;
-
+pub use homes::Homes;
