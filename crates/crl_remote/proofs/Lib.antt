@@ -1,1 +1,2 @@
 mod Mails
+mod Rows

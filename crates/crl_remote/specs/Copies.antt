@@ -1,5 +1,5 @@
 -- What a node keeps of a region of another home, and what is true of it.
-use Rattle.std.specs.Prelude.{ℕ, ◌≡◌, ◌<◌, List, length, Bool}
+use Rattle.std.specs.Prelude.{ℕ, ◌≡◌, ◌<◌, List, length, Bool, false}
 use Rattle.std.specs.declared.option.Option.{Option}
 use Rattle.std.specs.declared.option.Option.TheVariants.{None, Some}
 use Rattle.crl_model.specs.declared.directory.Section.{Section}
@@ -56,3 +56,15 @@ abbrev pub IsPaperBack : ℕ → Section → Option ℕ → Type 0
 IsPaperBack size Closed sheets = ArePapers size sheets
 IsPaperBack size (Reading number) sheets = Unit {0}
 IsPaperBack size Writing sheets = Unit {0}
+
+abbrev pub bytes_in_row : Option remote.Remote → Option (List ℕ)
+bytes_in_row None = None
+bytes_in_row (Some r) = bytes_of_copy r.copy
+
+abbrev pub is_exclusive_copy : Option remote.Copy → Bool
+is_exclusive_copy None = false
+is_exclusive_copy (Some c) = c.exclusive
+
+abbrev pub is_exclusive_row : Option remote.Remote → Bool
+is_exclusive_row None = false
+is_exclusive_row (Some r) = is_exclusive_copy r.copy

@@ -6,7 +6,7 @@ ghost use Rattle.crl_protocol.specs.Home.{one_section_less};
 ghost use Rattle.crl_protocol.specs.Mail.{Return};
 ghost use Rattle.crl_protocol.specs.Parcels.{pieces_of};
 ghost use Rattle.crl_protocol.specs.Remote as table;
-ghost use Rattle.crl_remote.specs.Copies.{kind_of, bytes_of_copy, ArePapers, IsPaperBack, IsReading, IsWriting};
+ghost use Rattle.crl_remote.specs.Copies.{kind_of, bytes_of_copy, is_exclusive_copy, ArePapers, IsPaperBack, IsReading, IsWriting};
 ghost use Rattle.crl_remote.specs.Debts as debts;
 ghost use Rattle.crl_remote.specs.Posts.{mail_message, mail_pieces};
 
@@ -127,6 +127,16 @@ impl Remote {
         match &self.copy {
             Some(copy) => Some((copy.exclusive, copy.version)),
             None => None,
+        }
+    }
+
+    /// Whether the copy that is here is exclusive.
+    pub(crate) fn is_exclusive(&self) -> bool
+        ensures { result ≡ is_exclusive_copy self.now.copy }
+    {
+        match &self.copy {
+            Some(copy) => copy.exclusive,
+            None => false,
         }
     }
 
