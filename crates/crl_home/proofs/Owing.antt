@@ -1,8 +1,7 @@
 -- What a home owes.
-use Rattle.std.proofs.Common.{◌≡◌, ℕ, zero, suc, ◌+◌, ◌*◌, ◌<◌, ◌≤◌, List, [], ◌∷◌, ◌++◌, refl, sym, ◌∙◌, arith, ap, length, drop, slice_index_or, slice_set, add-one}
+use Rattle.std.proofs.Common.{◌≡◌, ℕ, zero, suc, ◌+◌, ◌*◌, ◌<◌, ◌≤◌, List, [], ◌∷◌, ◌++◌, sym, ◌∙◌, arith, ap, length, drop, slice_index_or, slice_set, add-one}
 use Rattle.std.proofs.Math.Nat.{mul-suc}
 use Rattle.std.specs.declared.option.Option.{Option}
-use Rattle.std.specs.declared.option.Option.TheVariants.{None, Some}
 use Rattle.crl_model.specs.declared.directory.Listing.{Listing}
 use Rattle.crl_model.specs.declared.directory.Asked.{Asked}
 use Rattle.crl_pieces.specs.Pieces.{count}

@@ -4,11 +4,10 @@ use Rattle.std.proofs.lemmas.List.{length-replicate}
 use Rattle.std.specs.Prelude.{IsSome}
 use Rattle.std.specs.declared.option.Option.{Option}
 use Rattle.std.specs.declared.option.Option.TheVariants.{None, Some}
-use Rattle.crl_model.specs.declared.directory.Listing.{Listing}
-use Rattle.crl_protocol.specs.Places.{at, put}
+use Rattle.crl_protocol.specs.Places.{at}
 use Rattle.crl_protocol.specs.Home.{Home, new_home}
 use Rattle.crl_home.specs.Debts.{owed, owed_to_copies}
-use Rattle.crl_home.specs.HomesState.{owed_in, owed_of, table_or, HasNodes, HaveNodes}
+use Rattle.crl_home.specs.HomesState.{owed_in, owed_of, HasNodes, HaveNodes}
 use Rattle.crl_home.specs.Keeping.{TakeKeeps, PutKeeps}
 
 take_place : (n nodes : ℕ) (x : Option Home) (hs : List (Option Home)) → TakeKeeps n nodes hs → HasNodes nodes x → TakeKeeps (suc n) nodes (x ∷ hs)

@@ -1,7 +1,7 @@
 -- One turn of the service of a queue.
 use Rattle.std.proofs.Common.{◌||◌, Some, ◌≡◌, ℕ, ◌+◌, List, [], ◌∷◌, Bool, true, false, refl, arith, length}
 use Rattle.crl_model.specs.declared.directory.Asked.{Asked}
-use Rattle.crl_protocol.specs.Home.{Home, serve, is_servable, with_marks, recalls_and_yields, open_own, grant_next, grant_for, posts_first, opens_own_section}
+use Rattle.crl_protocol.specs.Home.{Home, serve, is_servable, open_own, grant_next, grant_for, posts_first, opens_own_section}
 use Rattle.crl_home.specs.Starts.{IsHead, head_of, behind_head}
 
 -- Serve doesn't read the queue of the table, but the one that it is given

@@ -167,7 +167,15 @@ impl Remote {
             self.given = false;
             self.leaving = false;
             self.lowering = false;
-            post_return(me, name, copy.version, given, copy.bytes.as_slice(), sheets, out);
+            post_return(
+                me,
+                name,
+                copy.version,
+                given,
+                copy.bytes.as_slice(),
+                sheets,
+                out,
+            );
         }
     }
 

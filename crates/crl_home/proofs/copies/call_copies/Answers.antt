@@ -1,6 +1,5 @@
-use Rattle.std.proofs.Common.{◌≡◌, ◌+◌, ◌<◌, ◌++◌, length, None, refl, sym, ap, ◌∙◌, arith, append_assoc, slice_index_or}
+use Rattle.std.proofs.Common.{◌+◌, ◌<◌, ◌++◌, length, None, refl, sym, ap, ◌∙◌, arith, append_assoc, slice_index_or}
 use Rattle.std.proofs.lemmas.List.{drop-set-lt, length-set}
-use Rattle.crl_home.specs.Posts.{letter_pieces}
 use Rattle.crl_home.proofs.Calling.{next_marks, next_calls}
 use Rattle.crl_home.proofs.Owing.{owed_first, set_owes}
 use Rattle.crl_home.proofs.copies.call_copies.Goals as goal

@@ -1,5 +1,4 @@
-use Rattle.std.proofs.Common.{◌≡◌, ◌+◌, ◌≤◌, ◌++◌, ◌||◌, arith, sym, ap, ◌∙◌, append_assoc, length}
-use Rattle.crl_home.specs.Debts.{owed}
+use Rattle.std.proofs.Common.{◌++◌, ◌||◌, arith, sym, ap, ◌∙◌, append_assoc}
 use Rattle.crl_home.specs.Posts.{letter_pieces}
 use Rattle.crl_home.proofs.Turns.{own_turn, grant_turn, first_head, one_fewer, or_true}
 use Rattle.crl_home.proofs.home.Home.serve.Goals as goal
