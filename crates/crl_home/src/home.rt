@@ -5,14 +5,13 @@ ghost use Rattle.crl_protocol.specs.Sections as sections;
 ghost use Rattle.crl_home.specs.Debts as debts;
 ghost use Rattle.crl_home.specs.Debts.{ask_debt, owed_to_asks};
 ghost use Rattle.crl_home.specs.Fits.{asks_of};
-ghost use Rattle.crl_pieces.specs.Pieces as pieces;
 
 use crate::copies::owed_to_copies;
 use crate::waiting::Waiting;
 use crl_model::bytes::Bytes;
 use crl_model::directory::{Listing, Section};
 use crl_model::{NodeNo, OutOfMemory};
-use crl_pieces::PIECE_LEN;
+use crl_pieces::parts::count;
 use std::alloc::Global;
 use std::collections::VecDeque;
 use std::marker::Model;
@@ -93,21 +92,13 @@ impl Home {
     }
 }
 
-/// How many pieces a region of this size has.
-fn piece_count(size: u32) -> usize
-    ensures count { result ≡ pieces.count size }
-    ensures bound { result ≤ 2 ^ 32 }
-{
-    (size.saturating_sub(1) / PIECE_LEN) as usize + 1
-}
-
 /// How many pieces may have to be posted for one ask.
 #[tactic(auto, unfolding(crate::specs::Debts::ask_debt))]
 fn ask_debt(size: u32) -> usize
     ensures debt { result ≡ ask_debt size }
     ensures bound { result ≤ 2 ^ 33 }
 {
-    piece_count(size) + 2
+    count(size) as usize + 2
 }
 
 /// How many pieces may have to be posted for the asks of a queue.

@@ -18,7 +18,7 @@ use crl_model::directory::{Due, Section};
 use crl_model::message::{Granted, Kind, Message};
 use crl_model::name::Name;
 use crl_outbox::{Cover, CoverKind, Mailbox, Sheets};
-use crl_pieces::PIECE_LEN;
+use crl_pieces::parts::count;
 use std::marker::Model;
 
 /// A node's side of one region. A contract sees it as the `Remote` of the protocol.
@@ -148,7 +148,7 @@ impl Remote {
         if matches!(self.here, Section::Closed) {
             return 0;
         }
-        piece_count(self.size)
+        count(self.size) as usize
     }
 
     /// The copy goes back, with its bytes if the home may lack them, written on the sheets.
@@ -302,11 +302,4 @@ impl Remote {
             }
         }
     }
-}
-
-/// How many pieces a region of this size has.
-fn piece_count(size: u32) -> usize
-    ensures { result ≡ count size }
-{
-    (size.saturating_sub(1) / PIECE_LEN) as usize + 1
 }
