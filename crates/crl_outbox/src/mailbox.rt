@@ -75,6 +75,7 @@ impl Mailbox {
         requires { 0 < self.old.room }
         ensures list { self.new.list ≡ self.old.list ++ piece ∷ [] }
         ensures room { self.new.room + 1 ≡ self.old.room }
+        ensures places { length self.new.list + self.new.room ≡ length self.old.list + self.old.room }
     {
         self.held.push_reserved(piece);
     }
@@ -103,6 +104,7 @@ impl Mailbox {
         requires room { 0 < self.old.room }
         ensures list { self.new.list ≡ self.old.list ++ pieces_of message }
         ensures room { self.new.room + 1 ≡ self.old.room }
+        ensures places { length self.new.list + self.new.room ≡ length self.old.list + self.old.room }
     {
         self.put(Piece {
             message,
@@ -117,6 +119,7 @@ impl Mailbox {
         requires room { pieces.count (length bytes.now) ≤ self.old.room }
         ensures list { self.new.list ≡ self.old.list ++ pieces_of (message_with cover bytes.now) }
         ensures room { self.new.room + pieces.count (length bytes.now) ≡ self.old.room }
+        ensures places { length self.new.list + self.new.room ≡ length self.old.list + self.old.room }
     {
         let number = sheets.pieces();
         self.post_on(cover, bytes, sheets.size, number, sheets.sheets);
@@ -127,6 +130,7 @@ impl Mailbox {
         requires room { number ≤ self.old.room }
         ensures list { self.new.list ≡ self.old.list ++ pieces_of (message_with cover bytes.now) }
         ensures room { self.new.room + number ≡ self.old.room }
+        ensures places { length self.new.list + self.new.room ≡ length self.old.list + self.old.room }
     {
         let mut sheets = sheets;
         let mut rest = bytes;
@@ -150,6 +154,7 @@ impl Mailbox {
         ensures rest { result.now ≡ drop PIECE bytes.now }
         ensures list { self.new.list ≡ self.old.list ++ record { message = message_with cover (take PIECE bytes.now); pieces = number; index = index } ∷ [] }
         ensures room { self.new.room + 1 ≡ self.old.room }
+        ensures places { length self.new.list + self.new.room ≡ length self.old.list + self.old.room }
     {
         let (part, rest) = first_piece(bytes);
         self.put(Piece {

@@ -15,6 +15,7 @@ loop-index-preserved c =
       rest = omega (arith, h.rest, ap length posted.rest, length-drop PIECE_LEN at.rest.now);
       posts = rw (posted.list, posted.rest, append_assoc) (ap (λ ps. at.self.list ++ ps) (sym (next_piece c.args.cover c.args.bytes.now c.args.number at.index at.rest.now below)) ∙ h.posts);
       room = omega (arith, h.room, posted.room);
+      places = posted.places ∙ h.places;
     }
 
 pub returns-clause-list : goal.returns-clause-list

@@ -9,4 +9,5 @@ invariant-loop-index l = record {
   rest : length l.rest ≤ l.size;
   posts : l.self.list ++ pieces_from l.cover l.bytes l.number l.index (l.number - l.index) l.rest ≡ l.fn.self.list ++ pieces_from l.cover l.bytes l.number 0 l.number l.bytes;
   room : l.self.room + l.index ≡ l.fn.self.room;
+  places : length l.self.list + l.self.room ≡ length l.fn.self.list + l.fn.self.room;
 }

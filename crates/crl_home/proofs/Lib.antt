@@ -1,0 +1,6 @@
+mod Calling
+mod Fitting
+mod Owing
+mod Putting
+mod Regions
+mod Turns

@@ -1,0 +1,2 @@
+mod Mails
+mod Rows
