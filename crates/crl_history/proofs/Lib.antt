@@ -1,2 +1,4 @@
 mod Events
 mod Runs
+mod Serials
+mod Stages
