@@ -2,3 +2,5 @@ mod Events
 mod Runs
 mod Serials
 mod Stages
+mod Openings
+mod Sections
