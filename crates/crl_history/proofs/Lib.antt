@@ -4,3 +4,4 @@ mod Serials
 mod Stages
 mod Openings
 mod Sections
+mod MapDeeds
