@@ -5,3 +5,4 @@ mod Stages
 mod Openings
 mod Sections
 mod MapDeeds
+mod Maps
