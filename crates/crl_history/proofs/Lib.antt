@@ -6,3 +6,5 @@ mod Openings
 mod Sections
 mod MapDeeds
 mod Maps
+mod Knows
+mod Final

@@ -19,7 +19,7 @@ use Rattle.crl_deeds.specs.NodeFacts.{ComesIn, Fits}
 use Rattle.crl_deeds.specs.Tokens.{on_piece, weigh, weighs, sum, load, came}
 use Rattle.crl_deeds.specs.Turns.{Turn, calls, hears, gathers, answers, carriage, rests, Frame, HeldIn}
 use Rattle.crl_deeds.proofs.Laws.{turn_of, deed_frame, all_took, away_load, sum_with, sum_part, weigh_append, weigh_took, weighs_posted, boxed_sum, whole_of, part_same, keyed_none}
-use Rattle.crl_lifetime.specs.Lifetime.{tells_live, any_size, one_if, how_many, under_way, KindFits, MessageFits}
+use Rattle.crl_lifetime.specs.Lifetime.{tells_live, any_size, one_if, how_many, under_way, TalkFits, MessageFits}
 use Rattle.crl_history.proofs.MapDeeds.{grants_map, maps_of, MapsGo, nothing, grants_span, IsAwaited, maps_deed}
 
 -- the maps that are granted and whose answer is in a box
@@ -103,7 +103,7 @@ maps_carried i r w s j e p rest few took near h =
     let count = ap map_count (later ∙ same) in omega arith
 
 -- What comes is awaited.
-awaits : (w : World) (n : Node) (part : List ℕ) (from to : ℕ) (k : Kind) → n.activity ≡ (w.nodes to).activity → KindFits w from to k → IsAwaited n (Hears from (with_load part k))
+awaits : (w : World) (n : Node) (part : List ℕ) (from to : ℕ) (k : Kind) → n.activity ≡ (w.nodes to).activity → TalkFits w from to k → IsAwaited n (Hears from (with_load part k))
 awaits w n part from to (kind.InfoIs name t) e h = (h.1, e ∙ h.2)
 awaits w n part from to _ e h = tt
 
