@@ -21,6 +21,8 @@ use Rattle.crl_lifetime.specs.Lifetime.{home_stage, tells_live, any_size, under_
 use Rattle.crl_regions.specs.Steps.{RegionsHold}
 use Rattle.crl_regions.specs.View.{array_of}
 use Rattle.crl_regions.proofs.Laws.{regions_in_runs, array_accounted, count_in_run}
+use Rattle.crl_rounds.specs.Standing.{machine_of}
+use Rattle.crl_rounds.proofs.Laws.{rounds_in_runs}
 use Rattle.crl_history.specs.Mirrors.{Mirrors}
 use Rattle.crl_history.proofs.Events.{Mirrored, AllMirror, mirrored_event}
 use Rattle.crl_history.proofs.Knows.{known_in_runs, agree_in_runs, pieces_in_runs}
@@ -30,9 +32,6 @@ use Rattle.crl_history.proofs.Runs.{runs_by_end}
 use Rattle.crl_history.proofs.Sections.{Opened, opened_by, SaysOpened, sections_mirrored}
 use Rattle.crl_history.proofs.Serials.{SaysUsed, used_by, used_mirrored}
 use Rattle.crl_history.proofs.Stages.{stage_by, SaysStage, stage_mirrored, stage_elsewhere}
-
-abbrev machine_of : ℕ → ℕ → List Event → State
-machine_of count capacity run = after_all (start count) (account count capacity run)
 
 -- What mirrors at the start and goes with each deed mirrors in every run.
 mirrored_run : (A : Type 0) (of : State → ℕ → A) (Says : A → Node → Type 0) → Mirrored A of Says → (count capacity : ℕ) → ((k : ℕ) → Says (of (start count) k) (new_node count capacity k)) → (run : List Event) → IsRunFrom (new_world count capacity) run
@@ -113,4 +112,5 @@ mirrors_in_runs count capacity run r =
       reads = λ n q few. (sections n few q).reads_are;
       writes = λ n q few. (sections n few q).writes_are;
       bytes = bytes_run count capacity run r;
+      rounds = rounds_in_runs count capacity run r;
     }

@@ -77,7 +77,7 @@ section_asking count capacity run r i q x write e asks =
     let fits = (known_in_runs count capacity run r).fits i in
     let other = not_own (is_mine (w.nodes i) q) _ x (fits.each q).own e in
     let apart : (i == q.home) ≡ false = ne_eqb i q.home (λ same. eqb-false q.home (w.nodes i).me other (sym same ∙ sym fits.me)) in
-    let t = sizes_known count capacity run r i q x e in
+    let t = (sizes_known count capacity run r).record_of i q x e in
     let us = regions_in_runs count capacity run r in
     let pair = (us.1.coherent q t.0 t.1).loose.pairs i (λ same. eqb-false i q.home apart same) in
     let here : side (table_or_blank (table_of q w)).size ((w.nodes i).remotes q) ≡ x = ap (λ o. side (table_or_blank (table_of q w)).size o) e in

@@ -8,3 +8,4 @@ mod MapDeeds
 mod Maps
 mod Knows
 mod Final
+pub mod Laws

@@ -9,6 +9,7 @@ use Rattle.crl_protocol.specs.World.{World}
 use Rattle.crl_flight.specs.Flight.{Under}
 use Rattle.crl_lifetime.specs.Lifetime.{home_stage, tells_live, any_size, under_way}
 use Rattle.crl_regions.specs.Steps.{RegionsHold}
+use Rattle.crl_rounds.specs.Standing.{RoundsStand}
 
 -- What the machine has is what the nodes have.
 pub record Mirrors (w : World) (s : State) : Type 0 where
@@ -23,3 +24,4 @@ pub record Mirrors (w : World) (s : State) : Type 0 where
   pub writes : (n : ℕ) (r : Name) → n < w.count → s.writes n r ≡ is_writing (section_at r (w.nodes n).sections)
   -- the copies of each region are coherent over the machine's bytes
   pub bytes : (us : List Under) × RegionsHold w us s.bytes
+  pub rounds : RoundsStand w s
