@@ -1,8 +1,7 @@
 -- What a node has and what the single machine has of it go the same way with each event.
-use Rattle.std.proofs.Common.{◌≡◌, ℕ, ◌<◌, ◌==◌, ◌&&◌, Bool, true, false, None, Some, Option, List, [], ◌∷◌, refl, ap, sym, ◌∙◌, subst}
+use Rattle.std.proofs.Common.{◌≡◌, ℕ, ◌<◌, ◌==◌, ◌&&◌, Bool, true, false, None, Some, Option, List, refl, ap, sym, ◌∙◌, subst}
 use Rattle.std.proofs.lemmas.Bool.{cond_both, and_parts, eqb-true, ltb-true}
 use Rattle.crl_model.specs.declared.name.Name.{Name}
-use Rattle.crl_model.specs.declared.call.Call.{Call}
 use Rattle.crl_model.specs.declared.directory.Section.TheVariants.{Closed}
 use Rattle.crl_model.specs.declared.event.Event.{Event}
 use Rattle.crl_model.specs.declared.event.Event.TheVariants as event
@@ -20,12 +19,12 @@ use Rattle.crl_protocol.specs.Node.{Node, Activity, Free, Waiting, Ready, Record
 use Rattle.crl_protocol.specs.Calls.{node_calls}
 use Rattle.crl_protocol.specs.Handlers.{node_handles}
 use Rattle.crl_protocol.specs.Verdict.{verdict}
-use Rattle.crl_protocol.specs.World.{World, WorldStep, note, put_in, commits, collects, carries, steps_node, handles_at, step, is_free, is_ready, is_enabled, noted_call}
+use Rattle.crl_protocol.specs.World.{World, note, put_in, commits, collects, carries, steps_node, handles_at, step, is_free, is_ready, is_enabled, noted_call}
 use Rattle.crl_deeds.specs.Counts.{NoneYet, SectionsFit, Known}
 use Rattle.crl_deeds.specs.Deeds.{FreeIf, Cause, Calls, Hears, Deed}
 use Rattle.crl_deeds.specs.NodeFacts.{IsAway, Leaves, ComesIn, Fits}
 use Rattle.crl_deeds.specs.Turns.{Came}
-use Rattle.crl_deeds.proofs.Laws.{call_deed, message_deed, deed_frame, took_at, all_took, each_at, away_load}
+use Rattle.crl_deeds.proofs.Laws.{call_deed, message_deed, took_at, all_took, away_load}
 
 -- The sections of a node are those of the home's table, and a node that asks for a copy has none open.
 pub record SectionsAgree (n : Node) : Type 0 where
@@ -149,8 +148,8 @@ mirrored_event A of Says m w (event.Handle i place) may x agree s h = go (take_o
         let took = took_at place n.inbox t found in
         receives_both (λ o. AllMirror A of Says (steps_node i e o w).world (after_all s o.entries)) t.taken (record n { inbox = t.rest })
         (λ parcels k away. outcome_mirrors A of Says m w s i (record n { inbox = t.rest; parcels = parcels }) e (Hears t.taken.message.sender k) _ (x.fits i).me
-          (record { deed = message_deed (record n { inbox = t.rest; parcels = parcels }) t.taken.message.sender k; known = boxed_known i n t.taken t.rest parcels took (node_known w x agree i); away = away; free = tt; is = tt })
-          (m.boxes (of s i) n _ _ _ _ _ _ here) h)
+        (record { deed = message_deed (record n { inbox = t.rest; parcels = parcels }) t.taken.message.sender k; known = boxed_known i n t.taken t.rest parcels took (node_known w x agree i); away = away; free = tt; is = tt })
+        (m.boxes (of s i) n _ _ _ _ _ _ here) h)
         (λ parcels. box_mirrors A of Says w s i _ (λ few. m.boxes (of s i) n _ _ _ _ _ _ here) h) (all_took (ComesIn n.me) took (x.fits i).inbox).0
 mirrored_event A of Says m w (event.Carry i place) may x agree s h = go (take_out place (w.nodes i).outbox)
   where

@@ -1,5 +1,5 @@
 -- In every run the single machine after the account mirrors the world.
-use Rattle.std.proofs.Common.{◌≡◌, ℕ, ◌+◌, ◌^◌, ◌≤◌, ◌<◌, ◌==◌, Bool, true, false, List, [], ◌∷◌, if◌then◌else◌, refl, ap, sym, ◌∙◌, subst, arith}
+use Rattle.std.proofs.Common.{◌≡◌, ℕ, ◌+◌, ◌≤◌, ◌<◌, ◌==◌, Bool, true, false, List, [], ◌∷◌, if◌then◌else◌, refl, ap, sym, ◌∙◌, subst, arith}
 use Rattle.std.proofs.lemmas.Bool.{cond-true, eq-eqb, ne_eqb}
 use Rattle.crl_model.specs.declared.name.Name.{Name}
 use Rattle.crl_model.specs.declared.stage.Stage.TheVariants as stage
@@ -8,16 +8,14 @@ use Rattle.crl_model.specs.declared.entry.What.{What}
 use Rattle.crl_model.specs.declared.entry.What.TheVariants as what
 use Rattle.crl_model.specs.declared.event.Event.{Event}
 use Rattle.crl_machine.specs.SingleMachine.{State, start, change, after, after_all}
-use Rattle.crl_protocol.specs.Lifetimes.{Lifetime, no_lifetime}
-use Rattle.crl_protocol.specs.Sections.{section_at, count_of, is_writing}
-use Rattle.crl_protocol.specs.Node.{Node, new_node, is_mine, serials_used, lifetime_of, map_count}
-use Rattle.crl_protocol.specs.World.{World, WorldStep, new_world, step, is_enabled, IsRunFrom, world_of, account}
+use Rattle.crl_protocol.specs.Lifetimes.{no_lifetime}
+use Rattle.crl_protocol.specs.Node.{Node, new_node, map_count}
+use Rattle.crl_protocol.specs.World.{World, WorldStep, new_world, IsRunFrom, world_of, account}
 use Rattle.crl_deeds.specs.Counts.{Known}
 use Rattle.crl_deeds.specs.Tokens.{load}
-use Rattle.crl_deeds.specs.Turns.{Turn, calls, hears, gathers, answers, carriage, rests}
+use Rattle.crl_deeds.specs.Turns.{Turn, calls, hears}
 use Rattle.crl_deeds.proofs.Laws.{turn_of, turn_count, sum_new}
 use Rattle.crl_flight.specs.Flight.{Under}
-use Rattle.crl_lifetime.specs.Lifetime.{home_stage, tells_live, any_size, under_way}
 use Rattle.crl_regions.specs.Steps.{RegionsHold}
 use Rattle.crl_regions.specs.View.{array_of}
 use Rattle.crl_regions.proofs.Laws.{regions_in_runs, array_accounted, count_in_run}
@@ -69,16 +67,16 @@ elsewhere_run : (count capacity : ℕ) (run : List Event) → IsRunFrom (new_wor
 elsewhere_run count capacity run r =
     runs_by_end NoneElsewhere count capacity (start count)
     (λ run e r may h q far. (let w = world_of count capacity run in
-      let t = turn_of w e may in
-      let near = subst (λ k. k ≤ q.home) (turn_count w _ t) far in elsewhere_turn w _ t (known_in_runs count capacity run r) (machine_of count capacity run) q near (h q near))) (λ q far. refl) run r
+    let t = turn_of w e may in
+    let near = subst (λ k. k ≤ q.home) (turn_count w _ t) far in elsewhere_turn w _ t (known_in_runs count capacity run r) (machine_of count capacity run) q near (h q near))) (λ q far. refl) run r
 
 -- Maps.
 maps_run : (count capacity : ℕ) (run : List Event) → IsRunFrom (new_world count capacity) run → MapsMirror (world_of count capacity run) (machine_of count capacity run)
 maps_run count capacity run r =
     runs_by_end MapsMirror count capacity (start count)
     (λ run e r may h i q few. (let w = world_of count capacity run in
-      let t = turn_of w e may in
-      maps_turn w _ t (known_in_runs count capacity run r) (pieces_in_runs count capacity run r) (machine_of count capacity run) h i q (subst (λ k. i < k) (turn_count w _ t) few)))
+    let t = turn_of w e may in
+    maps_turn w _ t (known_in_runs count capacity run r) (pieces_in_runs count capacity run r) (machine_of count capacity run) h i q (subst (λ k. i < k) (turn_count w _ t) few)))
     (λ i q few. let none = sum_new (load (grants_map i q) nothing) count capacity (λ j. refl) in omega arith) run r
 
 -- No entry changes how many nodes there are.

@@ -1,28 +1,26 @@
 -- What each world of a run is known to be, as the mirror needs it.
-use Rattle.std.proofs.Common.{◌≡◌, ℕ, ◌<◌, ◌==◌, Bool, true, false, None, Some, Option, List, [], ◌∷◌, refl, ap, sym, ◌∙◌, subst}
-use Rattle.std.specs.List.{AllByRecursion}
+use Rattle.std.proofs.Common.{◌≡◌, ℕ, ◌==◌, Bool, true, false, None, Some, Option, List, [], refl, ap, sym, ◌∙◌, subst}
 use Rattle.std.proofs.lemmas.Bool.{cond-true, cond-false, eqb-true, eqb-false, eq-eqb, ne_eqb}
 use Rattle.crl_model.specs.declared.name.Name.{Name}
 use Rattle.crl_model.specs.declared.directory.Section.{Section}
 use Rattle.crl_model.specs.declared.directory.Section.TheVariants as section
 use Rattle.crl_model.specs.declared.event.Event.{Event}
 use Rattle.crl_protocol.specs.Parcels.{Piece}
-use Rattle.crl_protocol.specs.Places.{Took}
 use Rattle.crl_protocol.specs.Home.{Home}
 use Rattle.crl_protocol.specs.Remote.{Copy, Remote}
 use Rattle.crl_protocol.specs.Sections.{section_at}
 use Rattle.crl_protocol.specs.Node.{Node, is_mine, home_of}
-use Rattle.crl_protocol.specs.World.{World, new_world, IsRunFrom, world_of, pieces_in_boxes}
+use Rattle.crl_protocol.specs.World.{World, new_world, IsRunFrom, world_of}
 use Rattle.crl_deeds.specs.Counts.{Known}
-use Rattle.crl_deeds.specs.NodeFacts.{Seen, OwnFits, Fits}
+use Rattle.crl_deeds.specs.NodeFacts.{Seen, OwnFits}
 use Rattle.crl_deeds.proofs.Laws.{known_start, known_run, all_took}
 use Rattle.crl_flight.specs.Flight.{messages_of}
-use Rattle.crl_coherence.specs.Pairs.{SectionFits, pair_of}
+use Rattle.crl_coherence.specs.Pairs.{SectionFits}
 use Rattle.crl_lifetime.proofs.Laws.{messages_in_runs}
 use Rattle.crl_regions.specs.Addresses.{GoesToOther}
 use Rattle.crl_regions.specs.View.{side, table_of, table_or_blank, array_of}
 use Rattle.crl_regions.proofs.Laws.{regions_in_runs, pieces_to_others, sections_are_tables, sizes_known}
-use Rattle.crl_history.proofs.Events.{SectionsAgree, AllAgree}
+use Rattle.crl_history.proofs.Events.{AllAgree}
 use Rattle.crl_history.proofs.Maps.{PiecesFit, inbox_took, outbox_took}
 
 pub known_in_runs : (count capacity : ℕ) (run : List Event) → IsRunFrom (new_world count capacity) run → Known (world_of count capacity run)

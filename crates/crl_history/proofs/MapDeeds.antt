@@ -1,7 +1,7 @@
 -- What each deed does to the maps of a region at a node: the machine's, the node's, and the maps that are granted and
 -- whose answer is under way.
-use Rattle.std.proofs.Common.{◌≡◌, ℕ, ◌+◌, ◌-◌, ◌≤◌, ◌==◌, ◌&&◌, Bool, true, false, None, Some, Option, List, [], ◌∷◌, ◌++◌, if◌then◌else◌, refl, ap, sym, ◌∙◌, subst, arith}
-use Rattle.std.proofs.lemmas.Bool.{cond_both, eqb-true, eqb-false}
+use Rattle.std.proofs.Common.{◌≡◌, ℕ, ◌+◌, ◌-◌, ◌≤◌, ◌==◌, ◌&&◌, Bool, true, false, None, Some, Option, List, [], ◌∷◌, if◌then◌else◌, refl, ap, sym, ◌∙◌, subst, arith}
+use Rattle.std.proofs.lemmas.Bool.{eqb-true, eqb-false}
 use Rattle.crl_model.specs.declared.name.Name.{Name}
 use Rattle.crl_model.specs.declared.stage.Stage.{Stage}
 use Rattle.crl_model.specs.declared.call.Call.{Call}
@@ -12,10 +12,8 @@ use Rattle.crl_model.specs.declared.collective.Fold.TheVariants as fold
 use Rattle.crl_model.specs.declared.entry.What.{What}
 use Rattle.crl_model.specs.declared.entry.What.TheVariants as what
 use Rattle.crl_model.specs.declared.message.Told.{Told}
-use Rattle.crl_model.specs.declared.message.Told.TheVariants as told
 use Rattle.crl_model.specs.declared.message.DeleteTold.{DeleteTold}
 use Rattle.crl_model.specs.declared.message.Message.{Message}
-use Rattle.crl_model.specs.declared.message.Kind.{Kind}
 use Rattle.crl_model.specs.declared.message.Kind.TheVariants as kind
 use Rattle.crl_model.specs.Calls.{kind_of}
 use Rattle.crl_model.specs.FoldOf.{fold_of}
@@ -26,14 +24,14 @@ use Rattle.crl_protocol.specs.Remote.{Remote, RemoteStep}
 use Rattle.crl_protocol.specs.Lifetimes.{Mapping, new_mapping}
 use Rattle.crl_protocol.specs.Mail.{Mail, Ask, kind_about}
 use Rattle.crl_protocol.specs.Calls.{result_of}
-use Rattle.crl_protocol.specs.Node.{Node, Activity, Free, Waiting, ForMap, Outcome, map_count, message_to}
+use Rattle.crl_protocol.specs.Node.{Node, Activity, Waiting, ForMap, Outcome, map_count, message_to}
 use Rattle.crl_deeds.specs.Deeds.{FreeIf, Cause, Calls, Hears, parting, EndsCall, Copies, Unfit, Lives, Rounds, Notes, Idles, Deed}
 use Rattle.crl_deeds.specs.Deeds as deed
 use Rattle.crl_deeds.specs.NodeFacts.{Leaves, WaitFits, Fits}
-use Rattle.crl_deeds.specs.Tokens.{weigh, waited, Span, came}
+use Rattle.crl_deeds.specs.Tokens.{weigh, Span, came}
 use Rattle.crl_deeds.specs.Turns.{Came}
 use Rattle.crl_deeds.proofs.Laws.{same_name, weigh_append, none_to, parting_none, purges_none, span_copies, span_rounds}
-use Rattle.crl_lifetime.specs.Lifetime.{is_live_with, tells_live, any_size, one_if}
+use Rattle.crl_lifetime.specs.Lifetime.{tells_live, any_size, one_if}
 
 -- A message that tells node i that its map of the region is granted, and what node i has mapped of it.
 abbrev pub grants_map : ℕ → Name → Message → ℕ

@@ -1,25 +1,24 @@
 -- How often a region is mapped at a node, with a map that is granted and whose answer is under way, is what the single
 -- machine has.
-use Rattle.std.proofs.Common.{◌≡◌, ℕ, zero, suc, ◌+◌, ◌≤◌, ◌<◌, ◌==◌, Bool, true, false, None, Some, Option, List, [], ◌∷◌, ◌++◌, if◌then◌else◌, refl, ap, sym, ◌∙◌, subst, arith}
+use Rattle.std.proofs.Common.{◌≡◌, ℕ, zero, suc, ◌+◌, ◌≤◌, ◌<◌, ◌==◌, Bool, true, false, Some, List, [], ◌∷◌, ◌++◌, if◌then◌else◌, refl, ap, sym, ◌∙◌, subst, arith}
 use Rattle.std.proofs.lemmas.Bool.{cond-true, cond-false, eqb-true, eqb-false, cond_both}
 use Rattle.crl_model.specs.declared.name.Name.{Name}
 use Rattle.crl_model.specs.declared.event.Event.{Event}
-use Rattle.crl_model.specs.declared.message.Message.{Message}
 use Rattle.crl_model.specs.declared.message.Kind.{Kind}
 use Rattle.crl_model.specs.declared.message.Kind.TheVariants as kind
 use Rattle.crl_model.specs.Names.{at_node}
 use Rattle.crl_machine.specs.SingleMachine.{State, after_all}
-use Rattle.crl_protocol.specs.Parcels.{Piece, with_load, PartsGathered, pieces_in}
+use Rattle.crl_protocol.specs.Parcels.{Piece, with_load, pieces_in}
 use Rattle.crl_protocol.specs.Places.{Took, here, there}
-use Rattle.crl_protocol.specs.Node.{Node, Free, Waiting, ForMap, Done, Outcome, only, map_count}
-use Rattle.crl_protocol.specs.World.{World, WorldStep, note, put_in, commits, steps_node, carries, boxes_from, pieces_in_boxes, step, is_enabled}
+use Rattle.crl_protocol.specs.Node.{Node, Free, Done, Outcome, only, map_count}
+use Rattle.crl_protocol.specs.World.{World, WorldStep, note, put_in, commits, steps_node, carries, boxes_from, pieces_in_boxes}
 use Rattle.crl_deeds.specs.Counts.{Plain, Known}
 use Rattle.crl_deeds.specs.Deeds.{Calls, Hears}
 use Rattle.crl_deeds.specs.NodeFacts.{ComesIn, Fits}
-use Rattle.crl_deeds.specs.Tokens.{on_piece, weigh, weighs, sum, load, came}
+use Rattle.crl_deeds.specs.Tokens.{on_piece, weighs, sum, load, came}
 use Rattle.crl_deeds.specs.Turns.{Turn, calls, hears, gathers, answers, carriage, rests, Frame, HeldIn}
-use Rattle.crl_deeds.proofs.Laws.{turn_of, deed_frame, all_took, away_load, sum_with, sum_part, weigh_append, weigh_took, weighs_posted, boxed_sum, whole_of, part_same, keyed_none}
-use Rattle.crl_lifetime.specs.Lifetime.{tells_live, any_size, one_if, how_many, under_way, TalkFits, MessageFits}
+use Rattle.crl_deeds.proofs.Laws.{deed_frame, all_took, away_load, sum_with, sum_part, weigh_append, weigh_took, weighs_posted, boxed_sum, whole_of, part_same, keyed_none}
+use Rattle.crl_lifetime.specs.Lifetime.{tells_live, any_size, how_many, under_way, TalkFits, MessageFits}
 use Rattle.crl_history.proofs.MapDeeds.{grants_map, maps_of, MapsGo, nothing, grants_span, IsAwaited, maps_deed}
 
 -- the maps that are granted and whose answer is in a box
@@ -122,7 +121,7 @@ maps_turn w v (hears j e p rest parcels part o few took d) x k s h i r small =
     let took_out = weigh_took (on_piece f) took in
     maps_outcome i r w s j n e (came f n.me (Hears m.sender (with_load part m.kind))) o few (deed_frame _ _ _ d) t.me refl (omega arith)
     (λ l. maps_deed i r j s n (Hears m.sender (with_load part m.kind)) o d fits (subst (λ (y : Type 0). y) (away_load m.sender n.me part m.kind) mine.0) tt
-      (awaits w n part m.sender m.addressee m.kind (ap (λ a. (w.nodes a).activity) (sym to)) (k.heard j p rest few took)) l) (h i r small)
+    (awaits w n part m.sender m.addressee m.kind (ap (λ a. (w.nodes a).activity) (sym to)) (k.heard j p rest few took)) l) (h i r small)
 maps_turn w v (gathers j e p rest parcels key few took keyed) x k s h i r small =
     let f = grants_map i r in
     let n : Node = record (w.nodes j) { inbox = rest; parcels = parcels } in

@@ -1,6 +1,6 @@
 -- How the sections of a node change where one opens or ends, and why one that opens may open.
-use Rattle.std.proofs.Common.{◌≡◌, ℕ, ◌+◌, ◌-◌, ◌≤◌, ◌==◌, ◌&&◌, Bool, true, false, None, Some, Option, List, [], ◌∷◌, ◌++◌, if◌then◌else◌, refl, ap, sym, ◌∙◌, subst, arith}
-use Rattle.std.proofs.lemmas.Bool.{cond_both, and_parts, eqb-true, eqb-false, eq-eqb}
+use Rattle.std.proofs.Common.{◌≡◌, ℕ, ◌+◌, ◌-◌, ◌≤◌, ◌==◌, ◌&&◌, Bool, true, false, None, Some, Option, List, [], ◌∷◌, if◌then◌else◌, refl, ap, sym, ◌∙◌, subst, arith}
+use Rattle.std.proofs.lemmas.Bool.{cond_both, and_parts, eqb-true, eq-eqb}
 use Rattle.crl_model.specs.declared.name.Name.{Name}
 use Rattle.crl_model.specs.declared.directory.Asked.{Asked}
 use Rattle.crl_model.specs.declared.directory.Section.{Section}
@@ -12,7 +12,7 @@ use Rattle.crl_model.specs.declared.message.Kind.{Kind}
 use Rattle.crl_model.specs.Names.{name_eq, at_pair}
 use Rattle.crl_machine.specs.SingleMachine.{State, change}
 use Rattle.crl_protocol.specs.Places.{at, put}
-use Rattle.crl_protocol.specs.Home.{Home, HomeStep, lets_open, is_clear, is_servable, open_own, grant_next, opens_own_section, posts_first, grant_for, with_marks, recalls_and_yields, serve, home_takes_ask, home_takes_return, home_takes_release, is_to_lower, shared_listing, one_section_more, one_section_less}
+use Rattle.crl_protocol.specs.Home.{Home, HomeStep, lets_open, is_servable, open_own, grant_next, opens_own_section, posts_first, grant_for, with_marks, recalls_and_yields, serve, home_takes_ask, home_takes_return, home_takes_release, is_to_lower, shared_listing, one_section_more, one_section_less}
 use Rattle.crl_protocol.specs.Remote.{Remote, grant_fits, asks_to_write, asks_to_read}
 use Rattle.crl_protocol.specs.Sections.{OpenSection, Sections, section_of, section_at, count_of, is_writing, begins_to_read, section_begins, section_ends, ends_over}
 use Rattle.crl_protocol.specs.Node.{Node}

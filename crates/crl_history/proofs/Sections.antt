@@ -1,6 +1,5 @@
 -- The sections that are open at a node are those that the single machine has.
-use Rattle.std.proofs.Common.{◌≡◌, ℕ, ◌+◌, ◌-◌, ◌==◌, ◌&&◌, Bool, true, false, None, Some, Option, List, [], ◌∷◌, if◌then◌else◌, refl, ap, sym, ◌∙◌, subst}
-use Rattle.std.proofs.lemmas.Bool.{cond_both, cond-true, cond-false}
+use Rattle.std.proofs.Common.{◌≡◌, ℕ, ◌+◌, ◌-◌, ◌==◌, ◌&&◌, Bool, true, false, Some, List, [], ◌∷◌, if◌then◌else◌, refl, ap, sym, ◌∙◌, subst}
 use Rattle.crl_model.specs.declared.name.Name.{Name}
 use Rattle.crl_model.specs.declared.call.Call.{Call}
 use Rattle.crl_model.specs.declared.call.CallKind.{CallKind}
@@ -14,18 +13,17 @@ use Rattle.crl_model.specs.FoldOf.{fold_of}
 use Rattle.crl_model.specs.Names.{name_eq, at_pair}
 use Rattle.crl_machine.specs.SingleMachine.{State, change, after_all}
 use Rattle.crl_protocol.specs.Home.{Home, HomeStep}
-use Rattle.crl_protocol.specs.Remote.{Remote, RemoteStep, asks_to_write, remote_takes_grant}
+use Rattle.crl_protocol.specs.Remote.{Remote, RemoteStep, asks_to_write}
 use Rattle.crl_protocol.specs.Sections.{Sections, section_at, is_writing, section_begins, section_ends}
-use Rattle.crl_protocol.specs.Sectioning.{closes, copy_bytes}
 use Rattle.crl_protocol.specs.Calls.{result_of}
 use Rattle.crl_protocol.specs.Node.{Node, Done, Outcome, home_of, entry_of}
 use Rattle.crl_deeds.specs.Counts.{AwaitsSection}
 use Rattle.crl_deeds.specs.Deeds.{Cause, Hears, EndsCall, Copies, Lives, Rounds, Notes, Serves, Deed}
 use Rattle.crl_deeds.specs.Deeds as deed
-use Rattle.crl_deeds.specs.NodeFacts.{Leaves, Fits}
+use Rattle.crl_deeds.specs.NodeFacts.{Leaves}
 use Rattle.crl_deeds.specs.Turns.{Came}
 use Rattle.crl_deeds.proofs.Laws.{own_waits}
-use Rattle.crl_history.proofs.Events.{SectionsAgree, NodeKnown, Acting, Mirrored}
+use Rattle.crl_history.proofs.Events.{NodeKnown, Mirrored}
 use Rattle.crl_history.proofs.Openings.{SaysSections, OpensAs, section_opens, read_closes, write_closes, start_may, serves_write, grant_asked, closed_may}
 
 -- What the machine has of a node's sections.

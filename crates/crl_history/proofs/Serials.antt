@@ -1,5 +1,5 @@
 -- The serials that a node has used are those that the single machine has for it.
-use Rattle.std.proofs.Common.{◌≡◌, ℕ, zero, suc, ◌+◌, ◌-◌, ◌^◌, min, ◌≤◌, ◌<◌, ◌==◌, Bool, true, false, None, Some, Option, List, [], ◌∷◌, ◌++◌, length, if◌then◌else◌, refl, ap, sym, ◌∙◌, subst, arith}
+use Rattle.std.proofs.Common.{◌≡◌, ℕ, zero, suc, ◌+◌, ◌-◌, ◌≤◌, ◌==◌, Bool, true, false, None, Some, Option, List, [], ◌∷◌, ◌++◌, length, if◌then◌else◌, refl, ap, sym, ◌∙◌, subst, arith}
 use Rattle.std.proofs.lemmas.Bool.{cond_both, cond-true, cond-false, eqb-true, eqb-false, eq-eqb}
 use Rattle.std.proofs.Math.Nat.{min-eq_left, min-eq_right}
 use Rattle.crl_model.specs.declared.name.Name.{Name}
@@ -31,7 +31,7 @@ use Rattle.crl_deeds.specs.Deeds as deed
 use Rattle.crl_deeds.specs.Refusals.{Refuses}
 use Rattle.crl_deeds.specs.Refusals as found
 use Rattle.crl_deeds.proofs.Laws.{refused_for, create_fits}
-use Rattle.crl_history.proofs.Events.{IsOutcome, Acting, Mirrored}
+use Rattle.crl_history.proofs.Events.{IsOutcome, Mirrored}
 
 -- What the machine has of a node's serials says how many the node has used, and there are at most so many.
 pub record SaysUsed (used : ℕ) (n : Node) : Type 0 where

@@ -1,6 +1,6 @@
 -- The stage of a region at its home is that which the single machine has.
-use Rattle.std.proofs.Common.{◌≡◌, ℕ, ◌+◌, ◌<◌, ◌==◌, ◌&&◌, Bool, true, false, None, Some, Option, List, [], ◌∷◌, if◌then◌else◌, refl, ap, sym, ◌∙◌, subst, arith}
-use Rattle.std.proofs.lemmas.Bool.{cond_both, cond-true, cond-false, eqb-true, eqb-false, eq-eqb, ne_eqb, and_from}
+use Rattle.std.proofs.Common.{◌≡◌, ℕ, ◌+◌, ◌==◌, ◌&&◌, Bool, true, false, List, [], ◌∷◌, if◌then◌else◌, refl, ap, sym, ◌∙◌}
+use Rattle.std.proofs.lemmas.Bool.{cond-true, cond-false, eqb-true, eqb-false, eq-eqb, ne_eqb, and_from}
 use Rattle.crl_model.specs.declared.name.Name.{Name}
 use Rattle.crl_model.specs.declared.stage.Stage.{Stage}
 use Rattle.crl_model.specs.declared.stage.Stage.TheVariants as stage
@@ -12,7 +12,7 @@ use Rattle.crl_model.specs.declared.entry.What.{What}
 use Rattle.crl_model.specs.declared.entry.What.TheVariants as what
 use Rattle.crl_model.specs.Calls.{kind_of}
 use Rattle.crl_model.specs.FoldOf.{fold_of}
-use Rattle.crl_model.specs.Names.{name_eq, at_node, at_name}
+use Rattle.crl_model.specs.Names.{name_eq, at_name}
 use Rattle.crl_machine.specs.SingleMachine.{State, change, after_all}
 use Rattle.crl_protocol.specs.Home.{Home, HomeStep}
 use Rattle.crl_protocol.specs.Remote.{Remote, RemoteStep}
@@ -22,7 +22,7 @@ use Rattle.crl_protocol.specs.Calls.{creates, result_of}
 use Rattle.crl_deeds.specs.Deeds.{Cause, EndsCall, Copies, Lives, Rounds, Notes, Deed}
 use Rattle.crl_deeds.specs.Deeds as deed
 use Rattle.crl_deeds.proofs.Laws.{same_name, lifetime_put}
-use Rattle.crl_history.proofs.Events.{Acting, Mirrored}
+use Rattle.crl_history.proofs.Events.{Mirrored}
 
 -- What the machine has of the region, as it is asked of node k: nothing where that isn't its home.
 abbrev pub stage_by : Name → State → ℕ → Stage
