@@ -27,10 +27,9 @@ use Rattle.crl_model.specs.declared.call.Refusal.TheVariants as refusal
 use Rattle.crl_protocol.specs.World.{is_call}
 use Rattle.crl_protocol.specs.Talk.{created_pieces, bound_of}
 use Rattle.crl_deeds.specs.Deeds.{FreeIf, Cause, Calls, Hears, parting, StartsCall, to_read, to_write, EndsCall, a_read, a_write, Serves, ask_comes, copy_returns, copy_lowers, CallsBack, wholly, to_share, Copies, home_opens, home_waits, side_opens, side_waits, home_ends, side_ends, side_flushes, home_serves, home_serves_own, grant_comes, side_called, Lives, made, used_up, map_asks, map_told, map_refused, map_comes, map_denied, unmaps_doomed, unmaps_evicting, deletes_alone, deletes_own, delete_asks, deletes_alone_for, deletes_for, delete_refused, delete_comes, dooms, drops, warns, counts_off, ends_own, ends_for, Rounds, comes_away, comes_home, comes_last, part_comes, part_last, part_last_idle, result_comes, Notes, ends_nowhere, Deed, copies, lives, rounds, notes, refuses, idles}
-use Rattle.crl_deeds.proofs.Laws.{waits_granted, asked_goes, returned_goes, released_goes, not_mine, home_bytes, remote_bytes, asking_of, mapped_home, mapped_remote}
+use Rattle.crl_deeds.proofs.Laws.{waits_granted, not_mine, home_bytes, remote_bytes, asking_of, mapped_home, mapped_remote}
 use Rattle.crl_deeds.specs.Counts.{Counts}
-use Rattle.crl_deeds.specs.NodeFacts.{IsAway, Leaves, RecordFits, CopyFits, Fits}
-use Rattle.crl_deeds.specs.TableFacts.{HomeGoes}
+use Rattle.crl_deeds.specs.NodeFacts.{Leaves, RecordFits, CopyFits, Fits}
 use Rattle.crl_deeds.specs.Turns.{Came}
 use Rattle.crl_bound.proofs.Costs.{token_kind, cost, cost_append, cost_more, cost_one, one_piece}
 use Rattle.crl_bound.proofs.Homes.{HomeCredit, asked_credits, returned_credits, released_credits, started_credits, read_credits, write_credits}
@@ -111,11 +110,6 @@ pub serves_credit : (P : Name → ℕ) (nodes k : ℕ) (es : List Entry) (j : �
 serves_credit P nodes k es j n h from m name s (ask_comes y q write have free) is f x = asked_credits (P q) n.me (record { node = from; write = write; have = have }) h (home_pieces P k es j n q h is f x)
 serves_credit P nodes k es j n h from m name s (copy_returns y q version bytes fits) is f x = returned_credits (P q) n.me from version bytes h (home_pieces P k es j n q h is f x) (x.home q h is) fits
 serves_credit P nodes k es j n h from m name s (copy_lowers y q version bytes fits) is f x = released_credits (P q) n.me from version bytes h (x.home q h is) fits
-
-pub serves_goes : (n : Node) (h : Home) (from : ℕ) (k : Kind) (name : Name) (s : HomeStep) → Serves n h from k name s → IsAway from n.me k → length h.bytes ≡ h.size → HomeGoes n.me h s
-serves_goes n h from k name s (ask_comes f q write have free) away b = asked_goes n.me (record { node = from; write = write; have = have }) h away b
-serves_goes n h from k name s (copy_returns f q version bytes fits) away b = returned_goes n.me from version bytes h b fits
-serves_goes n h from k name s (copy_lowers f q version bytes fits) away b = released_goes n.me from version bytes h b fits
 
 pub home_end_credit : (P : Name → ℕ) (k : ℕ) (es : List Entry) (j : ℕ) (n : Node) (c : Call) (name : Name) (w : What) (ends : Home → HomeStep) (lowers : Remote → RemoteStep) (h : Home) → EndsCall (bytes_at name n.sections) n c name w ends lowers → is_call n c (verdict n c) ≡ true
     → home_of n name ≡ Some h → Fits j n → Facts P k es n → HomeCredit (P name) n.me h (ends h) 0

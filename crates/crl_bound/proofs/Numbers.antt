@@ -13,7 +13,7 @@ use Rattle.crl_protocol.specs.Handlers.{purges_waiting}
 use Rattle.crl_protocol.specs.Node.{Node, Activity, Free, Waiting, Ready, ForMap, Outcome, Done, only}
 use Rattle.crl_protocol.specs.World.{World, WorldStep, new_world, note, put_in, commits, carries, step, IsRunFrom, world_after, world_of, messages_sent_from}
 use Rattle.crl_deeds.specs.Deeds.{Cause, Calls, Hears, Copies, Lives, Rounds, Notes, Deed, copies, lives, rounds, notes, home_serves_own, grant_comes, home_waits, side_waits, map_asks, map_comes, map_denied, deletes_own, delete_asks, delete_comes, warns, ends_own, comes_away, comes_home, part_last, result_comes, flushes_own}
-use Rattle.crl_deeds.proofs.Laws.{away_load, waits_own, waits_granted, home_bytes, queue_of, asking_of, going_own, deed_frame, all_took, sum_with, sum_new, known_start, known_step}
+use Rattle.crl_deeds.proofs.Laws.{serves_goes, away_load, waits_own, waits_granted, home_bytes, queue_of, asking_of, going_own, deed_frame, all_took, sum_with, sum_new, known_start, known_step}
 use Rattle.crl_deeds.specs.Counts.{Known}
 use Rattle.crl_deeds.specs.NodeFacts.{Leaves, ComesIn, Fits}
 use Rattle.crl_deeds.specs.Tokens.{sum_from, sum}
@@ -21,7 +21,6 @@ use Rattle.crl_deeds.specs.Turns.{Came}
 use Rattle.crl_bound.specs.Counters.{BoundsEachRun, count_calls, count_collects, count_handles, count_carries, EventsFew}
 use Rattle.crl_bound.proofs.Events.{Happens, calls, hears, gathers, answers, carriage, happens}
 use Rattle.crl_bound.proofs.Budgets.{sum_past}
-use Rattle.crl_bound.proofs.Deeds.{serves_goes}
 use Rattle.crl_bound.proofs.Posts.{deed_posted}
 use Rattle.crl_bound.proofs.Runs.{messages_bounded}
 

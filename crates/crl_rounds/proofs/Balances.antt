@@ -14,7 +14,6 @@ use Rattle.crl_protocol.specs.Gathering.{Gathering, all_parts, awaits}
 use Rattle.crl_protocol.specs.Node.{Node, ForRound, Activity, Free, Waiting, Outcome}
 use Rattle.crl_protocol.specs.Calls.{results}
 use Rattle.crl_deeds.specs.Deeds.{FreeIf, Cause, Calls, Hears, with_parts, next_round, Rounds, comes_away, comes_home, comes_last, part_comes, part_last, part_last_idle, result_comes, Idles, Deed, copies, lives, rounds, notes, refuses, idles}
-use Rattle.crl_model.specs.declared.name.Name.{Name}
 use Rattle.crl_model.specs.declared.call.Call.{Call}
 use Rattle.crl_model.specs.declared.call.Call.TheVariants as call
 use Rattle.crl_model.specs.declared.call.Refusal.{Refusal}

@@ -1,5 +1,5 @@
 -- What a deed leaves alone that has nothing to do with rounds.
-use Rattle.std.proofs.Common.{◌≡◌, ℕ, ◌==◌, ◌||◌, Bool, true, false, not, if◌then◌else◌, None, Some, Option, List, [], ◌∷◌, map, length, refl, ap, sym, ◌∙◌, subst}
+use Rattle.std.proofs.Common.{◌≡◌, ℕ, ◌==◌, ◌||◌, Bool, true, false, not, if◌then◌else◌, None, Some, Option, List, [], ◌∷◌, map, refl, ap, sym, ◌∙◌, subst}
 use Rattle.std.specs.Prelude.{nat_lt}
 use Rattle.std.specs.List.{AllByRecursion}
 use Rattle.crl_model.specs.declared.TheConstants.{REGION_LIMIT}
@@ -28,11 +28,10 @@ use Rattle.crl_protocol.specs.Sections.{section_at, count_of, is_writing}
 use Rattle.crl_protocol.specs.Node.{Node, ForSection, ForMap, Activity, Free, Waiting, Outcome, letter_messages, mail_messages, message_to, is_mine, is_real, serials_used, lifetime_of, map_count, COUNT_LIMIT}
 use Rattle.crl_protocol.specs.Handlers.{purges_waiting}
 use Rattle.crl_protocol.specs.Verdict.{verdict, else_if, refuse_if, of_create, of_map, of_mapped, of_cached, of_delete, of_more, of_unmapped, of_open, of_start, of_end, of_change, of_part, by_stage}
-use Rattle.crl_deeds.specs.Deeds.{FreeIf, Cause, Calls, Hears, parting, EndsCall, a_read, a_write, Serves, ask_comes, copy_returns, copy_lowers, CallsBack, wholly, Copies, home_opens, home_waits, side_opens, side_waits, home_ends, side_ends, side_flushes, home_serves, home_serves_own, grant_comes, side_called, Unfit, never, Lives, made, used_up, map_asks, map_told, map_refused, map_comes, map_denied, unmaps_doomed, unmaps_evicting, deletes_own, delete_asks, deletes_alone_for, deletes_for, deletes_alone, delete_refused, delete_comes, dooms, drops, warns, counts_off, ends_own, ends_for, Notes, ends_nowhere}
+use Rattle.crl_deeds.specs.Deeds.{FreeIf, Cause, Calls, Hears, parting, EndsCall, a_read, a_write, Serves, ask_comes, CallsBack, wholly, Copies, home_opens, home_waits, side_opens, side_waits, home_ends, side_ends, side_flushes, home_serves, home_serves_own, grant_comes, side_called, Unfit, never, Lives, made, used_up, map_asks, map_told, map_refused, map_comes, map_denied, unmaps_doomed, unmaps_evicting, deletes_own, delete_asks, deletes_alone_for, deletes_for, deletes_alone, delete_refused, delete_comes, dooms, drops, warns, counts_off, ends_own, ends_for, Notes, ends_nowhere}
 use Rattle.crl_machine.specs.SingleMachine.{State, after_all}
-use Rattle.crl_deeds.proofs.Laws.{all_append, waits_own, waits_granted, home_bytes, queue_of, asking_of, asked_goes, returned_goes, released_goes, going_own}
-use Rattle.crl_deeds.specs.NodeFacts.{IsAway, Leaves, Fits}
-use Rattle.crl_deeds.specs.TableFacts.{HomeGoes}
+use Rattle.crl_deeds.proofs.Laws.{serves_goes, all_append, waits_own, waits_granted, home_bytes, queue_of, asking_of, going_own}
+use Rattle.crl_deeds.specs.NodeFacts.{Leaves, Fits}
 use Rattle.crl_deeds.specs.Turns.{Came}
 use Rattle.crl_rounds.specs.Standing.{FitAll, round_awaited, Stands}
 use Rattle.crl_rounds.proofs.States.{NotMixed, IsOtherWhat, IsOtherEntry, SameRounds, all_same, all_fit}
@@ -231,11 +230,6 @@ AwaitsAs a b = round_awaited a ≡ round_awaited b
 
 none_awaited : (a b c : Activity) → a ≡ b → round_awaited b ≡ None → round_awaited c ≡ None → AwaitsAs c a
 none_awaited a b c e h k = k ∙ sym h ∙ sym (ap round_awaited e)
-
-serves_goes : (n : Node) (h : Home) (from : ℕ) (k : Kind) (name : Name) (s : HomeStep) → Serves n h from k name s → IsAway from n.me k → length h.bytes ≡ h.size → HomeGoes n.me h s
-serves_goes n h from k name s (ask_comes f q write have free) away b = asked_goes n.me (record { node = from; write = write; have = have }) h away b
-serves_goes n h from k name s (copy_returns f q version bytes fits) away b = returned_goes n.me from version bytes h b fits
-serves_goes n h from k name s (copy_lowers f q version bytes fits) away b = released_goes n.me from version bytes h b fits
 
 awaited_copies : (j : ℕ) (n : Node) (cause : Cause) (o : Outcome) → Copies n cause o → Fits j n → Came Leaves n.me cause → FreeIf cause n → AwaitsAs o.node.activity n.activity
 awaited_copies j n cause o (home_waits c write name h is e v x) f w free = none_awaited n.activity Free (Waiting (ForSection name)) free refl refl
