@@ -56,6 +56,7 @@ impl Homes {
     /// `OutOfMemory`. Nothing changes.
     pub fn ready_serial(&mut self) -> Result<(), OutOfMemory>
         ensures same { self.new ≡ record self.old { spare = self.new.spare } }
+        ensures more { self.old.spare ≤ self.new.spare }
         ensures ok { OnOk result (0 < self.new.spare) }
         ensures err { OnErr result (self.new ≡ self.old) }
     {
@@ -70,6 +71,7 @@ impl Homes {
     pub fn ready_create(&mut self, alloc: Global, size: u32) -> Result<Home, OutOfMemory>
         ensures same { self.new ≡ record self.old { spare = self.new.spare } }
         ensures table { IfOk result (λ home. home ≡ table.new_home self.old.nodes size) }
+        ensures more { self.old.spare ≤ self.new.spare }
         ensures ok { OnOk result (0 < self.new.spare) }
     {
         self.ready_serial()?;
