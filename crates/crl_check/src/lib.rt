@@ -5,8 +5,8 @@ ghost use Rattle.std.specs.Prelude.{◌≡◌, ◌≤◌, ℕ, OnOk, Err};
 ghost use Rattle.crl_machine.specs.SingleMachine.{start, IsHistory};
 ghost use Rattle.crl_check.specs.Histories.{IsFirstIllegal};
 
-use crl_model::entry::Entry;
 use crl_machine::machine::{Judged, Machine};
+use crl_model::entry::Entry;
 use crl_model::{NODE_LIMIT, NodeNo};
 use std::alloc::Global;
 use thiserror::Error;
