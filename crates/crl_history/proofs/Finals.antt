@@ -1,12 +1,9 @@
 -- Where nothing is under way, the bytes of each region that is there are the array's.
 use Rattle.std.proofs.Common.{◌≡◌, ◌≢◌, ℕ, zero, suc, ◌+◌, ◌<◌, ◌≤◌, ◌==◌, ◌&&◌, Bool, true, false, nat_lt, None, Some, Option, List, [], ◌∷◌, ◌++◌, length, if◌then◌else◌, refl, ap, sym, ◌∙◌, subst, arith}
 use Rattle.std.proofs.Math.Logic.{◌⊎◌, inl, inr}
-use Rattle.std.proofs.lemmas.Bool.{cond_both, cond-true, cond-false, eqb-true, eqb-false, eq-eqb, ne_eqb, ltb-true, ltb-false, and_from}
+use Rattle.std.proofs.lemmas.Bool.{cond_both, cond-true, cond-false, eqb-true, eqb-false, ne_eqb, ltb-true, ltb-false, and_from}
 use Rattle.crl_model.specs.declared.name.Name.{Name}
-use Rattle.crl_model.specs.declared.stage.Stage.{Stage}
-use Rattle.crl_model.specs.declared.stage.Stage.TheVariants as stage
 use Rattle.crl_model.specs.declared.event.Event.{Event}
-use Rattle.crl_model.specs.declared.report.FinalRegion.{FinalRegion}
 use Rattle.crl_model.specs.Names.{at_node}
 use Rattle.crl_model.specs.Stages.{is_there}
 use Rattle.crl_machine.specs.SingleMachine.{State, start}
@@ -17,22 +14,21 @@ use Rattle.crl_protocol.specs.Home.{Home}
 use Rattle.crl_protocol.specs.Remote.{Copy, Remote}
 use Rattle.crl_protocol.specs.Parcels.{Piece}
 use Rattle.crl_protocol.specs.Places.{at}
-use Rattle.crl_protocol.specs.Node.{Node, home_of}
-use Rattle.crl_protocol.specs.World.{World, WorldStep, new_world, world_of, pieces_in_boxes, IsRunFrom, put_in}
-use Rattle.crl_protocol.specs.Ends.{exclusive_bytes, copy_of, first_some, bytes_from, region_bytes, final_bytes, region_line, regions_of, regions_from, regions}
+use Rattle.crl_protocol.specs.Node.{Node}
+use Rattle.crl_protocol.specs.World.{World, WorldStep, new_world, world_of, IsRunFrom, put_in}
+use Rattle.crl_protocol.specs.Ends.{exclusive_bytes, copy_of, first_some, bytes_from, region_bytes, final_bytes, region_line, regions_of, regions_from}
 use Rattle.crl_deeds.specs.Turns.{Turn}
 use Rattle.crl_deeds.specs.Turns as turn
 use Rattle.crl_deeds.proofs.Laws.{turn_of, turn_count, here_of}
-use Rattle.crl_flight.specs.Flight.{Under}
 use Rattle.crl_coherence.specs.Coherent.{IsCoherent}
-use Rattle.crl_coherence.specs.Pairs.{Places, KindFits, HasVersion}
+use Rattle.crl_coherence.specs.Pairs.{Places, KindFits}
 use Rattle.crl_lifetime.specs.Lifetime.{home_stage}
 use Rattle.crl_lifetime.proofs.Laws.{homes_in_runs}
 use Rattle.crl_regions.specs.Steps.{RegionsHold}
 use Rattle.crl_regions.specs.View.{side, table_of, table_or_blank, view}
 use Rattle.crl_regions.proofs.Laws.{quiet_boxes}
 use Rattle.crl_rounds.specs.Standing.{machine_of, InEveryRun}
-use Rattle.crl_history.specs.Legal.{bytes_there, EndsLikeTheMachine, QuietWorldsEnd}
+use Rattle.crl_history.specs.Legal.{bytes_there, QuietWorldsEnd}
 use Rattle.crl_history.proofs.Grounds.{Ground, stage_is}
 use Rattle.crl_history.proofs.Histories.{ground_in_runs}
 use Rattle.crl_history.proofs.Runs.{runs_by_end}

@@ -1,37 +1,33 @@
 -- What is known of a world and of the machine that mirrors it, and of each of its nodes by itself.
-use Rattle.std.proofs.Common.{◌≡◌, ◌≢◌, ℕ, ◌+◌, ◌<◌, ◌≤◌, ◌==◌, ◌&&◌, ◌||◌, Bool, true, false, not, nat_lt, None, Some, Option, List, [], ◌∷◌, length, if◌then◌else◌, refl, ap, sym, ◌∙◌, subst, arith}
+use Rattle.std.proofs.Common.{◌≡◌, ℕ, ◌+◌, ◌<◌, ◌≤◌, ◌==◌, ◌&&◌, ◌||◌, Bool, true, false, not, nat_lt, None, Some, List, [], ◌∷◌, length, refl, ap, sym, ◌∙◌, subst, arith}
 use Rattle.std.proofs.Math.Logic.{◌⊎◌, inl, inr}
-use Rattle.std.proofs.lemmas.Bool.{cond-true, cond-false, eqb-true, eqb-false, eq-eqb, ne_eqb, and_parts, and_from, ltb-true, ltb-false}
+use Rattle.std.proofs.lemmas.Bool.{eqb-true, eq-eqb, and_from, ltb-true, ltb-false}
 use Rattle.crl_model.specs.declared.name.Name.{Name}
 use Rattle.crl_model.specs.declared.stage.Stage.{Stage}
 use Rattle.crl_model.specs.declared.stage.Stage.TheVariants as stage
-use Rattle.crl_model.specs.declared.message.Message.{Message}
-use Rattle.crl_model.specs.declared.message.Told.{Told}
 use Rattle.crl_model.specs.declared.message.Kind.{Kind}
 use Rattle.crl_model.specs.declared.message.Kind.TheVariants as kind
 use Rattle.crl_model.specs.Names.{name_eq}
 use Rattle.crl_model.specs.Stages.{is_there, is_deleted}
 use Rattle.crl_machine.specs.SingleMachine.{State, IsFree}
 use Rattle.crl_protocol.specs.Home.{Home}
-use Rattle.crl_protocol.specs.Lifetimes.{Mapping, cached_size}
-use Rattle.crl_protocol.specs.Parcels.{Piece, PartsGathered, with_load}
+use Rattle.crl_protocol.specs.Lifetimes.{Mapping}
+use Rattle.crl_protocol.specs.Parcels.{Piece, with_load}
 use Rattle.crl_protocol.specs.Places.{Took}
 use Rattle.crl_protocol.specs.Places as took
 use Rattle.crl_protocol.specs.Sections.{section_at, count_of, is_writing}
-use Rattle.crl_protocol.specs.Node.{serials_used, Node, Activity, Free, Waiting, Ready, ForSection, ForMap, ForDelete, ForRound, COUNT_LIMIT, is_mine, is_real, home_of, lifetime_of, map_count}
+use Rattle.crl_protocol.specs.Node.{serials_used, Activity, Free, Waiting, Ready, ForSection, ForMap, ForDelete, ForRound, COUNT_LIMIT, is_mine, home_of, lifetime_of, map_count}
 use Rattle.crl_protocol.specs.World.{World, pieces_in_boxes}
 use Rattle.crl_deeds.specs.Counts.{Known, Plain, PlainKind, GoingFew}
 use Rattle.crl_deeds.specs.Turns.{HeldIn}
 use Rattle.crl_deeds.proofs.Laws.{all_took, name_self, same_name}
-use Rattle.crl_lifetime.specs.Lifetime.{home_lifetime, home_stage, home_table, TableHasSize, is_about_map, is_about_delete, is_live_with, tells_live, any_size, one_if, how_many, under_way, waits_for_map, waits_for_delete, is_deleting, has_sound, has_doomed, has_entry, WaitsHaveOne, HomeAgrees, OwnAgrees, NodeAgrees, TalkFits, MessageFits}
+use Rattle.crl_lifetime.specs.Lifetime.{home_stage, TableHasSize, is_about_map, is_about_delete, is_live_with, tells_live, any_size, one_if, how_many, under_way, waits_for_map, waits_for_delete, is_deleting, has_sound, has_doomed, WaitsHaveOne, OwnAgrees, NodeAgrees, TalkFits, MessageFits}
 use Rattle.crl_regions.specs.View.{table_of, table_or_blank}
-use Rattle.crl_rounds.specs.Standing.{round_awaited, current_round, StandsIn, Stands}
+use Rattle.crl_rounds.specs.Standing.{round_awaited, current_round, StandsIn}
 use Rattle.crl_history.specs.Mirrors.{Mirrors}
 use Rattle.crl_history.specs.Legal.{is_engaged}
 use Rattle.crl_history.proofs.Events.{AllAgree}
 use Rattle.crl_history.proofs.Maps.{inbox_took}
-use Rattle.crl_history.proofs.Openings.{SaysSections}
-use Rattle.crl_history.proofs.Serials.{SaysUsed}
 use Rattle.crl_history.proofs.Knows.{own_home}
 use Rattle.crl_history.proofs.Seen.{Sees, Asks, HeardFits}
 
@@ -174,7 +170,7 @@ sees w s i g few =
       stages = λ q e. stage_is w s q g ∙ ap (λ k. (lifetime_of (w.nodes k) q).stage) (home q e);
       unreal = λ q e real. stage_is w s q g ∙ g.nowhere q (unreal_is q.home w.count q.serial (subst (λ c. (nat_lt q.home c && not (q.serial == 0)) ≡ false) counted.few real));
       sound = λ q e has. (let x = g.other i q few (apart q e) in
-        ap is_there (stage_is w s q g) ∙ there_known _ (x.created (or_right (has_doomed q n) (has_sound q n) has)) (λ gone. (let none = x.gone gone in cc)));
+          ap is_there (stage_is w s q g) ∙ there_known _ (x.created (or_right (has_doomed q n) (has_sound q n) has)) (λ gone. (let none = x.gone gone in cc)));
       doomed = λ q e has. ap is_deleted (stage_is w s q g) ∙ (g.other i q few (apart q e)).doomed has;
       table = λ q h e. table_size w s q h m (ap (λ k. home_of (w.nodes k) q) (own_home i n q h me e) ∙ e);
       mapped = λ q x e. mapped_sized w s i q x g few e;

@@ -1,17 +1,16 @@
 -- The bytes of each guard that a step answers are the array's.
-use Rattle.std.proofs.Common.{◌≡◌, ◌≢◌, ℕ, ◌+◌, ◌<◌, ◌≤◌, ◌==◌, Bool, true, false, None, Some, Option, List, [], ◌∷◌, ◌++◌, if◌then◌else◌, refl, ap, sym, ◌∙◌, subst, arith}
-use Rattle.std.proofs.lemmas.Bool.{cond_both, cond-true, cond-false, eqb-true, eqb-false, eq-eqb, ne_eqb}
+use Rattle.std.proofs.Common.{◌≡◌, ◌≢◌, ℕ, ◌==◌, Bool, true, false, None, Some, Option, List, [], ◌∷◌, ◌++◌, if◌then◌else◌, refl, ap, sym, ◌∙◌, subst}
+use Rattle.std.proofs.lemmas.Bool.{cond_both, cond-true, cond-false, eqb-false, eq-eqb, ne_eqb}
 use Rattle.crl_model.specs.declared.name.Name.{Name}
 use Rattle.crl_model.specs.declared.collective.Fold.{Fold}
 use Rattle.crl_model.specs.declared.collective.Fold.TheVariants as fold
-use Rattle.crl_model.specs.declared.directory.Section.{Section}
 use Rattle.crl_model.specs.declared.directory.Section.TheVariants as section
 use Rattle.crl_model.specs.declared.event.Event.{Event}
 use Rattle.crl_model.specs.declared.message.DeleteTold.{DeleteTold}
 use Rattle.crl_model.specs.declared.message.DeleteTold.TheVariants as delete_told
 use Rattle.crl_model.specs.Names.{at_node, at_name}
 use Rattle.crl_machine.specs.SingleMachine.{State, start}
-use Rattle.crl_protocol.specs.Home.{Home, HomeStep}
+use Rattle.crl_protocol.specs.Home.{Home}
 use Rattle.crl_protocol.specs.Remote.{Remote, asks_to_write, remote_takes_grant}
 use Rattle.crl_protocol.specs.Parcels.{Piece, with_load}
 use Rattle.crl_protocol.specs.Places.{Took}
@@ -37,7 +36,7 @@ use Rattle.crl_history.proofs.Events.{NodeKnown, node_known, boxed_known}
 use Rattle.crl_history.proofs.Grounds.{Ground}
 use Rattle.crl_history.proofs.Histories.{ground_in_runs, machine_then}
 use Rattle.crl_history.proofs.Knows.{own_home, not_own}
-use Rattle.crl_history.proofs.LegalEvents.{put_here, write_begun, read_opens}
+use Rattle.crl_history.proofs.LegalEvents.{write_begun, read_opens}
 use Rattle.crl_history.proofs.Openings.{OpensAs, start_may, grant_asked, closed_may}
 use Rattle.crl_history.proofs.Runs.{world_then, run_then, runs_by_end}
 use Rattle.crl_history.proofs.Sections.{own_may}

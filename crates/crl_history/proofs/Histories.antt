@@ -1,13 +1,12 @@
 -- Each run's account is a legal history.
-use Rattle.std.proofs.Common.{◌≡◌, ℕ, ◌+◌, ◌<◌, ◌≤◌, Bool, true, false, List, [], ◌∷◌, ◌++◌, refl, ap, sym, ◌∙◌, subst}
+use Rattle.std.proofs.Common.{◌≡◌, ℕ, ◌<◌, ◌≤◌, true, List, [], ◌∷◌, ◌++◌, ap, sym, ◌∙◌, subst}
 use Rattle.std.proofs.Math.Logic.{◌⊎◌, inl, inr}
 use Rattle.crl_model.specs.declared.name.Name.{Name}
 use Rattle.crl_model.specs.declared.stage.Stage.TheVariants as stage
 use Rattle.crl_model.specs.declared.entry.Entry.{Entry}
 use Rattle.crl_model.specs.declared.event.Event.{Event}
-use Rattle.crl_machine.specs.SingleMachine.{State, IsFree, IsHistory, start, after, after_all}
-use Rattle.crl_protocol.specs.World.{World, new_world, world_of, account, account_from, step, is_enabled, IsRunFrom}
-use Rattle.crl_deeds.specs.Entries.{entries_at}
+use Rattle.crl_machine.specs.SingleMachine.{State, IsHistory, start, after, after_all}
+use Rattle.crl_protocol.specs.World.{new_world, world_of, account, account_from, step, is_enabled, IsRunFrom}
 use Rattle.crl_deeds.proofs.Laws.{turn_of, decided}
 use Rattle.crl_lifetime.specs.Lifetime.{home_stage}
 use Rattle.crl_lifetime.proofs.Laws.{stages_nowhere, stages_without_serial, waits_in_runs, own_in_runs, nodes_in_runs, messages_in_runs}

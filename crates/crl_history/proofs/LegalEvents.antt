@@ -1,30 +1,27 @@
 -- The entries of each event are legal, each after those before it.
-use Rattle.std.proofs.Common.{◌≡◌, ◌≢◌, ℕ, ◌+◌, ◌<◌, ◌≤◌, ◌==◌, Bool, true, false, None, Some, Option, List, [], ◌∷◌, if◌then◌else◌, refl, ap, sym, ◌∙◌, subst, arith}
-use Rattle.std.proofs.lemmas.Bool.{cond_both, cond-true, cond-false, eqb-true, eqb-false, eq-eqb, ne_eqb}
+use Rattle.std.proofs.Common.{◌≡◌, ◌≢◌, ℕ, ◌<◌, ◌==◌, Bool, true, false, None, Some, Option, List, refl, ap, sym, ◌∙◌, subst}
+use Rattle.std.proofs.lemmas.Bool.{cond-true, cond-false, eqb-true, eqb-false, eq-eqb}
 use Rattle.crl_model.specs.declared.name.Name.{Name}
 use Rattle.crl_model.specs.declared.directory.Section.{Section}
 use Rattle.crl_model.specs.declared.directory.Section.TheVariants as section
 use Rattle.crl_model.specs.declared.event.Event.{Event}
-use Rattle.crl_model.specs.declared.message.Kind.{Kind}
 use Rattle.crl_model.specs.Names.{name_eq, at_name}
-use Rattle.crl_machine.specs.SingleMachine.{State, IsHistory, IsUnwritten, IsUnused, IsClosedAt}
+use Rattle.crl_machine.specs.SingleMachine.{State, IsHistory, IsClosedAt}
 use Rattle.crl_protocol.specs.Parcels.{Piece, PartsGathered, with_load}
-use Rattle.crl_protocol.specs.Places.{Took}
 use Rattle.crl_protocol.specs.Home.{one_section_more}
 use Rattle.crl_protocol.specs.Sections.{OpenSection, Sections, section_of, section_at, count_of, is_writing, section_begins, begins_to_read}
 use Rattle.crl_protocol.specs.Node.{Node, Outcome}
 use Rattle.crl_protocol.specs.World.{World, WorldStep, commits, steps_node}
-use Rattle.crl_deeds.specs.Counts.{FitsReads, Known}
 use Rattle.crl_deeds.specs.Deeds.{FreeIf, Cause, Calls, Hears, Deed}
 use Rattle.crl_deeds.specs.Deeds as deed
-use Rattle.crl_deeds.specs.NodeFacts.{IsAway, Leaves, ComesIn}
+use Rattle.crl_deeds.specs.NodeFacts.{Leaves, ComesIn}
 use Rattle.crl_deeds.specs.Turns.{Turn, Came}
 use Rattle.crl_deeds.specs.Turns as turn
 use Rattle.crl_deeds.proofs.Laws.{refused_for, all_took, away_load, name_self}
 use Rattle.crl_regions.specs.Reached.{WriteSectionsAreAlone}
 use Rattle.crl_rounds.specs.Standing.{FitAll}
 use Rattle.crl_history.proofs.Events.{NodeKnown, node_known, boxed_known}
-use Rattle.crl_history.proofs.Openings.{OpensAs, SaysSections}
+use Rattle.crl_history.proofs.Openings.{OpensAs}
 use Rattle.crl_history.proofs.Seen.{Sees, HeardFits, CauseFits, Lets, LetsBegin}
 use Rattle.crl_history.proofs.SectionEntries.{copies_legal, notes_legal}
 use Rattle.crl_history.proofs.MapEntries.{lives_legal}
@@ -83,6 +80,7 @@ write_lets w s i e o g alone name bytes may begins m few = go (i == m) refl
     go false apart =
         let writing = ap (λ x. section_at name x) (here_goes w i e o ∙ begins) ∙ write_begun name bytes (w.nodes i).sections in
         closed (sym (ap (λ (n : Node). section_at name n.sections) (other_stays w i e o m apart)) ∙ alone name i m (eqb-false i m apart) writing)
+
 read_lets : (w : World) (s : State) (i : ℕ) (e : Event) (o : Outcome) → Ground w s → WriteSectionsAreAlone (steps_node i e o w).world → (name : Name) (bytes : List ℕ) → OpensAs false (section_at name (w.nodes i).sections)
     → o.node.sections ≡ (section_begins false name bytes (w.nodes i).sections).sections → (m : ℕ) → m < s.nodes → s.writes m name ≡ false
 read_lets w s i e o g alone name bytes may begins m few = go (i == m) refl
@@ -100,7 +98,7 @@ read_lets w s i e o g alone name bytes may begins m few = go (i == m) refl
     go false apart =
         writes (section_at name (w.nodes m).sections) refl
         (λ x. read_opens name bytes (w.nodes i).sections may
-          (sym (ap (λ y. section_at name y) (here_goes w i e o ∙ begins)) ∙ alone name m i (λ same. eqb-false i m apart (sym same)) (ap (λ (n : Node). section_at name n.sections) (other_stays w i e o m apart) ∙ x)))
+        (sym (ap (λ y. section_at name y) (here_goes w i e o ∙ begins)) ∙ alone name m i (λ same. eqb-false i m apart (sym same)) (ap (λ (n : Node). section_at name n.sections) (other_stays w i e o m apart) ∙ x)))
 
 lets_as : (w : World) (s : State) (i : ℕ) (e : Event) (o : Outcome) → Ground w s → WriteSectionsAreAlone (steps_node i e o w).world → (write : Bool) (name : Name) (bytes : List ℕ) → OpensAs write (section_at name (w.nodes i).sections)
     → o.node.sections ≡ (section_begins write name bytes (w.nodes i).sections).sections → Lets s write name

@@ -1,7 +1,7 @@
 -- The entries of creates, maps, unmaps and deletes are legal.
-use Rattle.std.proofs.Common.{◌≡◌, ◌≢◌, ℕ, ◌+◌, ◌-◌, ◌^◌, ◌<◌, ◌≤◌, ◌==◌, ◌||◌, Bool, true, false, None, Some, Option, List, [], ◌∷◌, ◌++◌, length, if◌then◌else◌, refl, ap, sym, ◌∙◌, subst, arith, IsTrue}
-use Rattle.std.proofs.Math.Logic.{◌⊎◌, inl, inr}
-use Rattle.std.proofs.lemmas.Bool.{cond_both, cond-true, cond-false, eqb-true, eqb-false, eq-eqb}
+use Rattle.std.proofs.Common.{◌≡◌, ℕ, ◌+◌, ◌^◌, ◌<◌, ◌≤◌, ◌==◌, ◌||◌, Bool, true, false, None, Some, Option, [], ◌∷◌, length, if◌then◌else◌, refl, ap, sym, ◌∙◌, subst, arith, IsTrue}
+use Rattle.std.proofs.Math.Logic.{inl}
+use Rattle.std.proofs.lemmas.Bool.{cond-true, eqb-true, eqb-false, eq-eqb}
 use Rattle.crl_model.specs.declared.name.Name.{Name}
 use Rattle.crl_model.specs.declared.stage.Stage.{Stage}
 use Rattle.crl_model.specs.declared.stage.Stage.TheVariants as stage
@@ -16,7 +16,7 @@ use Rattle.crl_model.specs.declared.message.DeleteTold.{DeleteTold}
 use Rattle.crl_model.specs.Calls.{asks_the_home}
 use Rattle.crl_model.specs.Names.{name_eq, at_name}
 use Rattle.crl_model.specs.Stages.{is_there, is_deleted}
-use Rattle.crl_machine.specs.SingleMachine.{State, IsFree, IsRefusedAt, IsLegal, IsHistory, after}
+use Rattle.crl_machine.specs.SingleMachine.{State, IsFree, IsRefusedAt, IsLegal, IsHistory}
 use Rattle.crl_protocol.specs.Home.{Home}
 use Rattle.crl_protocol.specs.Remote.{is_closed}
 use Rattle.crl_protocol.specs.Lifetimes.{Mapping, cached_size}
@@ -29,7 +29,7 @@ use Rattle.crl_deeds.specs.Deeds.{FreeIf, Cause, Unfit, Lives}
 use Rattle.crl_deeds.specs.Deeds as deed
 use Rattle.crl_deeds.specs.NodeFacts.{LiveFits}
 use Rattle.crl_deeds.proofs.Laws.{create_fits, here_if, name_self}
-use Rattle.crl_lifetime.specs.Lifetime.{has_sound, is_sound, is_some_size, has_doomed}
+use Rattle.crl_lifetime.specs.Lifetime.{is_sound, is_some_size}
 use Rattle.crl_history.proofs.Events.{NodeKnown}
 use Rattle.crl_history.proofs.Serials.{SaysUsed}
 use Rattle.crl_history.proofs.SectionEntries.{free_now, maps_now, closed_now}
@@ -120,9 +120,11 @@ going_few count x deleter e h = subst (λ y. GoingFew count y) e h
 pub lives_legal : (s : State) (j : ℕ) (n : Node) (cause : Cause) (o : Outcome) → Lives n cause o → NodeKnown j n → FreeIf cause n → CauseFits s n cause → Sees s n → IsHistory s o.entries
 lives_legal s j n cause o (deed.made size e) known free fits h = (made_legal s n size e h free, tt)
 lives_legal s j n cause o (deed.used_up size why e few) known free fits h = (used_up_legal s n size why e few h free, tt)
-lives_legal s j n cause o (deed.maps_more name m e few mine other) known free fits h =
-    (map_legal s n.me name m.size h.few (free_now s n h free) (more_there s n name m h e mine other) (h.mapped name m e)
-      (map_room m _ (maps_now s n name h free ∙ ap map_count e) (count_few _ _ m e (h.counts name)) few), tt)
+lives_legal s j n cause o (deed.maps_more name m e few mine other) known free fits h = (
+  map_legal s n.me name m.size h.few (free_now s n h free) (more_there s n name m h e mine other) (h.mapped name m e)
+      (map_room m _ (maps_now s n name h free ∙ ap map_count e) (count_few _ _ m e (h.counts name)) few),
+  tt,
+)
 lives_legal s j n cause o (deed.maps_own name e mine live) known free fits h =
     let none = maps_now s n name h free ∙ ap map_count e in
     (map_legal s n.me name _ h.few (free_now s n h free) (live_there s name (h.stages name mine ∙ live)) (live_size s j n name mine live known h) (omega arith), tt)

@@ -1,21 +1,19 @@
 -- The entries of calls that their node refuses by itself are legal.
-use Rattle.std.proofs.Common.{◌≡◌, ◌≢◌, ℕ, ◌+◌, ◌-◌, ◌^◌, ◌<◌, ◌≤◌, ◌==◌, ◌||◌, Bool, true, false, None, Some, Option, List, [], ◌∷◌, length, if◌then◌else◌, refl, ap, sym, ◌∙◌, subst, arith, IsTrue}
-use Rattle.std.proofs.Math.Logic.{◌⊎◌, inl, inr}
-use Rattle.std.proofs.lemmas.Bool.{cond-true, cond-false, eqb-true, eqb-false}
+use Rattle.std.proofs.Common.{◌≡◌, ◌≢◌, ℕ, ◌+◌, ◌^◌, ◌≤◌, ◌==◌, ◌||◌, Bool, true, false, Some, if◌then◌else◌, refl, ap, sym, ◌∙◌, subst, arith}
+use Rattle.std.proofs.Math.Logic.{inl, inr}
+use Rattle.std.proofs.lemmas.Bool.{cond-true, cond-false, eqb-true}
 use Rattle.crl_model.specs.declared.name.Name.{Name}
 use Rattle.crl_model.specs.declared.stage.Stage.{Stage}
 use Rattle.crl_model.specs.declared.stage.Stage.TheVariants as stage
 use Rattle.crl_model.specs.declared.call.Call.{Call}
-use Rattle.crl_model.specs.declared.call.Call.TheVariants as call
 use Rattle.crl_model.specs.declared.call.CallKind.TheVariants as word
 use Rattle.crl_model.specs.declared.call.Refusal.{Refusal}
 use Rattle.crl_model.specs.declared.call.Refusal.TheVariants as refusal
 use Rattle.crl_model.specs.declared.directory.Section.{Section}
 use Rattle.crl_model.specs.declared.directory.Section.TheVariants as section
-use Rattle.crl_model.specs.declared.entry.Place.TheVariants.{Region, Round}
 use Rattle.crl_model.specs.declared.entry.What.TheVariants as what
-use Rattle.crl_model.specs.Stages.{is_there, is_deleted}
-use Rattle.crl_machine.specs.SingleMachine.{State, IsMapped, IsOpenAt, IsRefusedSerial, IsRefusedAt, IsLegal}
+use Rattle.crl_model.specs.Stages.{is_there}
+use Rattle.crl_machine.specs.SingleMachine.{State, IsMapped, IsOpenAt, IsRefusedSerial, IsLegal}
 use Rattle.crl_protocol.specs.Remote.{is_closed}
 use Rattle.crl_protocol.specs.Lifetimes.{Mapping, cached_size}
 use Rattle.crl_protocol.specs.Sections.{section_at, count_of, is_writing}

@@ -1,5 +1,5 @@
 -- The entries of collective calls are legal: who comes to a round, and what it gives.
-use Rattle.std.proofs.Common.{◌≡◌, ℕ, zero, suc, ◌+◌, ◌<◌, ◌≤◌, ◌==◌, Bool, true, false, None, Some, Option, List, [], ◌∷◌, length, refl, ap, sym, ◌∙◌, subst, arith}
+use Rattle.std.proofs.Common.{◌≡◌, ℕ, zero, suc, ◌+◌, ◌<◌, None, length, sym, ◌∙◌, subst, arith}
 use Rattle.crl_model.specs.declared.call.CallKind.{CallKind}
 use Rattle.crl_model.specs.declared.collective.Part.{Part}
 use Rattle.crl_model.specs.declared.collective.Part.TheVariants as part

@@ -1,10 +1,9 @@
 -- The entries of sections are legal: a start, an end, and a flush.
-use Rattle.std.proofs.Common.{◌≡◌, ℕ, ◌+◌, ◌-◌, ◌^◌, ◌<◌, ◌≤◌, ◌==◌, Bool, true, false, None, Some, Option, List, [], ◌∷◌, length, if◌then◌else◌, refl, ap, sym, ◌∙◌, subst, arith}
+use Rattle.std.proofs.Common.{◌≡◌, ℕ, ◌+◌, ◌^◌, ◌<◌, ◌≤◌, ◌==◌, Bool, true, false, None, Some, Option, List, if◌then◌else◌, refl, ap, sym, ◌∙◌, subst, arith}
 use Rattle.std.proofs.lemmas.Bool.{eqb-true, eqb-false}
 use Rattle.crl_model.specs.declared.name.Name.{Name}
 use Rattle.crl_model.specs.declared.call.Call.{Call}
 use Rattle.crl_model.specs.declared.call.Call.TheVariants as call
-use Rattle.crl_model.specs.declared.call.Refusal.{Refusal}
 use Rattle.crl_model.specs.declared.call.Refusal.TheVariants as refusal
 use Rattle.crl_model.specs.declared.directory.Section.{Section}
 use Rattle.crl_model.specs.declared.directory.Section.TheVariants as section
@@ -15,7 +14,7 @@ use Rattle.crl_protocol.specs.Home.{Home, HomeStep}
 use Rattle.crl_protocol.specs.Remote.{Remote, RemoteStep, is_closed, asks_to_write}
 use Rattle.crl_protocol.specs.Lifetimes.{Mapping}
 use Rattle.crl_protocol.specs.Sections.{OpenSection, section_of, section_bytes, section_at, bytes_at, count_of, is_writing}
-use Rattle.crl_protocol.specs.Node.{Node, Done, Outcome, Activity, Free, Waiting, ForSection, COUNT_LIMIT, is_mine, map_count, entry_of}
+use Rattle.crl_protocol.specs.Node.{Node, Outcome, Free, Waiting, ForSection, COUNT_LIMIT, is_mine, map_count, entry_of}
 use Rattle.crl_protocol.specs.Verdict.{verdict, else_if, refuse_if, of_end}
 use Rattle.crl_protocol.specs.World.{is_call}
 use Rattle.crl_deeds.specs.Counts.{Counts, AwaitsSection, FitsReads}
@@ -28,7 +27,7 @@ use Rattle.crl_deeds.proofs.Laws.{is_mapped_by, read_starts_below, read_ends_ope
 use Rattle.crl_lifetime.specs.Lifetime.{waits_for_map}
 use Rattle.crl_history.specs.Legal.{is_engaged}
 use Rattle.crl_history.proofs.Events.{NodeKnown}
-use Rattle.crl_history.proofs.Openings.{OpensAs, start_may, grant_asked, closed_may}
+use Rattle.crl_history.proofs.Openings.{start_may, grant_asked, closed_may}
 use Rattle.crl_history.proofs.Sections.{own_may}
 use Rattle.crl_history.proofs.Seen.{Sees, CauseFits, Lets, LetsBegin}
 

@@ -1,5 +1,5 @@
 -- What is known of a node that takes a step, and of the single machine before it, where its entries are judged.
-use Rattle.std.specs.Prelude.{◌≡◌, ℕ, ◌+◌, ◌<◌, ◌≤◌, Bool, true, false, Option, None, Some, List, length}
+use Rattle.std.specs.Prelude.{◌≡◌, ℕ, ◌<◌, Bool, true, false, Some, List, length}
 use Rattle.crl_model.specs.declared.name.Name.{Name}
 use Rattle.crl_model.specs.declared.stage.Stage.TheVariants as stage
 use Rattle.crl_model.specs.declared.message.Kind.{Kind}
@@ -9,7 +9,7 @@ use Rattle.crl_machine.specs.SingleMachine.{State, IsFree, IsUnwritten, IsUnused
 use Rattle.crl_protocol.specs.Home.{Home}
 use Rattle.crl_protocol.specs.Lifetimes.{Mapping, cached_size}
 use Rattle.crl_protocol.specs.Sections.{OpenSection, section_at, section_begins}
-use Rattle.crl_protocol.specs.Node.{Node, Activity, Waiting, ForDelete, ForRound, Outcome, is_mine, is_real, home_of, lifetime_of, map_count}
+use Rattle.crl_protocol.specs.Node.{Node, Outcome, is_mine, is_real, home_of, lifetime_of, map_count}
 use Rattle.crl_protocol.specs.Verdict.{verdict}
 use Rattle.crl_protocol.specs.World.{is_call}
 use Rattle.crl_deeds.specs.Counts.{Counts, GoingFew}
