@@ -103,10 +103,10 @@ free_is (Ready answer) e = cc
 abbrev pub AllAgree : World → Type 0
 AllAgree w = (i : ℕ) → SectionsAgree (w.nodes i)
 
-node_known : (w : World) → Known w → AllAgree w → (j : ℕ) → NodeKnown j (w.nodes j)
+pub node_known : (w : World) → Known w → AllAgree w → (j : ℕ) → NodeKnown j (w.nodes j)
 node_known w x agree j = record { fits = x.fits j; none = (x.none j).node; sections = x.sections j; agree = agree j }
 
-boxed_known : (j : ℕ) (n : Node) (p : Piece) (rest : List Piece) (parcels : PartsGathered) → Took p n.inbox rest → NodeKnown j n → NodeKnown j (record n { inbox = rest; parcels = parcels })
+pub boxed_known : (j : ℕ) (n : Node) (p : Piece) (rest : List Piece) (parcels : PartsGathered) → Took p n.inbox rest → NodeKnown j n → NodeKnown j (record n { inbox = rest; parcels = parcels })
 boxed_known j n p rest parcels took k = record {
   fits = record { me = k.fits.me; each = k.fits.each; cache = k.fits.cache; fresh = k.fits.fresh; inbox = (all_took (ComesIn n.me) took k.fits.inbox).1; outbox = k.fits.outbox };
   none = k.none;

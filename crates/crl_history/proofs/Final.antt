@@ -32,13 +32,13 @@ use Rattle.crl_history.proofs.Serials.{SaysUsed, used_by, used_mirrored}
 use Rattle.crl_history.proofs.Stages.{stage_by, SaysStage, stage_mirrored, stage_elsewhere}
 
 -- What mirrors at the start and goes with each deed mirrors in every run.
-mirrored_run : (A : Type 0) (of : State → ℕ → A) (Says : A → Node → Type 0) → Mirrored A of Says → (count capacity : ℕ) → ((k : ℕ) → Says (of (start count) k) (new_node count capacity k)) → (run : List Event) → IsRunFrom (new_world count capacity) run
+pub mirrored_run : (A : Type 0) (of : State → ℕ → A) (Says : A → Node → Type 0) → Mirrored A of Says → (count capacity : ℕ) → ((k : ℕ) → Says (of (start count) k) (new_node count capacity k)) → (run : List Event) → IsRunFrom (new_world count capacity) run
     → AllMirror A of Says (world_of count capacity run) (machine_of count capacity run)
 mirrored_run A of Says m count capacity first run r =
     runs_by_end (AllMirror A of Says) count capacity (start count)
     (λ run e r may h. mirrored_event A of Says m (world_of count capacity run) e may (known_in_runs count capacity run r) (agree_in_runs count capacity run r) (machine_of count capacity run) h) (λ k few. first k) run r
 
-used_first : (count capacity k : ℕ) → SaysUsed 0 (new_node count capacity k)
+pub used_first : (count capacity k : ℕ) → SaysUsed 0 (new_node count capacity k)
 used_first count capacity k = record { is = refl; most = omega arith }
 
 stage_first : (r : Name) (count capacity k : ℕ) → SaysStage r (stage_by r (start count) k) (new_node count capacity k)

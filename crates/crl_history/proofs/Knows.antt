@@ -34,7 +34,7 @@ pieces_in_runs count capacity run r = record {
 }
 
 -- Sections: those of a node's own regions are those of the table.
-own_home : (i : ℕ) (n : Node) (q : Name) (h : Home) → n.me ≡ i → home_of n q ≡ Some h → q.home ≡ i
+pub own_home : (i : ℕ) (n : Node) (q : Name) (h : Home) → n.me ≡ i → home_of n q ≡ Some h → q.home ≡ i
 own_home i n q h me e = go (is_mine n q) refl
   where
     go : (b : Bool) → is_mine n q ≡ b → q.home ≡ i
@@ -51,7 +51,7 @@ section_home count capacity run r i q h e =
     sym (cond-true (i == q.home) _ _ (eq-eqb i q.home (sym same)) ∙ ap (λ o. (table_or_blank o).mine) (at_home w i q h same e)) ∙ sections_are_tables count capacity run r i q [] []
 
 -- A node that asks for a copy has no section open.
-not_own : (mine : Bool) (v : Seen) (x : Remote) → OwnFits mine v → v.remote ≡ Some x → mine ≡ false
+pub not_own : (mine : Bool) (v : Seen) (x : Remote) → OwnFits mine v → v.remote ≡ Some x → mine ≡ false
 not_own true v x f e = let none = f.nothing in cc
 not_own false v x f e = refl
 

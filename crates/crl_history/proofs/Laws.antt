@@ -1,2 +1,5 @@
 -- What the crates above may cite of the proofs here.
 pub use Rattle.crl_history.proofs.Final.{mirrors_in_runs}
+pub use Rattle.crl_history.proofs.Histories.{engaged_in_runs, entries_legal, accounts_legal}
+pub use Rattle.crl_history.proofs.Finals.{quiet_ends}
+pub use Rattle.crl_history.proofs.Guards.{answers_show}

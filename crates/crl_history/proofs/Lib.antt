@@ -8,4 +8,14 @@ mod MapDeeds
 mod Maps
 mod Knows
 mod Final
+mod Seen
+mod SectionEntries
+mod MapEntries
+mod RoundEntries
+mod RefusalEntries
+mod Grounds
+mod LegalEvents
+mod Histories
+mod Finals
+mod Guards
 pub mod Laws

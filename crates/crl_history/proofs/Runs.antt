@@ -7,21 +7,21 @@ use Rattle.crl_machine.specs.SingleMachine.{State, after, after_all}
 use Rattle.crl_protocol.specs.World.{World, new_world, step, is_enabled, IsRunFrom, world_after, world_of, account_from, account}
 use Rattle.crl_deeds.proofs.Laws.{append_nil}
 
-world_then : (w : World) (run : List Event) (e : Event) → world_after w (run ++ e ∷ []) ≡ (step e (world_after w run)).world
+pub world_then : (w : World) (run : List Event) (e : Event) → world_after w (run ++ e ∷ []) ≡ (step e (world_after w run)).world
 world_then w [] e = refl
 world_then w (x ∷ run) e = world_then (step x w).world run e
 
-account_then : (w : World) (run : List Event) (e : Event) → account_from w (run ++ e ∷ []) ≡ account_from w run ++ (step e (world_after w run)).entries
+pub account_then : (w : World) (run : List Event) (e : Event) → account_from w (run ++ e ∷ []) ≡ account_from w run ++ (step e (world_after w run)).entries
 account_then w [] e = append_nil (step e w).entries
 account_then w (x ∷ run) e =
     ap (λ es. (step x w).entries ++ es) (account_then (step x w).world run e) ∙ sym
     (append_assoc (step x w).entries (account_from (step x w).world run) (step e (world_after (step x w).world run)).entries)
 
-run_then : (w : World) (run : List Event) (e : Event) → IsRunFrom w run → is_enabled e (world_after w run) ≡ true → IsRunFrom w (run ++ e ∷ [])
+pub run_then : (w : World) (run : List Event) (e : Event) → IsRunFrom w run → is_enabled e (world_after w run) ≡ true → IsRunFrom w (run ++ e ∷ [])
 run_then w [] e r may = (may, tt)
 run_then w (x ∷ run) e r may = (r.0, run_then (step x w).world run e r.1 may)
 
-all_then : (s : State) (xs ys : List Entry) → after_all s (xs ++ ys) ≡ after_all (after_all s xs) ys
+pub all_then : (s : State) (xs ys : List Entry) → after_all s (xs ++ ys) ≡ after_all (after_all s xs) ys
 all_then s [] ys = refl
 all_then s (x ∷ xs) ys = all_then (after s x) xs ys
 

@@ -84,7 +84,7 @@ ends_sections n o bytes c name w ends lowers is sections entries = record {
 }
 
 -- The home's own section that a message lets open: the node waits for it, and none is in its way.
-own_may : (j : ℕ) (n : Node) (h : Home) (from : ℕ) (k : Kind) (name : Name) (y : HomeStep) → Serves n h from k name y → home_of n name ≡ Some h → y.opened ≡ true → Came Leaves n.me (Hears from k) → NodeKnown j n → (write : Bool) → is_writing y.home.mine ≡ write
+pub own_may : (j : ℕ) (n : Node) (h : Home) (from : ℕ) (k : Kind) (name : Name) (y : HomeStep) → Serves n h from k name y → home_of n name ≡ Some h → y.opened ≡ true → Came Leaves n.me (Hears from k) → NodeKnown j n → (write : Bool) → is_writing y.home.mine ≡ write
     → OpensAs write (section_at name n.sections)
 own_may j n h from k name y is e x away known true w = sym (known.agree.home name h e) ∙ serves_write n h from k name y is x w
 own_may j n h from k name y is e x away known false w = (subst (λ a. AwaitsSection a n.sections) (own_waits j n h from k name y is e x away known.fits) known.sections.waiting).0

@@ -2,6 +2,8 @@
 //! whose contracts are the theorems.
 #![tactic(auto)]
 
+pub mod legal;
+
 ghost use Rattle.std.specs.Prelude.{ℕ, List};
 ghost use Rattle.crl_model.specs.declared.event.Event.{Event};
 ghost use Rattle.crl_protocol.specs.World.{IsRunFrom, new_world, world_of};
