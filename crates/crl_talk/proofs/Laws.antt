@@ -1,0 +1,2 @@
+-- What the crates above may cite of the proofs here.
+pub use Rattle.crl_talk.proofs.Script.{calls_follow}
