@@ -1,5 +1,5 @@
 -- The sections that are open at a node, by the guards that it was given and the calls by which it ended them.
-use Rattle.std.specs.Prelude.{◌≡◌, ℕ, zero, suc, Bool, true, false, ◌&&◌, if◌then◌else◌, List, [], ◌∷◌, ◌++◌}
+use Rattle.std.specs.Prelude.{◌≡◌, ℕ, ◌+◌, ◌≤◌, Bool, true, false, ◌&&◌, if◌then◌else◌, List, [], ◌∷◌, ◌++◌}
 use Rattle.std.specs.declared.option.Option.{Option}
 use Rattle.std.specs.declared.option.Option.TheVariants.{None, Some}
 use Rattle.crl_model.specs.declared.name.Name.{Name}
@@ -45,7 +45,7 @@ without_newest [] = []
 without_newest (g ∷ gs) = gs
 
 abbrev pub held_after : Name → Heard → List Given → List Given
-held_after q (Called c answer) gs = given_of q answer ++ (if ends_section q c && is_done answer then without_newest gs else gs)
+held_after q (Called c answer) gs = given_of q answer ++ (if is_done answer && ends_section q c then without_newest gs else gs)
 held_after q (Collected answer) gs = given_of q answer ++ gs
 
 abbrev pub guards_held : Name → List Given → List Heard → List Given
@@ -58,8 +58,8 @@ pub data AreGuards (n : ℕ) : List Given → Option OpenSection → Type 0 wher
   closed : AreGuards n [] None
   writing : (g : Guard) → g.node ≡ n → AreGuards n (record { write = true; guard = g } ∷ []) (Some (record { section = section.Writing; number = g.number; bytes = g.bytes }))
   reading : (g : Guard) → g.node ≡ n → AreGuards n (record { write = false; guard = g } ∷ []) (Some (record { section = section.Reading 1; number = g.number; bytes = g.bytes }))
-  nested : (g : Guard) (gs : List Given) (k number : ℕ) (bytes : List ℕ) → g.node ≡ n → g.number ≡ number → AreGuards n gs (Some (record { section = section.Reading (suc k); number = number; bytes = bytes }))
-      → AreGuards n (record { write = false; guard = g } ∷ gs) (Some (record { section = section.Reading (suc (suc k)); number = number; bytes = bytes }))
+  nested : (g : Guard) (gs : List Given) (count number : ℕ) (bytes : List ℕ) → g.node ≡ n → g.number ≡ number → 1 ≤ count → AreGuards n gs (Some (record { section = section.Reading count; number = number; bytes = bytes }))
+      → AreGuards n (record { write = false; guard = g } ∷ gs) (Some (record { section = section.Reading (count + 1); number = number; bytes = bytes }))
 
 -- Node n, which heard this: its open sections are those whose guards it was given and that it hasn't ended, and that of
 -- the guard that it has yet to be given.
