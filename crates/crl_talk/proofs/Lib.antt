@@ -1,6 +1,8 @@
 pub mod Laws
 mod Asking
+mod Effects
 mod Guards
 mod Heard
 mod Moves
 mod Script
+mod Weights
