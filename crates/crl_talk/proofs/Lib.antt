@@ -4,5 +4,6 @@ mod Effects
 mod Guards
 mod Heard
 mod Moves
+mod Pending
 mod Script
 mod Weights
