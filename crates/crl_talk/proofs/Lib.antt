@@ -1,6 +1,7 @@
 pub mod Laws
 mod Asking
 mod Effects
+mod Going
 mod Guards
 mod Heard
 mod Moves

@@ -87,7 +87,7 @@ lasts_section : {a b : Activity} (q : Name) → Lasts a b → a ≡ Waiting (For
 lasts_section q same e = e
 lasts_section q marked e = cc
 
-lasts_delete : {a b : Activity} (q : Name) → Lasts a b → a ≡ Waiting (ForDelete q) → b ≡ Waiting (ForDelete q)
+pub lasts_delete : {a b : Activity} (q : Name) → Lasts a b → a ≡ Waiting (ForDelete q) → b ≡ Waiting (ForDelete q)
 lasts_delete q same e = e
 lasts_delete q marked e = cc
 
@@ -95,10 +95,10 @@ lasts_round : {a b : Activity} (r : ℕ) (k : CallKind) → Lasts a b → a ≡ 
 lasts_round r k same e = e
 lasts_round r k marked e = cc
 
-map_same : (p q : Name) (x y : Bool) → ◌≡◌ {A = Activity} (Waiting (ForMap p x)) (Waiting (ForMap q y)) → p ≡ q
+pub map_same : (p q : Name) (x y : Bool) → ◌≡◌ {A = Activity} (Waiting (ForMap p x)) (Waiting (ForMap q y)) → p ≡ q
 map_same p q x y e = cc
 
-lasts_map : {a b : Activity} (q : Name) (x : Bool) → Lasts a b → a ≡ Waiting (ForMap q x) → (y : Bool) × (b ≡ Waiting (ForMap q y))
+pub lasts_map : {a b : Activity} (q : Name) (x : Bool) → Lasts a b → a ≡ Waiting (ForMap q x) → (y : Bool) × (b ≡ Waiting (ForMap q y))
 lasts_map q x same e = (x, e)
 lasts_map q x (marked {q = p} {x = z} {y = y}) e = (y, ap (λ r. Waiting (ForMap r y)) (map_same p q z x e))
 
@@ -162,7 +162,7 @@ wants_delete r (Waiting (ForDelete p)) h = go (name_eq p r) refl
     go false e = let z : of_name p r ≡ 0 = cond-false (name_eq p r) 1 0 e in absurd (omega arith)
 wants_delete r _ h = absurd (omega arith)
 
-one_name : (q : Name) → of_name q q ≡ 1
+pub one_name : (q : Name) → of_name q q ≡ 1
 one_name q = cond-true (name_eq q q) 1 0 (name_self q)
 
 one_map : (q : Name) (purged : Bool) (a : Activity) → a ≡ Waiting (ForMap q purged) → waits_map q a ≡ 1
@@ -180,14 +180,14 @@ one_le_delete : (q : Name) (k : Token) (front : List What) (n : ℕ) → DeleteF
 one_le_delete q k front n delete_asked m = ask_le_delete n q m
 one_le_delete q k front n (delete_answered d) m = is_le_delete d n q m
 
-map_alone : {n j from : ℕ} {w v : World} {x : Kind} {o : Outcome} {A : Type 0} (h : Hearing n w v j from x o) (q : Name) (purged : Bool) (k : Token) (front : List What) → MapFront q k front → (w.nodes n).activity ≡ Waiting (ForMap q purged)
+pub map_alone : {n j from : ℕ} {w v : World} {x : Kind} {o : Outcome} {A : Type 0} (h : Hearing n w v j from x o) (q : Name) (purged : Bool) (k : Token) (front : List What) → MapFront q k front → (w.nodes n).activity ≡ Waiting (ForMap q purged)
     → 1 ≤ under_way k n q w → 1 ≤ map_token_kind n q from j x → token_of k n q from j x ≡ 0 → A
 map_alone {n = n} {w = w} h q purged k front f e some came none =
     let two = h.two (token k n q) (map_token n q) nothing (token_mail k n q) (map_mail n q) (λ m i u p r t s. refl) (one_le q k front n f) in
     let all = h.tokens.map q in
     let one = one_map q purged _ e in absurd (omega arith)
 
-delete_alone : {n j from : ℕ} {w v : World} {x : Kind} {o : Outcome} {A : Type 0} (h : Hearing n w v j from x o) (q : Name) (k : Token) (front : List What) → DeleteFront q k front → (w.nodes n).activity ≡ Waiting (ForDelete q)
+pub delete_alone : {n j from : ℕ} {w v : World} {x : Kind} {o : Outcome} {A : Type 0} (h : Hearing n w v j from x o) (q : Name) (k : Token) (front : List What) → DeleteFront q k front → (w.nodes n).activity ≡ Waiting (ForDelete q)
     → 1 ≤ under_way k n q w → 1 ≤ delete_token_kind n q from j x → token_of k n q from j x ≡ 0 → A
 delete_alone {n = n} {w = w} h q k front f e some came none =
     let two = h.two (token k n q) (delete_token n q) (deleting n q) (token_mail k n q) (delete_mail n q) (λ m i u p r t s. refl) (one_le_delete q k front n f) in
@@ -198,7 +198,7 @@ going_one : (n : ℕ) (s : Stage) → s ≡ stage.Going n → deletes_for_node n
 going_one n s e = ap (deletes_for_node n) e ∙ cond-true (n == n) 1 0 (eq-eqb n n refl)
 
 -- nor where the home goes on with the delete
-going_alone : {n j from : ℕ} {w v : World} {x : Kind} {o : Outcome} {A : Type 0} (h : Hearing n w v j from x o) (q : Name) → (w.nodes n).activity ≡ Waiting (ForDelete q) → (i : ℕ) → i < w.count → (lifetime_of (w.nodes i) q).stage ≡ stage.Going n
+pub going_alone : {n j from : ℕ} {w v : World} {x : Kind} {o : Outcome} {A : Type 0} (h : Hearing n w v j from x o) (q : Name) → (w.nodes n).activity ≡ Waiting (ForDelete q) → (i : ℕ) → i < w.count → (lifetime_of (w.nodes i) q).stage ≡ stage.Going n
     → 1 ≤ delete_token_kind n q from j x → A
 going_alone {n = n} {w = w} h q e i few g came =
     let t = h.table (delete_token n q) (deleting n q) (delete_mail n q) (λ m i u p r t s. refl) i few in
@@ -206,7 +206,7 @@ going_alone {n = n} {w = w} h q e i few g came =
     let all = h.tokens.delete q in
     let one = one_delete q _ e in absurd (omega arith)
 
-going_beside : (n : ℕ) (w : World) {A : Type 0} → Waits n w → (q : Name) (k : Token) (front : List What) → DeleteFront q k front → (w.nodes n).activity ≡ Waiting (ForDelete q) → 1 ≤ under_way k n q w
+pub going_beside : (n : ℕ) (w : World) {A : Type 0} → Waits n w → (q : Name) (k : Token) (front : List What) → DeleteFront q k front → (w.nodes n).activity ≡ Waiting (ForDelete q) → 1 ≤ under_way k n q w
     → (i : ℕ) → i < w.count → (lifetime_of (w.nodes i) q).stage ≡ stage.Going n → A
 going_beside n w tokens q k front f e some i few g =
     let t = sum_gap (token k n q) (delete_token n q) (deleting n q) (one_le_delete q k front n f) w i few in
@@ -215,13 +215,13 @@ going_beside n w tokens q k front f e some i few g =
     let one = one_delete q _ e in absurd (omega arith)
 
 -- who is told, or deletes, waits
-asker_maps : {n j from : ℕ} {w v : World} {x : Kind} {o : Outcome} (h : Hearing n w v j from x o) (r : Name) → 1 ≤ map_token_kind n r from j x → (purged : Bool) × ((w.nodes n).activity ≡ Waiting (ForMap r purged))
+pub asker_maps : {n j from : ℕ} {w v : World} {x : Kind} {o : Outcome} (h : Hearing n w v j from x o) (r : Name) → 1 ≤ map_token_kind n r from j x → (purged : Bool) × ((w.nodes n).activity ≡ Waiting (ForMap r purged))
 asker_maps {n = n} h r came = let c = h.came (map_token n r) nothing (map_mail n r) (λ m i u p r t s. refl) in let all = h.tokens.map r in wants_map r _ (omega arith)
 
-asker_deletes : {n j from : ℕ} {w v : World} {x : Kind} {o : Outcome} (h : Hearing n w v j from x o) (r : Name) → 1 ≤ delete_token_kind n r from j x → (w.nodes n).activity ≡ Waiting (ForDelete r)
+pub asker_deletes : {n j from : ℕ} {w v : World} {x : Kind} {o : Outcome} (h : Hearing n w v j from x o) (r : Name) → 1 ≤ delete_token_kind n r from j x → (w.nodes n).activity ≡ Waiting (ForDelete r)
 asker_deletes {n = n} h r came = let c = h.came (delete_token n r) (deleting n r) (delete_mail n r) (λ m i u p r t s. refl) in let all = h.tokens.delete r in wants_delete r _ (omega arith)
 
-deleter_waits : (n : ℕ) (w : World) → Waits n w → (r : Name) (i : ℕ) → i < w.count → (lifetime_of (w.nodes i) r).stage ≡ stage.Going n → (w.nodes n).activity ≡ Waiting (ForDelete r)
+pub deleter_waits : (n : ℕ) (w : World) → Waits n w → (r : Name) (i : ℕ) → i < w.count → (lifetime_of (w.nodes i) r).stage ≡ stage.Going n → (w.nodes n).activity ≡ Waiting (ForDelete r)
 deleter_waits n w tokens r i few g =
     let t = table_le (delete_token n r) (deleting n r) w i few in
     let stands : deleting n r (w.nodes i) ≡ 1 = going_one n _ g in
@@ -235,7 +235,7 @@ quiet_one false x h = refl
 named_none : (p q : Name) → (p ≡ q → ⊥) → of_name p q ≡ 0
 named_none p q h = quiet_one (name_eq p q) 1 (λ e. absurd (h (same_name p q e)))
 
-quiet_token : (n j : ℕ) (m : Node) (from : ℕ) (x : Kind) (k : Token) (q : Name) → m.me ≡ j → QuietFor n m (Hears from x) → (m.me ≡ n → Wants k q m.activity) → token_of k n q from j x ≡ 0
+pub quiet_token : (n j : ℕ) (m : Node) (from : ℕ) (x : Kind) (k : Token) (q : Name) → m.me ≡ j → QuietFor n m (Hears from x) → (m.me ≡ n → Wants k q m.activity) → token_of k n q from j x ≡ 0
 quiet_token n j m from (kind.InfoAsk name) MapAsk q me h want = quiet_one (from == n) _ (λ e. absurd (h (eqb-true from n e)))
 quiet_token n j m from (kind.DeleteAsk name) DeleteAsk q me h want = quiet_one (from == n) _ (λ e. absurd (h (eqb-true from n e)))
 quiet_token n j m from (kind.InfoIs name t) (MapIs u) q me h want =
