@@ -22,7 +22,7 @@ use Rattle.crl_model.specs.Calls.{kind_of}
 use Rattle.crl_protocol.specs.Parcels.{Piece, PartsGathered}
 use Rattle.crl_protocol.specs.Lifetimes.{Lifetime}
 use Rattle.crl_protocol.specs.Sections.{Guard}
-use Rattle.crl_protocol.specs.Node.{Node, Activity, Done, Waiting, Ready, ForSection, ForMap, ForDelete, ForRound, Outcome, guard_answer, is_mine, lifetime_of, message_to}
+use Rattle.crl_protocol.specs.Node.{Node, Activity, Done, Waiting, Ready, ForSection, ForMap, ForDelete, ForRound, Awaited, Outcome, guard_answer, is_mine, lifetime_of, message_to}
 use Rattle.crl_protocol.specs.Calls.{answer_of, result_of}
 use Rattle.crl_protocol.specs.Handlers.{delete_answer}
 use Rattle.crl_protocol.specs.Talk.{lines_of_node, AreLines}
@@ -33,7 +33,7 @@ use Rattle.crl_deeds.proofs.Laws.{name_self, append_nil}
 use Rattle.crl_deeds.specs.Deeds as deed
 use Rattle.crl_talk.proofs.Asking.{AskedAs}
 use Rattle.crl_talk.proofs.Effects.{map_lines, map_answer, delete_lines, start_line, KeepsGoing, Lasts, QuietFor, Effect, quiet, tells_map, tells_delete, begins, ends, opens, gets_map, gets_delete, ends_own, gets_round}
-use Rattle.crl_talk.proofs.Pending.{MapFront, map_asked, map_answered, DeleteFront, delete_asked, delete_answered, under_way, Pending, for_section, for_map, for_delete, going, for_round, Goes, waits, ready, Waits, Wants, Calm, goes_calm, Hearing, map_alone, delete_alone, going_alone, going_beside, asker_maps, asker_deletes, deleter_waits, quiet_token, one_name, map_same}
+use Rattle.crl_talk.proofs.Pending.{MapFront, map_asked, map_answered, DeleteFront, delete_asked, delete_answered, under_way, Pending, for_section, for_map, for_delete, going, for_round, Goes, waits, ready, Waits, Wants, Calm, goes_calm, Hearing, map_alone, delete_alone, going_alone, going_beside, asker_maps, asker_deletes, deleter_waits, quiet_token, one_name, map_same, lasts_map, lasts_delete}
 use Rattle.crl_talk.proofs.Weights.{Token, MapAsk, MapIs, DeleteAsk, DeleteIs, same_told, same_delete, told_is, told_self, delete_is, delete_self, token_of, token, token_mail, token_whole}
 
 -- The lines of an answer.
@@ -215,3 +215,49 @@ round_over n w v round k fold c front new lines now was (going q a few g) = cc
 round_over n w v round k fold c front new lines now was (for_round part r a) =
     let same = round_same round r k (kind_of part) (sym was ∙ a) in
     ready (answer_of round fold) now (subst (λ ls. AreLines n (call.Come part) (answer_of round fold) (what.Come part ∷ ls)) (sym (lines ∙ ap (λ x. result_of round x fold ∷ []) same.1)) (round_are n part round fold))
+
+-- All effects of a message that is heard.
+pub goes_effect : (n : ℕ) (w v : World) (j from : ℕ) (k : Kind) (o : Outcome) (rest : List Piece) (parcels : PartsGathered) (c : Call) (front : List What) → Hearing n w v j from k o
+    → Effect n (record (w.nodes j) { inbox = rest; parcels = parcels }) (Hears from k) o → Pending n w c front → Goes n c front v (lines_of_node n o.entries)
+goes_effect n w v j from k o rest parcels c front h (quiet lines keeps stays silent) p =
+    goes_calm n w v c front _ lines (goes_quiet n w v j from k o (record (w.nodes j) { inbox = rest; parcels = parcels }) h (h.me j) refl (λ q. refl) keeps stays silent) p
+goes_effect n w v j from k o rest parcels c front h (tells_map f name t e lines posts stays) p =
+    let was = asker_maps h name (let one = heard_if from n name name e refl in omega arith) in
+    told_map n w v j o (record (w.nodes j) { inbox = rest; parcels = parcels }) name t from c front _ h e lines posts (lasts_map name was.0 (h.act (λ x. stays (h.me j ∙ x))) was.1) was.0 was.1 p
+goes_effect n w v j from k o rest parcels c front h (tells_delete f name d e lines posts stays) p =
+    let was = asker_deletes h name (let one = heard_if from n name name e refl in omega arith) in
+    told_delete n w v j o (record (w.nodes j) { inbox = rest; parcels = parcels }) name d from c front _ h e lines posts (lasts_delete name (h.act (λ x. stays (h.me j ∙ x))) was) was p
+goes_effect n w v j from k o rest parcels c front h (begins f name e lines mine begun stays) p =
+    let was = asker_deletes h name (let one = heard_if from n name name e refl in omega arith) in
+    let home : name.home ≡ j = eqb-true name.home (w.nodes j).me mine ∙ h.me j in
+    began_delete n w v j o name from c front _ h e lines (let few = h.few in subst (λ z. z < v.count) (sym home) (subst (λ z. j < z) (sym h.count) few)) (h.begins_at name home begun)
+    (lasts_delete name (h.act (λ x. stays (h.me j ∙ x))) was) was p
+goes_effect n w v j from k o rest parcels c front h (ends f name lines mine g posts stays) p =
+    let was = deleter_waits n w h.tokens name j h.few g in
+    ended_delete n w v j o (record (w.nodes j) { inbox = rest; parcels = parcels }) name from c front _ h lines g posts (lasts_delete name (h.act (λ x. stays (h.me j ∙ x))) was) was p
+goes_effect n w v j from k o rest parcels c front h (opens write name guard own act flag named now lines) p =
+    let e = sym (h.me j) ∙ own in
+    section_opened n w v write name guard c front _ lines named (λ f a. flag f (let b = subst (λ i. AskedAs f name (w.nodes i)) (sym e) a in record { home = b.home; side = b.side })) (h.ready _ e now)
+    (ap (λ i. (w.nodes i).activity) (sym e) ∙ act) p
+goes_effect n w v j from k o rest parcels c front h (gets_map f name t purged own act lines now) p =
+    let e = sym (h.me j) ∙ own in got_map n w v j o name t from c front _ h e lines (h.ready _ e now) purged (ap (λ i. (w.nodes i).activity) (sym e) ∙ act) p
+goes_effect n w v j from k o rest parcels c front h (gets_delete f name d own act lines now) p =
+    let e = sym (h.me j) ∙ own in got_delete n w v j o name d from c front _ h e lines (h.ready _ e now) (ap (λ i. (w.nodes i).activity) (sym e) ∙ act) p
+goes_effect n w v j from k o rest parcels c front h (ends_own f name own mine g act lines now) p =
+    let e = sym (h.me j) ∙ own in ended_own n w v j name c front _ h.few h.tokens lines g (h.ready _ e now) (ap (λ i. (w.nodes i).activity) (sym e) ∙ act) p
+goes_effect n w v j from k o rest parcels c front h (gets_round round x fold own act lines now) p =
+    let e = sym (h.me j) ∙ own in round_over n w v round x fold c front _ lines (h.ready _ e now) (ap (λ i. (w.nodes i).activity) (sym e) ∙ act) p
+
+-- where node n doesn't wait, nothing is recorded for it
+pub idle_effect : (n : ℕ) (w v : World) (j from : ℕ) (k : Kind) (o : Outcome) (rest : List Piece) (parcels : PartsGathered) → Hearing n w v j from k o → Effect n (record (w.nodes j) { inbox = rest; parcels = parcels }) (Hears from k) o
+    → ((a : Awaited) → (w.nodes n).activity ≡ Waiting a → ⊥) → (lines_of_node n o.entries ≡ []) × Lasts (w.nodes n).activity (v.nodes n).activity
+idle_effect n w v j from k o rest parcels h (quiet lines keeps stays silent) none = (lines, h.act (λ e. stays (h.me j ∙ e)))
+idle_effect n w v j from k o rest parcels h (tells_map f name t e lines posts stays) none = absurd (let was = asker_maps h name (let one = heard_if from n name name e refl in omega arith) in none _ was.1)
+idle_effect n w v j from k o rest parcels h (tells_delete f name d e lines posts stays) none = absurd (none _ (asker_deletes h name (let one = heard_if from n name name e refl in omega arith)))
+idle_effect n w v j from k o rest parcels h (begins f name e lines mine begun stays) none = absurd (none _ (asker_deletes h name (let one = heard_if from n name name e refl in omega arith)))
+idle_effect n w v j from k o rest parcels h (ends f name lines mine g posts stays) none = absurd (none _ (deleter_waits n w h.tokens name j h.few g))
+idle_effect n w v j from k o rest parcels h (opens write name guard own act flag named now lines) none = absurd (none _ (ap (λ i. (w.nodes i).activity) (sym (sym (h.me j) ∙ own)) ∙ act))
+idle_effect n w v j from k o rest parcels h (gets_map f name t purged own act lines now) none = absurd (none _ (ap (λ i. (w.nodes i).activity) (sym (sym (h.me j) ∙ own)) ∙ act))
+idle_effect n w v j from k o rest parcels h (gets_delete f name d own act lines now) none = absurd (none _ (ap (λ i. (w.nodes i).activity) (sym (sym (h.me j) ∙ own)) ∙ act))
+idle_effect n w v j from k o rest parcels h (ends_own f name own mine g act lines now) none = absurd (none _ (ap (λ i. (w.nodes i).activity) (sym (sym (h.me j) ∙ own)) ∙ act))
+idle_effect n w v j from k o rest parcels h (gets_round round x fold own act lines now) none = absurd (none _ (ap (λ i. (w.nodes i).activity) (sym (sym (h.me j) ∙ own)) ∙ act))

@@ -7,4 +7,5 @@ mod Heard
 mod Moves
 mod Pending
 mod Script
+mod Stepping
 mod Weights
