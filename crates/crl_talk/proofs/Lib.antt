@@ -7,5 +7,6 @@ mod Heard
 mod Moves
 mod Pending
 mod Script
+mod Sides
 mod Stepping
 mod Weights

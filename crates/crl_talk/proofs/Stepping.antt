@@ -71,7 +71,7 @@ gather_calm n w j e p rest parcels key few took keyed = record {
     o = only (record (w.nodes j) { inbox = rest; parcels = parcels }) Done
 
 -- A piece that is carried.
-record SameBut (n i m : Node) : Type 0 where
+record SameBut (n m : Node) : Type 0 where
   act : m.activity ≡ n.activity
   asked : (write : Bool) (q : Name) → AskedAs write q n → AskedAs write q m
   lifetime : (q : Name) → (lifetime_of m q).stage ≡ (lifetime_of n q).stage
@@ -88,7 +88,7 @@ carried_calm n w j e p rest few took g = record {
 }
   where
     R : ℕ → Node → Type 0
-    R i x = SameBut (w.nodes i) x x
+    R i x = SameBut (w.nodes i) x
 
     sent : ℕ → Node
     sent = at_node w.nodes j (note w.events e (record (w.nodes j) { outbox = rest }))
