@@ -101,13 +101,13 @@ pub data Effect (n : ℕ) (m : Node) : Cause → Outcome → Type 0 where
 other_line : (n from : ℕ) (w : What) → (from == n) ≡ false → lines_of_node n (entry_of from w ∷ []) ≡ []
 other_line n from w e = cond-false (from == n) _ _ e
 
-own_line : (n from : ℕ) (w : What) → (from == n) ≡ true → lines_of_node n (entry_of from w ∷ []) ≡ w ∷ []
+pub own_line : (n from : ℕ) (w : What) → (from == n) ≡ true → lines_of_node n (entry_of from w ∷ []) ≡ w ∷ []
 own_line n from w e = cond-true (from == n) _ _ e
 
 other_two : (n from : ℕ) (w x : What) → (from == n) ≡ false → lines_of_node n (entry_of from w ∷ entry_of from x ∷ []) ≡ []
 other_two n from w x e = cond-false (from == n) _ _ e ∙ cond-false (from == n) _ _ e
 
-own_two : (n from : ℕ) (w x : What) → (from == n) ≡ true → lines_of_node n (entry_of from w ∷ entry_of from x ∷ []) ≡ w ∷ x ∷ []
+pub own_two : (n from : ℕ) (w x : What) → (from == n) ≡ true → lines_of_node n (entry_of from w ∷ entry_of from x ∷ []) ≡ w ∷ x ∷ []
 own_two n from w x e = cond-true (from == n) _ _ e ∙ ap (λ ls. w ∷ ls) (cond-true (from == n) _ _ e)
 
 not_it : {A : Type 0} (a b : ℕ) → (a == b) ≡ false → a ≡ b → A
@@ -120,7 +120,7 @@ stage_put n m name l mine h q e = ap (λ (x : Lifetime). x.stage) (lifetime_put 
     go true w = h (ap (λ p. (lifetime_of m p).stage) (same_name name q w) ∙ e)
     go false w = e
 
-stage_here : (n : ℕ) (m : Node) (name : Name) (l : Lifetime) → is_mine m name ≡ true → l.stage ≡ stage.Going n → (lifetime_of (with_lifetime name l m) name).stage ≡ stage.Going n
+pub stage_here : (n : ℕ) (m : Node) (name : Name) (l : Lifetime) → is_mine m name ≡ true → l.stage ≡ stage.Going n → (lifetime_of (with_lifetime name l m) name).stage ≡ stage.Going n
 stage_here n m name l mine e = ap (λ (x : Lifetime). x.stage) (lifetime_put m name l mine name) ∙ ap (λ (x : Lifetime). x.stage) (cond-true (name_eq name name) l (lifetime_of m name) (name_self name)) ∙ e
 
 stage_made : (n : ℕ) (m : Node) (size : ℕ) → NoneYet m → KeepsGoing n m (creates size m).node

@@ -37,17 +37,17 @@ use Rattle.crl_talk.proofs.Pending.{MapFront, map_asked, map_answered, DeleteFro
 use Rattle.crl_talk.proofs.Weights.{Token, MapAsk, MapIs, DeleteAsk, DeleteIs, same_told, same_delete, told_is, told_self, delete_is, delete_self, token_of, token, token_mail, token_whole}
 
 -- The lines of an answer.
-map_are : (n : ℕ) (q : Name) (t : Told) → AreLines n (call.Map q) (map_answer q t) (map_lines q t)
+pub map_are : (n : ℕ) (q : Name) (t : Told) → AreLines n (call.Map q) (map_answer q t) (map_lines q t)
 map_are n q (told.Live size) = (refl, refl)
 map_are n q told.Unknown = (Region q, refl, refl)
 map_are n q told.Deleted = (Region q, refl, refl)
 
-delete_are : (n : ℕ) (q : Name) (d : DeleteTold) → AreLines n (call.Delete q) (delete_answer d) (delete_lines q d)
+pub delete_are : (n : ℕ) (q : Name) (d : DeleteTold) → AreLines n (call.Delete q) (delete_answer d) (delete_lines q d)
 delete_are n q delete_told.Done = refl
 delete_are n q delete_told.Unknown = (Region q, refl, refl)
 delete_are n q delete_told.Deleted = (Region q, refl, refl)
 
-round_are : (n : ℕ) (part : Part) (round : ℕ) (fold : Fold) → AreLines n (call.Come part) (answer_of round fold) (what.Come part ∷ result_of round (kind_of part) fold ∷ [])
+pub round_are : (n : ℕ) (part : Part) (round : ℕ) (fold : Fold) → AreLines n (call.Come part) (answer_of round fold) (what.Come part ∷ result_of round (kind_of part) fold ∷ [])
 round_are n part round Mixed = (round, refl)
 round_are n part round _ = refl
 

@@ -1,4 +1,5 @@
 pub mod Laws
+mod Answered
 mod Asking
 mod Effects
 mod Going
@@ -9,4 +10,5 @@ mod Pending
 mod Script
 mod Sides
 mod Stepping
+mod Talked
 mod Weights

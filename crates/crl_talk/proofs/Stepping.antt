@@ -40,14 +40,14 @@ asked_after : (n : ℕ) (w : World) (j : ℕ) (e : Event) (o : Outcome) (write :
 asked_after n w j e o write q h a =
     at_other (λ x. AskedAs write q x) w.nodes j n (commits w.events e o) (λ s. (let b = h s (subst (λ i. AskedAs write q (w.nodes i)) (sym s) a) in record { home = b.home; side = b.side })) a
 
--- Another node's call.
-pub call_calm : (n : ℕ) (w : World) (j : ℕ) (e : Event) (c : Call) (o : Outcome) → j < w.count → Deed (w.nodes j) (Calls c) o → Ground w → (j ≡ n → ⊥) → KeepsGoing n (w.nodes j) o.node → Calm n w (steps_node j e o w).world
-call_calm n w j e c o few d g apart keeps = record {
+-- A step of another node that takes no message.
+pub other_calm : (n : ℕ) (w : World) (j : ℕ) (e : Event) (o : Outcome) → j < w.count → Frame (w.nodes j) o.node → (j ≡ n → ⊥) → KeepsGoing n (w.nodes j) o.node → Calm n w (steps_node j e o w).world
+other_calm n w j e o few frame apart keeps = record {
   count = refl;
   act = act_after n w j e o (λ s. absurd (apart s));
   asked = λ write q waits a. asked_after n w j e o write q (λ s. absurd (apart s)) a;
   going = λ q x. stays_after n w j e o q (keeps q) x;
-  kept = λ k q want some. (let s = sum_stepped (token k n q) (token_whole k n q) w j (w.nodes j) e 0 o few (deed_frame _ _ _ d) refl (omega arith) in omega arith);
+  kept = λ k q want some. (let s = sum_stepped (token k n q) (token_whole k n q) w j (w.nodes j) e 0 o few frame refl (omega arith) in omega arith);
 }
 
 -- A piece that is only kept.
