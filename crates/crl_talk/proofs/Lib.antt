@@ -2,6 +2,7 @@ pub mod Laws
 mod Answered
 mod Asking
 mod Effects
+mod Events
 mod Going
 mod Guards
 mod Heard
@@ -9,6 +10,7 @@ mod Moves
 mod Pending
 mod Script
 mod Sides
+mod Standing
 mod Stepping
 mod Talked
 mod Weights

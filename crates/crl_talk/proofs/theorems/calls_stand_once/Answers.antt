@@ -1,4 +1,4 @@
-use Rattle.crl_talk.proofs.Talked.{calls_stand}
+use Rattle.crl_talk.proofs.Standing.{calls_stand}
 use Rattle.crl_talk.proofs.theorems.calls_stand_once.Goals as goal
 
 pub returns : goal.returns
