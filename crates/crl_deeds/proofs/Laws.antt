@@ -33,3 +33,7 @@ pub use Rattle.crl_deeds.proofs.Fits.SectionCalls.{open_size}
 pub use Rattle.crl_deeds.proofs.Cases.Refused.{refused_for, is_mapped_by, write_starts_closed, read_starts_below, read_ends_open, write_ends_open, create_fits, send_fits}
 -- Where entries are decided.
 pub use Rattle.crl_deeds.proofs.Cases.Entries.{decided_by_call, decided_by_message, decided}
+-- What a script and an order choose is a run.
+pub use Rattle.crl_deeds.proofs.Chosen.Drafts.{sound_start}
+pub use Rattle.crl_deeds.proofs.Chosen.Allowed.{follow_runs}
+pub use Rattle.crl_deeds.proofs.Chosen.Followed.{follow_turns, follow_world}

@@ -1,0 +1,7 @@
+mod Choices
+mod Least
+mod Elsewhere
+mod Sections
+mod Waiters
+mod Reports
+pub mod Laws
