@@ -66,6 +66,20 @@ def shared_account(count, account, answer):
     answer.write("legal\n")
 
 
+def creates(count, account, answer):
+    """The account of a node that creates so many regions of one byte."""
+    for region in range(1, count + 1):
+        account.write("0 create 0:%d 1\n" % region)
+    answer.write("legal\n")
+
+
+def large_creates(count, account, answer):
+    """The account of a node that creates so many regions of 64 KiB."""
+    for region in range(1, count + 1):
+        account.write("0 create 0:%d 65536\n" % region)
+    answer.write("legal\n")
+
+
 def two_nodes(count, script, answer):
     """A script of two nodes with so many statements: it is read, and not run yet."""
     script.write("nodes 2\nnode 0\ncreate a 8\n")
@@ -156,6 +170,11 @@ def main():
         run = bench.compare(shared_account, 155_000, 2.3, ("check", "64"))
         bench.check(run.clock <= 3, "at most 3 s")
         bench.check(run.memory <= 1024 * MEBIBYTE, "at most 1 GiB")
+        (run,) = bench.measure(creates, [830_000], ("check", "64"))
+        bench.check(run.clock <= 0.6, "at most 0.6 s")
+        bench.check(run.memory <= 300 * MEBIBYTE, "at most 300 MiB")
+        (run,) = bench.measure(large_creates, [10_000], ("check", "64"))
+        bench.check(run.memory <= 655 * MEBIBYTE, "at most the regions' bytes")
         (run,) = bench.measure(two_nodes, [600_000], wanted_status=2)
         bench.check(run.clock <= 1.5, "at most 1.5 s")
     sys.exit(1 if bench.failed else 0)

@@ -5,11 +5,11 @@ ghost use Rattle.crl_model.specs.declared.statement.Statement.{Statement};
 ghost use Rattle.crl_alone.specs.Refusals.{is_bad_size, is_open, create_refusal, map_refusal, unmap_refusal, read_refusal, end_read_refusal, write_refusal, end_write_refusal, put_refusal, refusal_of, refused_name, name_of, kind_of, refused};
 
 use crl_machine::machine::Machine;
-use crl_machine::region::Seat;
 use crl_model::REGION_LIMIT;
 use crl_model::call::{Call, CallKind, Refusal};
 use crl_model::entry::{Place, What};
 use crl_model::name::Name;
+use crl_machine::share::Share;
 use crl_model::stage::Stage;
 use crl_model::statement::Statement;
 
@@ -27,7 +27,7 @@ pub(crate) fn refusal_of(machine: &Machine, statement: &Statement) -> Option<Ref
             bytes,
         } => {
             let past = reaches_past(machine.size(*name) as usize, *offset as usize, bytes.len());
-            put_refusal(machine.seat(0, name), machine.is_writing(0, name), past)
+            put_refusal(machine.share(0, name), machine.is_writing(0, name), past)
         }
         Statement::Add { .. } => None,
     }
@@ -39,17 +39,17 @@ fn call_refusal(machine: &Machine, call: &Call) -> Option<Refusal>
 {
     match call {
         Call::Create { size } => create_refusal(machine.used(0), *size),
-        Call::Map { name } => map_refusal(machine.stage(name), machine.seat(0, name)),
-        Call::Unmap { name } => unmap_refusal(machine.seat(0, name), machine.is_writing(0, name)),
+        Call::Map { name } => map_refusal(machine.stage(name), machine.share(0, name)),
+        Call::Unmap { name } => unmap_refusal(machine.share(0, name), machine.is_writing(0, name)),
         Call::StartRead { name } => {
-            read_refusal(machine.seat(0, name), machine.is_writing(0, name))
+            read_refusal(machine.share(0, name), machine.is_writing(0, name))
         }
-        Call::EndRead { name } => end_read_refusal(machine.seat(0, name)),
+        Call::EndRead { name } => end_read_refusal(machine.share(0, name)),
         Call::StartWrite { name } => {
-            write_refusal(machine.seat(0, name), machine.is_writing(0, name))
+            write_refusal(machine.share(0, name), machine.is_writing(0, name))
         }
         Call::EndWrite { name, .. } => {
-            end_write_refusal(machine.seat(0, name), machine.is_writing(0, name))
+            end_write_refusal(machine.share(0, name), machine.is_writing(0, name))
         }
         _ => None,
     }
@@ -76,14 +76,14 @@ fn is_bad_size(size: u32) -> bool
 }
 
 /// A map is refused where no region has the name, where it is or was deleted, or past the last map.
-fn map_refusal(stage: Stage, seat: Seat) -> Option<Refusal>
-    ensures { result ≡ map_refusal stage seat.maps }
+fn map_refusal(stage: Stage, share: Share) -> Option<Refusal>
+    ensures { result ≡ map_refusal stage share.maps }
 {
     if stage == Stage::Unknown {
         Some(Refusal::Unknown)
     } else if stage.is_deleted() {
         Some(Refusal::Deleted)
-    } else if seat.maps == u32::MAX {
+    } else if share.maps == u32::MAX {
         Some(Refusal::TooMany)
     } else {
         None
@@ -91,12 +91,12 @@ fn map_refusal(stage: Stage, seat: Seat) -> Option<Refusal>
 }
 
 /// An unmap is refused of a region that isn't mapped, or beside a section.
-fn unmap_refusal(seat: Seat, writing: bool) -> Option<Refusal>
-    ensures { result ≡ unmap_refusal seat.maps seat.reads writing }
+fn unmap_refusal(share: Share, writing: bool) -> Option<Refusal>
+    ensures { result ≡ unmap_refusal share.maps share.reads writing }
 {
-    if seat.maps == 0 {
+    if share.maps == 0 {
         Some(Refusal::NotMapped)
-    } else if is_open(seat, writing) {
+    } else if is_open(share, writing) {
         Some(Refusal::InSection)
     } else {
         None
@@ -104,21 +104,21 @@ fn unmap_refusal(seat: Seat, writing: bool) -> Option<Refusal>
 }
 
 /// A section of the region is open.
-fn is_open(seat: Seat, writing: bool) -> bool
-    ensures { result ≡ is_open seat.reads writing }
+fn is_open(share: Share, writing: bool) -> bool
+    ensures { result ≡ is_open share.reads writing }
 {
-    seat.reads > 0 || writing
+    share.reads > 0 || writing
 }
 
 /// A read section is refused of a region that isn't mapped, beside a write section, or past the last one.
-fn read_refusal(seat: Seat, writing: bool) -> Option<Refusal>
-    ensures { result ≡ read_refusal seat.maps seat.reads writing }
+fn read_refusal(share: Share, writing: bool) -> Option<Refusal>
+    ensures { result ≡ read_refusal share.maps share.reads writing }
 {
-    if seat.maps == 0 {
+    if share.maps == 0 {
         Some(Refusal::NotMapped)
     } else if writing {
         Some(Refusal::SectionOpen)
-    } else if seat.reads == u32::MAX {
+    } else if share.reads == u32::MAX {
         Some(Refusal::TooMany)
     } else {
         None
@@ -126,12 +126,12 @@ fn read_refusal(seat: Seat, writing: bool) -> Option<Refusal>
 }
 
 /// The end of a read section is refused of a region that isn't mapped, or where none is open.
-fn end_read_refusal(seat: Seat) -> Option<Refusal>
-    ensures { result ≡ end_read_refusal seat.maps seat.reads }
+fn end_read_refusal(share: Share) -> Option<Refusal>
+    ensures { result ≡ end_read_refusal share.maps share.reads }
 {
-    if seat.maps == 0 {
+    if share.maps == 0 {
         Some(Refusal::NotMapped)
-    } else if seat.reads == 0 {
+    } else if share.reads == 0 {
         Some(Refusal::NotReading)
     } else {
         None
@@ -139,12 +139,12 @@ fn end_read_refusal(seat: Seat) -> Option<Refusal>
 }
 
 /// A write section is refused of a region that isn't mapped, or beside a section.
-fn write_refusal(seat: Seat, writing: bool) -> Option<Refusal>
-    ensures { result ≡ write_refusal seat.maps seat.reads writing }
+fn write_refusal(share: Share, writing: bool) -> Option<Refusal>
+    ensures { result ≡ write_refusal share.maps share.reads writing }
 {
-    if seat.maps == 0 {
+    if share.maps == 0 {
         Some(Refusal::NotMapped)
-    } else if is_open(seat, writing) {
+    } else if is_open(share, writing) {
         Some(Refusal::SectionOpen)
     } else {
         None
@@ -152,10 +152,10 @@ fn write_refusal(seat: Seat, writing: bool) -> Option<Refusal>
 }
 
 /// The end of a write section is refused of a region that isn't mapped, or where none is open.
-fn end_write_refusal(seat: Seat, writing: bool) -> Option<Refusal>
-    ensures { result ≡ end_write_refusal seat.maps writing }
+fn end_write_refusal(share: Share, writing: bool) -> Option<Refusal>
+    ensures { result ≡ end_write_refusal share.maps writing }
 {
-    if seat.maps == 0 {
+    if share.maps == 0 {
         Some(Refusal::NotMapped)
     } else if !writing {
         Some(Refusal::NotWriting)
@@ -165,10 +165,10 @@ fn end_write_refusal(seat: Seat, writing: bool) -> Option<Refusal>
 }
 
 /// A put is refused of a region that isn't mapped, where no write section is open, or past the region's end.
-fn put_refusal(seat: Seat, writing: bool, past: bool) -> Option<Refusal>
-    ensures { result ≡ put_refusal seat.maps writing past }
+fn put_refusal(share: Share, writing: bool, past: bool) -> Option<Refusal>
+    ensures { result ≡ put_refusal share.maps writing past }
 {
-    if seat.maps == 0 {
+    if share.maps == 0 {
         Some(Refusal::NotMapped)
     } else if !writing {
         Some(Refusal::NotWriting)

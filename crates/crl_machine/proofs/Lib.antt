@@ -1,11 +1,11 @@
 mod Blank
-mod DeskRead
-mod DeskSet
-mod FullRounds
+mod Functions
 mod Histories
 pub mod Laws
 mod Listing
 mod Named
+mod RowSet
+mod Rounds
 mod Runs
 mod Sections
 mod States

@@ -3,8 +3,8 @@ use Rattle.std.specs.Prelude.{◌≡◌, ℕ, Bool, true, false}
 use Rattle.std.specs.Bool.{MatchBool}
 use Rattle.crl_model.specs.declared.name.Name.{Name}
 use Rattle.crl_model.specs.declared.entry.What.{What}
-use Rattle.crl_model.specs.declared.entry.What.TheVariants.{Deleted, Came, Refused}
-use Rattle.crl_machine.specs.declared.region.Seat.{Seat}
+use Rattle.crl_model.specs.declared.entry.What.TheVariants.{Create, Map, Come, Deleted, Came, Refused}
+use Rattle.crl_machine.specs.declared.share.Share.{Share}
 use Rattle.crl_model.specs.Names.{at_pair}
 use Rattle.crl_machine.specs.SingleMachine.{State, Applies, change}
 
@@ -28,12 +28,19 @@ is_free_row (Came round fold) = false
 is_free_row (Refused kind place why) = false
 is_free_row _ = true
 
+-- an entry that may need memory: a create, a coming to a round, and a map of a node that hasn't the region mapped
+abbrev pub NeedsMemory : State → ℕ → What → Type 0
+NeedsMemory s n (Create name size) = Unit {0}
+NeedsMemory s n (Come part) = Unit {0}
+NeedsMemory s n (Map name size) = s.maps n name ≡ 0
+NeedsMemory s n _ = ⊥
+
 -- the node's map count and read sections of the region are these
-abbrev pub with_seat : State → ℕ → Name → Seat → State
-with_seat s n name seat = record s {
-  maps = at_pair s.maps n name seat.maps;
-  reads = at_pair s.reads n name seat.reads;
+abbrev pub with_share : State → ℕ → Name → Share → State
+with_share s n name share = record s {
+  maps = at_pair s.maps n name share.maps;
+  reads = at_pair s.reads n name share.reads;
 }
 
-abbrev pub the_seat : State → ℕ → Name → Seat
-the_seat s n name = record { maps = s.maps n name; reads = s.reads n name }
+abbrev pub the_share : State → ℕ → Name → Share
+the_share s n name = record { maps = s.maps n name; reads = s.reads n name }

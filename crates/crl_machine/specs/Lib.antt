@@ -1,3 +1,4 @@
+pub mod Contents
 pub mod FinalRegions
 pub mod Judging
 pub mod Laws

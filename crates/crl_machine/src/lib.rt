@@ -1,8 +1,9 @@
 //! The single machine with one array of byte regions, against which every history is judged.
 #![tactic(auto)]
 
-mod desk;
 pub mod machine;
-pub mod region;
+mod node_row;
+mod region;
 mod round;
+pub mod share;
 pub mod theorems;

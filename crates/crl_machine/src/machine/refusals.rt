@@ -57,15 +57,17 @@ impl Machine {
         }
     }
 
+    #[tactic(auto, unfolding(crate::specs::Seen::state))]
     fn is_wrong_size(&self, node: NodeNo, kind: CallKind, round: u64) -> bool
         requires node { node < self.now.nodes }
         ensures { MatchBool result (IsRefusedIn (state self.now) node Refusal.WrongSize kind round) (IsRefusedIn (state self.now) node Refusal.WrongSize kind round → ⊥) }
     {
         self.is_free(node)
             && kind == CallKind::Send
-            && round == self.desks[node as usize].came.len() as u64 + 1
+            && round == self.rows[node as usize].came.len() as u64 + 1
     }
 
+    #[tactic(auto, unfolding(crate::specs::Seen::state))]
     fn is_refused_at(&self, node: NodeNo, why: Refusal, kind: CallKind, name: &Name) -> bool
         requires { node < self.now.nodes }
         ensures { MatchBool result (IsRefusedAt (state self.now) node why kind name.now) (IsRefusedAt (state self.now) node why kind name.now → ⊥) }
@@ -74,20 +76,22 @@ impl Machine {
             Refusal::BadSize | Refusal::NamesSpent => self.is_refused_create(node, why, kind, name),
             Refusal::Unknown => kind.asks_the_home() && self.stage(name) == Stage::Unknown,
             Refusal::Deleted => kind.asks_the_home() && self.stage(name).is_deleted(),
-            Refusal::NotMapped => kind.needs_map() && self.seat(node, name).maps == 0,
+            Refusal::NotMapped => kind.needs_map() && self.share(node, name).maps == 0,
             Refusal::SectionOpen => self.is_refused_section(node, kind, name),
             Refusal::NotReading => {
-                let seat = self.seat(node, name);
-                kind == CallKind::EndRead && seat.maps > 0 && seat.reads == 0
+                let share = self.share(node, name);
+                kind == CallKind::EndRead && share.maps > 0 && share.reads == 0
             }
             Refusal::NotWriting => {
-                kind.needs_write() && self.seat(node, name).maps > 0 && !self.is_writing(node, name)
+                kind.needs_write()
+                    && self.share(node, name).maps > 0
+                    && !self.is_writing(node, name)
             }
             Refusal::InSection => {
-                let seat = self.seat(node, name);
+                let share = self.share(node, name);
                 kind.needs_close()
-                    && seat.maps > 0
-                    && (seat.reads > 0 || self.is_writing(node, name))
+                    && share.maps > 0
+                    && (share.reads > 0 || self.is_writing(node, name))
             }
             Refusal::OutOfRange => kind.has_range() && self.is_writing(node, name),
             Refusal::TooMany => self.is_refused_count(node, kind, name),
@@ -96,12 +100,13 @@ impl Machine {
     }
 
     /// A create that is refused uses the node's next serial, or none where all are used.
+    #[tactic(auto, unfolding(crate::specs::Seen::state))]
     fn is_refused_create(&self, node: NodeNo, why: Refusal, kind: CallKind, name: &Name) -> bool
         requires node { node < self.now.nodes }
         requires why { (why ≡ Refusal.BadSize) ⊎ (why ≡ Refusal.NamesSpent) }
         ensures { MatchBool result (IsRefusedAt (state self.now) node why kind name.now) (IsRefusedAt (state self.now) node why kind name.now → ⊥) }
     {
-        let used = self.desks[node as usize].used;
+        let used = self.rows[node as usize].used;
         if kind != CallKind::Create || name.home != node {
             return false;
         }
@@ -113,40 +118,43 @@ impl Machine {
     }
 
     /// A section is refused beside one that is open at the node and excludes it.
+    #[tactic(auto, unfolding(crate::specs::Seen::state))]
     fn is_refused_section(&self, node: NodeNo, kind: CallKind, name: &Name) -> bool
         requires { node < self.now.nodes }
         ensures { MatchBool result (IsRefusedAt (state self.now) node Refusal.SectionOpen kind name.now) (IsRefusedAt (state self.now) node Refusal.SectionOpen kind name.now → ⊥) }
     {
-        let seat = self.seat(node, name);
+        let share = self.share(node, name);
         let writing = self.is_writing(node, name);
         match kind {
-            CallKind::Read => seat.maps > 0 && writing,
-            CallKind::Write => seat.maps > 0 && (seat.reads > 0 || writing),
+            CallKind::Read => share.maps > 0 && writing,
+            CallKind::Write => share.maps > 0 && (share.reads > 0 || writing),
             _ => false,
         }
     }
 
     /// A map, or a read section, is refused past the last that is counted.
+    #[tactic(auto, unfolding(crate::specs::Seen::state))]
     fn is_refused_count(&self, node: NodeNo, kind: CallKind, name: &Name) -> bool
         requires { node < self.now.nodes }
         ensures { MatchBool result (IsRefusedAt (state self.now) node Refusal.TooMany kind name.now) (IsRefusedAt (state self.now) node Refusal.TooMany kind name.now → ⊥) }
     {
-        let seat = self.seat(node, name);
+        let share = self.share(node, name);
         match kind {
-            CallKind::Map => seat.maps == u32::MAX && self.stage(name) != Stage::Gone,
+            CallKind::Map => share.maps == u32::MAX && self.stage(name) != Stage::Gone,
             CallKind::Read => {
-                seat.maps > 0 && !self.is_writing(node, name) && seat.reads == u32::MAX
+                share.maps > 0 && !self.is_writing(node, name) && share.reads == u32::MAX
             }
             _ => false,
         }
     }
 
     /// A create that is refused for its size uses its serial.
+    #[tactic(auto, unfolding(crate::specs::Seen::state))]
     fn use_serial(&mut self, node: NodeNo)
         requires { node < self.old.nodes }
         ensures { state self.new ≡ record (state self.old) { used = at_node (state self.old).used node (min ((state self.old).used node + 1) (2 ^ 32 - 1)) } }
     {
-        let desk = &mut self.desks[node as usize];
-        desk.used = desk.used.saturating_add(1);
+        let row = &mut self.rows[node as usize];
+        row.used = row.used.saturating_add(1);
     }
 }

@@ -1,17 +1,27 @@
-use Rattle.std.proofs.Common.{refl}
-use Rattle.crl_machine.proofs.DeskRead.{written_agree, written_told}
-use Rattle.crl_machine.proofs.FullRounds.{rounds_kept}
+use Rattle.std.proofs.Common.{◌∙◌, [], arith, ap, ◌+◌}
+use Rattle.std.specs.declared.option.Option.TheVariants.{None}
+use Rattle.crl_machine.specs.declared.node_row.NodeRow.{NodeRow}
+use Rattle.crl_machine.specs.Seen.{state}
+use Rattle.crl_machine.proofs.RowSet.{at_row}
+use Rattle.crl_machine.proofs.States.{row_put, told_more}
+use Rattle.crl_machine.proofs.Tables.{agree_row}
 use Rattle.crl_machine.proofs.machine.Machine.tell.Goals as goal
 
 pub invariant_of-self-clause-agree : goal.invariant_of-self-clause-agree
+unfolding state
 invariant_of-self-clause-agree c =
-    written_agree _ _ _ c.args.node c.index_mut-desk.result.now _
-    (record { fit = c.args.self.now.desks_fit; inside = c.requires.node; read = c.index_mut-desk.ensures.value; used = refl; deletes = refl }) c.args.self.now.agree
-
-pub invariant_of-self-clause-rounds : goal.invariant_of-self-clause-rounds
-invariant_of-self-clause-rounds c = rounds_kept _ _ _ c.index_mut-desk.result.now _ _ c.index_mut-desk.ensures.value refl c.args.self.now.rounds
+    let fit = c.args.self.now.rows_fit in
+    let d = c.index_mut-row.result.now in
+    let read = c.index_mut-row.ensures.value in
+    let used = at_row (λ (d : NodeRow). d.used) 0 _ _ _ d fit c.requires.node read in
+    agree_row _ _ c.args.node _ (omega (arith, fit, c.requires.node)) (omega (arith, used)) (at_row (λ (d : NodeRow). d.deletes) None _ _ _ d fit c.requires.node read) c.args.self.now.agree
 
 pub returns : goal.returns
+unfolding state
 returns c =
-    written_told _ _ _ c.args.node c.index_mut-desk.result.now _
-    (record { fit = c.args.self.now.desks_fit; inside = c.requires.node; read = c.index_mut-desk.ensures.value; used = refl; deletes = refl }) refl refl
+    let fit = c.args.self.now.rows_fit in
+    let d = c.index_mut-row.result.now in
+    let read = c.index_mut-row.ensures.value in
+    row_put _ _ _ c.args.node _ (omega (arith, fit, c.requires.node))
+    ∙ told_more _ c.args.node _ _ _ _ (at_row (λ (d : NodeRow). d.used) 0 _ _ _ d fit c.requires.node read) (at_row (λ (d : NodeRow). d.came.items) [] _ _ _ d fit c.requires.node read)
+    (ap (λ k. k + 1) (at_row (λ (d : NodeRow). d.told) 0 _ _ _ d fit c.requires.node read))

@@ -1,10 +1,12 @@
 use Rattle.std.proofs.Common.{rules, ap, ◌∙◌, ◌-◌}
-use Rattle.crl_machine.specs.declared.region.Seat.{Seat}
+use Rattle.crl_machine.specs.declared.share.Share.{Share}
+use Rattle.crl_machine.specs.Seen.{state}
 use Rattle.crl_machine.proofs.States.{put_maps}
 use Rattle.crl_machine.proofs.machine.Machine.unmap.Goals as goal
 
 pub returns : goal.returns
+unfolding state
 returns c = record {
   legal = search rules;
-  made = c.put_seat.ensures ∙ put_maps _ _ _ _ _ _ c.seat-seat.ensures (ap (λ (t : Seat). t.maps - 1) c.seat-seat.ensures);
+  made = c.put_share.ensures ∙ put_maps _ _ _ _ _ _ c.share-share.ensures (ap (λ (t : Share). t.maps - 1) c.share-share.ensures);
 }

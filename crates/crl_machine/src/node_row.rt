@@ -8,14 +8,14 @@ use crl_model::name::Name;
 /// What a node has done: the serials that it has used, the parts with which it came to rounds, the
 /// results that it was told, and the region that it is deleting.
 #[derive(Drop)]
-pub struct Desk {
+pub struct NodeRow {
     pub used: u32,
     pub came: Vec<Part>,
     pub told: u64,
     pub deletes: Option<Name>,
 }
 
-impl Desk {
+impl NodeRow {
     /// Comes to the next round with this part.
     ///
     /// # Errors

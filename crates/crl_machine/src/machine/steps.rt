@@ -3,10 +3,10 @@ ghost use Rattle.std.specs.Prelude.{◌≡◌, ◌<◌, IsTrue, IfOk, OnErr, Err
 ghost use Rattle.std.specs.Bool.{MatchBool};
 ghost use Rattle.crl_machine.specs.SingleMachine.{IsFree, IsSendable};
 ghost use Rattle.crl_machine.specs.Seen.{state};
-ghost use Rattle.crl_machine.specs.Judging.{Judges, is_free_row};
+ghost use Rattle.crl_machine.specs.Judging.{Judges, NeedsMemory, is_free_row};
 
 use crate::machine::{Judged, Machine};
-use crate::region::{Region, Seat};
+use crate::share::Share;
 use crl_model::bytes::Bytes;
 use crl_model::collective::Part;
 use crl_model::entry::What;
@@ -21,7 +21,7 @@ impl Machine {
         requires free { IsFree (state self.old) node }
         requires row { IsTrue (is_free_row what.now) }
         ensures judged { IfOk result (λ b. Judges (state self.old) node what.now (state self.new) b) }
-        ensures memory { OnErr result (result ≡ Err Judged.OutOfMemory) }
+        ensures memory { OnErr result ((result ≡ Err Judged.OutOfMemory) × NeedsMemory (state self.old) node what.now) }
         ensures err { OnErr result (state self.new ≡ state self.old) }
     {
         match what {
@@ -29,7 +29,10 @@ impl Machine {
                 Ok(done) => Ok(done),
                 Err(_) => Err(Judged::OutOfMemory),
             },
-            What::Map { name, size } => Ok(self.map(node, name, *size)),
+            What::Map { name, size } => match self.map(node, name, *size) {
+                Ok(done) => Ok(done),
+                Err(_) => Err(Judged::OutOfMemory),
+            },
             What::Unmap { name } => Ok(self.unmap(node, name)),
             What::Flush { name } => Ok(self.flush(node, name)),
             What::StartRead { name } => Ok(self.start_read(node, name)),
@@ -49,101 +52,105 @@ impl Machine {
         }
     }
 
+    #[tactic(auto, unfolding(crate::specs::Seen::state))]
     fn create(&mut self, node: NodeNo, name: &Name, size: u32) -> Result<bool, OutOfMemory>
         requires node { node < self.old.nodes }
         requires free { IsFree (state self.old) node }
         ensures judged { IfOk result (Judges (state self.old) node (What.Create name.now size) (state self.new)) }
         ensures err { OnErr result (state self.new ≡ state self.old) }
     {
-        let used = self.desks[node as usize].used;
+        let used = self.used(node);
         if name.home != node || used == u32::MAX || size == 0 || size > REGION_LIMIT {
             return Ok(false);
         }
         if name.serial != used + 1 {
             return Ok(false);
         }
-        let region = Region::new(self.alloc, size, self.nodes)?;
-        self.regions.insert(*name, region)?;
-        let desk = &mut self.desks[node as usize];
-        desk.used = used + 1;
+        self.ready_region(name, size)?;
+        self.add_region(node, name, size);
         Ok(true)
     }
 
-    fn map(&mut self, node: NodeNo, name: &Name, size: u32) -> bool
+    #[tactic(auto, unfolding(crate::specs::Seen::state))]
+    fn map(&mut self, node: NodeNo, name: &Name, size: u32) -> Result<bool, OutOfMemory>
         requires node { node < self.old.nodes }
         requires free { IsFree (state self.old) node }
-        ensures { Judges (state self.old) node (What.Map name.now size) (state self.new) result }
+        ensures judged { IfOk result (Judges (state self.old) node (What.Map name.now size) (state self.new)) }
+        ensures memory { OnErr result ((state self.old).maps node name.now ≡ 0) }
+        ensures err { OnErr result (state self.new ≡ state self.old) }
     {
         let Some(region) = self.regions.get(name) else {
-            return false;
+            return Ok(false);
         };
-        if !region.is_there() || region.size() != size {
-            return false;
+        let share = region.share(node);
+        if !region.is_there() || region.size() != size || share.maps == u32::MAX {
+            return Ok(false);
         }
-        let seat = self.seat(node, name);
-        if seat.maps == u32::MAX {
-            return false;
-        }
-        self.put_seat(
+        self.ready_share(node, name)?;
+        self.put_share(
             node,
             name,
-            Seat {
-                maps: seat.maps + 1,
-                ..seat
+            Share {
+                maps: share.maps + 1,
+                ..share
             },
         );
-        true
+        Ok(true)
     }
 
+    #[tactic(auto, unfolding(crate::specs::Seen::state))]
     fn unmap(&mut self, node: NodeNo, name: &Name) -> bool
         requires node { node < self.old.nodes }
         requires free { IsFree (state self.old) node }
         ensures { Judges (state self.old) node (What.Unmap name.now) (state self.new) result }
     {
-        let seat = self.seat(node, name);
-        if seat.maps == 0 || seat.reads > 0 || self.is_writing(node, name) {
+        let share = self.share(node, name);
+        if share.maps == 0 || share.reads > 0 || self.is_writing(node, name) {
             return false;
         }
-        self.put_seat(
+        self.put_share(
             node,
             name,
-            Seat {
-                maps: seat.maps - 1,
-                ..seat
+            Share {
+                maps: share.maps - 1,
+                ..share
             },
         );
         true
     }
 
+    #[tactic(auto, unfolding(crate::specs::Seen::state))]
     fn flush(&self, node: NodeNo, name: &Name) -> bool
         requires node { node < self.now.nodes }
         requires free { IsFree (state self.now) node }
         ensures { Judges (state self.now) node (What.Flush name.now) (state self.now) result }
     {
-        let seat = self.seat(node, name);
-        seat.maps > 0 && seat.reads == 0 && !self.is_writing(node, name)
+        let share = self.share(node, name);
+        share.maps > 0 && share.reads == 0 && !self.is_writing(node, name)
     }
 
+    #[tactic(auto, unfolding(crate::specs::Seen::state))]
     fn start_read(&mut self, node: NodeNo, name: &Name) -> bool
         requires node { node < self.old.nodes }
         requires free { IsFree (state self.old) node }
         ensures { Judges (state self.old) node (What.StartRead name.now) (state self.new) result }
     {
-        let seat = self.seat(node, name);
-        if seat.maps == 0 || seat.reads == u32::MAX || !self.is_unwritten(name) {
+        let share = self.share(node, name);
+        if share.maps == 0 || share.reads == u32::MAX || !self.is_unwritten(name) {
             return false;
         }
-        self.put_seat(
+        self.put_share(
             node,
             name,
-            Seat {
-                reads: seat.reads + 1,
-                ..seat
+            Share {
+                reads: share.reads + 1,
+                ..share
             },
         );
         true
     }
 
+    #[tactic(auto, unfolding(crate::specs::Seen::state))]
     fn read(&mut self, node: NodeNo, name: &Name, seen: &Bytes) -> bool
         requires node { node < self.old.nodes }
         requires free { IsFree (state self.old) node }
@@ -152,37 +159,36 @@ impl Machine {
         let Some(region) = self.regions.get(name) else {
             return false;
         };
-        if region.bytes.as_slice() != seen.as_slice() {
+        let share = region.share(node);
+        if share.reads == 0 || region.bytes(self.zeros.as_slice()) != seen.as_slice() {
             return false;
         }
-        let seat = self.seat(node, name);
-        if seat.reads == 0 {
-            return false;
-        }
-        self.put_seat(
+        self.put_share(
             node,
             name,
-            Seat {
-                reads: seat.reads - 1,
-                ..seat
+            Share {
+                reads: share.reads - 1,
+                ..share
             },
         );
         true
     }
 
+    #[tactic(auto, unfolding(crate::specs::Seen::state))]
     fn start_write(&mut self, node: NodeNo, name: &Name) -> bool
         requires node { node < self.old.nodes }
         requires free { IsFree (state self.old) node }
         ensures { Judges (state self.old) node (What.StartWrite name.now) (state self.new) result }
     {
-        let seat = self.seat(node, name);
-        if seat.maps == 0 || !self.is_unused(name) {
+        let share = self.share(node, name);
+        if share.maps == 0 || !self.is_unused(name) {
             return false;
         }
         self.open_write(node, name);
         true
     }
 
+    #[tactic(auto, unfolding(crate::specs::Seen::state))]
     fn write(&mut self, node: NodeNo, name: &Name, before: &Bytes, after: &Bytes) -> bool
         requires node { node < self.old.nodes }
         requires free { IsFree (state self.old) node }
@@ -192,7 +198,7 @@ impl Machine {
             return false;
         };
         if region.writer != Some(node)
-            || region.bytes.as_slice() != before.as_slice()
+            || region.bytes(self.zeros.as_slice()) != before.as_slice()
             || before.len() != after.len()
         {
             return false;
