@@ -142,6 +142,10 @@ share_written s n name r w share f stage bytes writer shares inside = λ i. reco
   writes = same_writes s name r w f writer i;
 }
 
+-- the share of a region that is there
+pub share_is : (nodes : ℕ) (G : Name → Option Region) (ds : List NodeRow) (n : ℕ) (name : Name) (r : Region) → G name ≡ Some r → share_at r n ≡ the_share (state_of nodes G ds) n name
+share_is nodes G ds n name r e = rw e refl
+
 -- a share that differs from what stands there in one number
 pair_same : {X : Type 0} (f : ℕ → Name → X) (n : ℕ) (name : Name) (v : X) → v ≡ f n name → at_pair f n name v ≡ f
 pair_same {X} f n name v e = sym (at_pair_of f n name v (λ m. f m name) (λ m. here m)) ∙ λ i m. at_name_same (f m) name (f m name) refl i

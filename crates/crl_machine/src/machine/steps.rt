@@ -2,7 +2,6 @@
 ghost use Rattle.std.specs.Prelude.{◌≡◌, ◌<◌, IsTrue, IfOk, OnErr, Err, true, false};
 ghost use Rattle.std.specs.Bool.{MatchBool};
 ghost use Rattle.crl_machine.specs.SingleMachine.{IsFree, IsSendable};
-ghost use Rattle.crl_model.specs.Stages.{is_there};
 ghost use Rattle.crl_machine.specs.Seen.{state};
 ghost use Rattle.crl_machine.specs.Judging.{Judges, NeedsMemory, is_free_row};
 
@@ -80,9 +79,11 @@ impl Machine {
         ensures memory { OnErr result ((state self.old).maps node name.now ≡ 0) }
         ensures err { OnErr result (state self.new ≡ state self.old) }
     {
-        let stage = self.stage(name);
-        let share = self.share(node, name);
-        if !is_there(stage) || self.size(*name) != size || share.maps == u32::MAX {
+        let Some(region) = self.regions.get(name) else {
+            return Ok(false);
+        };
+        let share = region.share(node);
+        if !region.is_there() || region.size() != size || share.maps == u32::MAX {
             return Ok(false);
         }
         self.ready_share(node, name)?;
@@ -155,8 +156,11 @@ impl Machine {
         requires free { IsFree (state self.old) node }
         ensures { Judges (state self.old) node (What.Read name.now seen.now) (state self.new) result }
     {
-        let share = self.share(node, name);
-        if share.reads == 0 || self.last_bytes(*name) != seen.as_slice() {
+        let Some(region) = self.regions.get(name) else {
+            return false;
+        };
+        let share = region.share(node);
+        if share.reads == 0 || region.bytes(self.zeros.as_slice()) != seen.as_slice() {
             return false;
         }
         self.put_share(
@@ -184,13 +188,17 @@ impl Machine {
         true
     }
 
+    #[tactic(auto, unfolding(crate::specs::Seen::state))]
     fn write(&mut self, node: NodeNo, name: &Name, before: &Bytes, after: &Bytes) -> bool
         requires node { node < self.old.nodes }
         requires free { IsFree (state self.old) node }
         ensures { Judges (state self.old) node (What.Write name.now before.now after.now) (state self.new) result }
     {
-        if !self.is_writing(node, name)
-            || self.last_bytes(*name) != before.as_slice()
+        let Some(region) = self.regions.get(name) else {
+            return false;
+        };
+        if region.writer != Some(node)
+            || region.bytes(self.zeros.as_slice()) != before.as_slice()
             || before.len() != after.len()
         {
             return false;
@@ -245,11 +253,4 @@ fn is_sendable(part: &Part) -> bool
         Part::Send(bytes) => !bytes.is_empty() && bytes.len() <= BROADCAST_LIMIT,
         _ => true,
     }
-}
-
-/// Whether a region with this stage isn't deleted yet.
-fn is_there(stage: Stage) -> bool
-    ensures { result ≡ is_there stage }
-{
-    matches!(stage, Stage::Live | Stage::Going(_))
 }

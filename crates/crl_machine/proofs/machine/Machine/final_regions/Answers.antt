@@ -1,4 +1,4 @@
-use Rattle.std.proofs.Common.{◌≡◌, ◌-◌, ◌++◌, ◌∙◌, refl, sym, ap, arith}
+use Rattle.std.proofs.Common.{◌≡◌, ◌-◌, ◌++◌, ◌∙◌, sym, ap, arith}
 use Rattle.std.proofs.Common.{List}
 use Rattle.crl_model.specs.declared.report.FinalRegion.{FinalRegion}
 use Rattle.crl_machine.specs.Seen.{state}
