@@ -54,6 +54,10 @@ ground_start count capacity = record { known = known_start count capacity; asks 
 pub ground_step : (w : World) (e : Event) → is_enabled e w ≡ true → Ground w → Ground (step e w).world
 ground_step w e h g = record { known = known_step w e h g.known; asks = kept_turn Asks asks_kept w _ (turn_of w e h) g.known.fits g.asks }
 
+pub ground_run : (es : List Event) (w : World) → IsRunFrom w es → Ground w → Ground (world_after w es)
+ground_run [] w r g = g
+ground_run (e ∷ es) w r g = ground_run es (step e w).world r.1 (ground_step w e r.0 g)
+
 pub with_rest : (j : ℕ) (n : Node) (p : Piece) (rest : List Piece) (parcels : PartsGathered) → Took p n.inbox rest → Fits j n → Fits j (record n { inbox = rest; parcels = parcels })
 with_rest j n p rest parcels took f = record { me = f.me; each = f.each; cache = f.cache; fresh = f.fresh; inbox = (all_took (ComesIn n.me) took f.inbox).1; outbox = f.outbox }
 

@@ -2,6 +2,7 @@ pub mod Laws
 mod Answered
 mod Asking
 mod Effects
+mod Ends
 mod Events
 mod Going
 mod Guards

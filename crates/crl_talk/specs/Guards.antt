@@ -6,11 +6,15 @@ use Rattle.crl_model.specs.declared.name.Name.{Name}
 use Rattle.crl_model.specs.declared.call.Call.{Call}
 use Rattle.crl_model.specs.declared.call.Call.TheVariants as call
 use Rattle.crl_model.specs.declared.directory.Section.TheVariants as section
+use Rattle.crl_model.specs.declared.entry.What.TheVariants as what
+use Rattle.crl_model.specs.declared.event.Event.TheVariants as event
 use Rattle.crl_model.specs.Names.{name_eq}
 use Rattle.crl_protocol.specs.Sections.{Guard, OpenSection}
-use Rattle.crl_protocol.specs.Node.{Answer, Reading, Writing, Done, Activity, Ready}
+use Rattle.crl_protocol.specs.Node.{Answer, Reading, Writing, Done, Activity, Ready, entry_of}
 use Rattle.crl_protocol.specs.Talk.{Heard, Called, Collected}
-use Rattle.crl_protocol.specs.World.{World}
+use Rattle.crl_protocol.specs.Verdict.{verdict}
+use Rattle.crl_protocol.specs.World.{World, is_enabled}
+use Rattle.crl_deeds.specs.Entries.{entries_at}
 
 -- a guard that a node was given, to read or to write
 pub record Given : Type 0 where
@@ -65,3 +69,16 @@ pub data AreGuards (n : ℕ) : List Given → Option OpenSection → Type 0 wher
 -- the guard that it has yet to be given.
 abbrev pub SectionsAreGuards : ℕ → World → List Heard → Type 0
 SectionsAreGuards n w heard = (q : Name) → AreGuards n (given_yet q (w.nodes n).activity ++ guards_held q [] heard) ((w.nodes n).sections.records q)
+
+-- the bytes with which the open section began: those of the outermost guard
+abbrev pub bytes_held : List Given → List ℕ
+bytes_held [] = []
+bytes_held (g ∷ []) = g.guard.bytes
+bytes_held (g ∷ (h ∷ gs)) = bytes_held (h ∷ gs)
+
+-- What node n enters where it ends a section, after a run in which it heard this: the bytes that the guard gave it.
+pub record EndsShowGuards (n : ℕ) (w : World) (heard : List Heard) : Type 0 where
+  pub read : (q : Name) → is_enabled (event.Call n (call.EndRead q)) w ≡ true → verdict (w.nodes n) (call.EndRead q) ≡ None
+      → entries_at (event.Call n (call.EndRead q)) w ≡ entry_of n (what.Read q (bytes_held (guards_held q [] heard))) ∷ []
+  pub write : (q : Name) (after : List ℕ) → is_enabled (event.Call n (call.EndWrite q after)) w ≡ true → verdict (w.nodes n) (call.EndWrite q after) ≡ None
+      → entries_at (event.Call n (call.EndWrite q after)) w ≡ entry_of n (what.Write q (bytes_held (guards_held q [] heard)) after) ∷ []

@@ -6,7 +6,7 @@ ghost use Rattle.crl_protocol.specs.World.{new_world, world_of, account, IsRun, 
 ghost use Rattle.crl_protocol.specs.Chosen.{Running, running, block_of};
 ghost use Rattle.crl_deeds.specs.Laws.{Follows};
 ghost use Rattle.crl_protocol.specs.Talk.{hears, talk, AreLinesOf, lines_of_node};
-ghost use Rattle.crl_talk.specs.Guards.{SectionsAreGuards};
+ghost use Rattle.crl_talk.specs.Guards.{SectionsAreGuards, EndsShowGuards};
 ghost use Rattle.crl_talk.specs.Script.{CallsAreThose};
 
 /// A run that follows a script makes, at each node, the calls of a prefix of the node's statements, in order. Changes
@@ -19,6 +19,12 @@ pub fn calls_are_the_statements()
 /// that it has yet to take. Read sections inside each other are counted.
 pub fn sections_are_the_guards()
     ensures { (count capacity : ℕ) (run : List Event) → IsRunFrom (new_world count capacity) run → (n : ℕ) → SectionsAreGuards n (world_of count capacity run) (hears n (new_world count capacity) run) }
+{}
+
+/// Where a node ends a section it enters the bytes that the section's guard gave it; of read sections inside each other,
+/// the outermost guard.
+pub fn ends_show_their_guards()
+    ensures { (count capacity : ℕ) (run : List Event) → IsRunFrom (new_world count capacity) run → (n : ℕ) → EndsShowGuards n (world_of count capacity run) (hears n (new_world count capacity) run) }
 {}
 
 /// The entries of a node in the account, in order, are the lines of its calls with their answers, each call once. Where the
