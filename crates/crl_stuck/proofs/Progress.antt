@@ -1,4 +1,4 @@
--- Each turn takes a statement or is an event.
+-- Each turn takes a statement, or is an answer that is taken or an event of a message.
 use Rattle.std.proofs.Common.{◌≡◌, ℕ, zero, suc, ◌+◌, ◌*◌, ◌%◌, ◌<◌, ◌≤◌, ◌==◌, Bool, true, false, if◌then◌else◌, None, Some, Option, List, [], ◌∷◌, ◌++◌, length, get_or, refl, ap, sym, ◌∙◌, subst, arith, length-append}
 use Rattle.std.specs.List.{AllByRecursion}
 use Rattle.std.proofs.Math.Logic.{◌⊎◌, inl, inr}
@@ -81,9 +81,10 @@ calls_append (event.Collect i ∷ xs) ys = let h = calls_append xs ys in omega a
 calls_append (event.Handle i place ∷ xs) ys = let h = calls_append xs ys in omega arith
 calls_append (event.Carry i place ∷ xs) ys = let h = calls_append xs ys in omega arith
 
--- From one to the other so many turns were taken, each of which took a statement or was an event; and each call took one.
+-- From one to the other so many turns were taken, each of which took a statement or was an event that is no call; and
+-- each call took a statement.
 pub record Took (count k : ℕ) (r v : Running) : Type 0 where
-  pub turns : length r.events + statements_from 0 count v.actors + k ≤ length v.events + statements_from 0 count r.actors
+  pub turns : length r.events + count_calls v.events + statements_from 0 count v.actors + k ≤ length v.events + count_calls r.events + statements_from 0 count r.actors
   pub calls : count_calls v.events + statements_from 0 count v.actors ≤ count_calls r.events + statements_from 0 count r.actors
   pub nodes : v.world.count ≡ r.world.count
 

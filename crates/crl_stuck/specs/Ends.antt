@@ -14,12 +14,12 @@ abbrev pub statements_in : ℕ → List (List Statement) → ℕ
 statements_in count blocks = statements_from 0 count (λ i. new_actor (block_of blocks i))
 
 -- The most messages that one call leads to, each piece counted, and the most turns of a script with so many statements:
--- each statement takes one, a call has an answer, and each message is carried and handled.
+-- each statement takes one and its answer another, and each message is carried and handled.
 abbrev pub most_messages : ℕ → ℕ
 most_messages count = 3 + 3 * PIECES_LIMIT + 2 * count
 
 abbrev pub most_turns : ℕ → ℕ → ℕ
-most_turns count statements = 3 * statements + 2 * (statements * most_messages count)
+most_turns count statements = 2 * statements + 2 * (statements * most_messages count)
 
 -- The run that a script and an order choose has an end, after at most so many turns, and is truly stuck there.
 pub record RunEnds (count capacity : ℕ) (blocks : List (List Statement)) (words : ℕ → ℕ) : Type 0 where
