@@ -1,5 +1,5 @@
 -- Each turn takes a statement, or is an answer that is taken or an event of a message.
-use Rattle.std.proofs.Common.{◌≡◌, ℕ, zero, suc, ◌+◌, ◌*◌, ◌%◌, ◌<◌, ◌≤◌, ◌==◌, Bool, true, false, if◌then◌else◌, None, Some, Option, List, [], ◌∷◌, ◌++◌, length, get_or, refl, ap, sym, ◌∙◌, subst, arith, length-append}
+use Rattle.std.proofs.Common.{◌≡◌, ℕ, zero, suc, ◌+◌, ◌%◌, ◌<◌, ◌≤◌, ◌==◌, Bool, true, false, if◌then◌else◌, None, Some, Option, List, [], ◌∷◌, ◌++◌, length, get_or, refl, ap, sym, ◌∙◌, subst, arith, length-append}
 use Rattle.std.specs.List.{AllByRecursion}
 use Rattle.std.proofs.Math.Logic.{◌⊎◌, inl, inr}
 use Rattle.std.proofs.lemmas.Bool.{cases_eq, cond_both, cond-true, cond-false, eq-eqb, ne_eqb, eqb-true}
@@ -16,8 +16,8 @@ use Rattle.crl_protocol.specs.Places.{Taken, take_out}
 use Rattle.crl_protocol.specs.Node.{Answer, Activity, Free, Waiting, Ready, Writing}
 use Rattle.crl_protocol.specs.Verdict.{verdict}
 use Rattle.crl_protocol.specs.World.{World, step, handles_at, carries}
-use Rattle.crl_protocol.specs.Chosen.{Actor, Running, next_of, nexts_from, handles_of, handles_from, carries_of, carries_from, choices, call_of, after_change, is_change, is_allowed, takes_guard, goes_on, with_actor, makes_call, takes_statement, takes_choice, takes_choice_at, turn, turns_from}
-use Rattle.crl_deeds.specs.Laws.{is_call_event, past_statement}
+use Rattle.crl_protocol.specs.Chosen.{Actor, Running, next_of, nexts_from, handles_of, handles_from, carries_of, carries_from, choices, call_of, after_change, is_change, is_allowed, takes_guard, goes_on, with_actor, takes_statement, takes_choice, takes_choice_at, turn, turns_from}
+use Rattle.crl_deeds.specs.Laws.{past_statement}
 use Rattle.crl_deeds.proofs.Laws.{all_append, all_gathered, chosen_is, nexts_gather, handles_gather, carries_gather}
 use Rattle.crl_bound.specs.Counters.{count_calls}
 use Rattle.crl_stuck.specs.Ends.{statements_from}
@@ -160,10 +160,10 @@ choices_take count r same =
     let all = AllByRecursion (Takes count r) in
     let n = r.world.count in
     all_append (Takes count r) (nexts_from 0 n r) (handles_from 0 n r ++ carries_from 0 n r)
-        (subst all (sym (nexts_gather r 0 n)) (all_gathered (Takes count r) (λ j. next_of j (r.actors j).left (r.world.nodes j).activity) 0 n n (omega arith) (λ j h. next_takes count r j _ (r.world.nodes j).activity refl (subst (λ k. j < k) same h))))
-        (all_append (Takes count r) (handles_from 0 n r) (carries_from 0 n r)
-            (subst all (sym (handles_gather r 0 n)) (all_gathered (Takes count r) (λ j. handles_of j 0 (r.world.nodes j).inbox) 0 n n (omega arith) (λ j h. handles_take count r j 0 (r.world.nodes j).inbox)))
-            (subst all (sym (carries_gather r 0 n)) (all_gathered (Takes count r) (λ j. carries_of j 0 (r.world.nodes j).outbox) 0 n n (omega arith) (λ j h. carries_take count r j 0 (r.world.nodes j).outbox))))
+    (subst all (sym (nexts_gather r 0 n)) (all_gathered (Takes count r) (λ j. next_of j (r.actors j).left (r.world.nodes j).activity) 0 n n (omega arith) (λ j h. next_takes count r j _ (r.world.nodes j).activity refl (subst (λ k. j < k) same h))))
+    (all_append (Takes count r) (handles_from 0 n r) (carries_from 0 n r)
+    (subst all (sym (handles_gather r 0 n)) (all_gathered (Takes count r) (λ j. handles_of j 0 (r.world.nodes j).inbox) 0 n n (omega arith) (λ j h. handles_take count r j 0 (r.world.nodes j).inbox)))
+    (subst all (sym (carries_gather r 0 n)) (all_gathered (Takes count r) (λ j. carries_of j 0 (r.world.nodes j).outbox) 0 n n (omega arith) (λ j h. carries_take count r j 0 (r.world.nodes j).outbox))))
 
 -- So many turns are all taken, or no choice is left after fewer.
 pub record Stops (words : ℕ → ℕ) (p k : ℕ) (r : Running) : Type 0 where

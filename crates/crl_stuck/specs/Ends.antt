@@ -1,5 +1,5 @@
 -- That each script and order choose a run that ends, and how many turns it takes at most.
-use Rattle.std.specs.Prelude.{◌≡◌, ℕ, zero, suc, ◌+◌, ◌*◌, ◌≤◌, List, length}
+use Rattle.std.specs.Prelude.{ℕ, zero, suc, ◌+◌, ◌*◌, ◌≤◌, List, length}
 use Rattle.crl_model.specs.declared.statement.Statement.{Statement}
 use Rattle.crl_pieces.specs.declared.TheConstants.{PIECES_LIMIT}
 use Rattle.crl_protocol.specs.Chosen.{Actor, Running, block_of, new_actor, IsChosen}
