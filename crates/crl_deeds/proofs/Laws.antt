@@ -25,7 +25,7 @@ pub use Rattle.crl_deeds.proofs.Fits.TableSteps.{no_is_one, asked_goes, returned
 pub use Rattle.crl_deeds.proofs.Fits.Names.{same_name, name_self, other_name, by_name, by_test}
 pub use Rattle.crl_deeds.proofs.Fits.TableRows.{home_put, home_end, home_next, home_none, lifetime_put}
 pub use Rattle.crl_deeds.proofs.Fits.Parts.{is_cached, not_cached, kept_dropped, kept_more}
-pub use Rattle.crl_deeds.proofs.Chosen.Lists.{all_append}
+pub use Rattle.crl_deeds.proofs.Chosen.Lists.{all_append, all_gathered, chosen_is}
 pub use Rattle.crl_deeds.proofs.Runs.Grown.{append_nil}
 pub use Rattle.crl_deeds.proofs.Fits.LifetimeCalls.{none_of}
 pub use Rattle.crl_deeds.proofs.Fits.SectionCalls.{open_size}
@@ -36,4 +36,4 @@ pub use Rattle.crl_deeds.proofs.Cases.Entries.{decided_by_call, decided_by_messa
 -- What a script and an order choose is a run.
 pub use Rattle.crl_deeds.proofs.Chosen.Drafts.{sound_start}
 pub use Rattle.crl_deeds.proofs.Chosen.Allowed.{follow_runs}
-pub use Rattle.crl_deeds.proofs.Chosen.Followed.{follow_turns, follow_world}
+pub use Rattle.crl_deeds.proofs.Chosen.Followed.{follow_turns, follow_world, nexts_gather, handles_gather, carries_gather}

@@ -1,5 +1,5 @@
 -- Where no choice is left no piece is in a box, and each node is finished or waits; and the other way round.
-use Rattle.std.proofs.Common.{◌≡◌, ℕ, zero, suc, ◌+◌, ◌<◌, ◌≤◌, Bool, true, false, ◌&&◌, List, [], ◌∷◌, ◌++◌, refl, ap, sym, ◌∙◌, subst, arith}
+use Rattle.std.proofs.Common.{◌≡◌, ℕ, zero, suc, ◌+◌, ◌<◌, ◌≤◌, Bool, true, false, ◌&&◌, List, [], ◌∷◌, ◌++◌, refl, ap, ◌∙◌, subst, arith}
 use Rattle.std.proofs.Math.Logic.{◌⊎◌, inl, inr}
 use Rattle.std.proofs.lemmas.Bool.{cases_eq, lt-ltb}
 use Rattle.std.specs.declared.option.Option.TheVariants.{Some}
@@ -8,7 +8,7 @@ use Rattle.crl_model.specs.declared.choice.Choice.{Choice}
 use Rattle.crl_model.specs.declared.statement.Statement.{Statement}
 use Rattle.crl_protocol.specs.Parcels.{Piece}
 use Rattle.crl_protocol.specs.Home.{is_empty}
-use Rattle.crl_protocol.specs.Node.{Node, Activity, Awaited, Free, Waiting, Ready, ForSection, ForMap, ForDelete, ForRound}
+use Rattle.crl_protocol.specs.Node.{Activity, Awaited, Free, Waiting, Ready}
 use Rattle.crl_protocol.specs.World.{World, boxes_from, pieces_in_boxes, is_free}
 use Rattle.crl_protocol.specs.Chosen.{Running, next_of, nexts_from, handles_of, handles_from, carries_of, carries_from, choices}
 use Rattle.crl_protocol.specs.Ends.{blocked_while, is_finished, IsTrulyStuck}

@@ -1,5 +1,5 @@
 -- A node past the world's nodes has no section open.
-use Rattle.std.proofs.Common.{◌≡◌, ℕ, ◌≤◌, ◌<◌, List, [], ◌∷◌, refl, ap, sym, ◌∙◌, subst, arith}
+use Rattle.std.proofs.Common.{◌≡◌, ℕ, ◌≤◌, List, [], ◌∷◌, refl, arith}
 use Rattle.std.specs.List.{AllByRecursion}
 use Rattle.crl_model.specs.declared.name.Name.{Name}
 use Rattle.crl_model.specs.declared.message.Message.{Message}
@@ -8,7 +8,7 @@ use Rattle.crl_model.specs.declared.directory.Section.TheVariants.{Closed}
 use Rattle.crl_protocol.specs.Sections.{section_at}
 use Rattle.crl_protocol.specs.Node.{Node}
 use Rattle.crl_protocol.specs.World.{new_world, world_of, IsRunFrom}
-use Rattle.crl_deeds.specs.Turns.{Local, Held}
+use Rattle.crl_deeds.specs.Turns.{Local}
 use Rattle.crl_deeds.proofs.Laws.{held_run}
 
 abbrev ClosedPast : ℕ → ℕ → Node → Type 0

@@ -1,10 +1,10 @@
 -- The least node of which a test holds.
-use Rattle.std.proofs.Common.{◌≡◌, ℕ, zero, suc, ◌+◌, ◌<◌, ◌≤◌, Bool, true, false, Some, refl, ap, sym, ◌∙◌, subst, arith}
+use Rattle.std.proofs.Common.{◌≡◌, ℕ, zero, suc, ◌+◌, ◌<◌, ◌≤◌, Bool, true, false, Some, refl, sym, ◌∙◌, subst, arith}
 use Rattle.std.proofs.Math.Logic.{◌⊎◌, inl, inr}
 use Rattle.std.proofs.lemmas.Bool.{cases_eq, cond-true, cond-false}
 use Rattle.crl_protocol.specs.Node.{Node}
 use Rattle.crl_protocol.specs.World.{World}
-use Rattle.crl_protocol.specs.Ends.{least_node_from, least_node}
+use Rattle.crl_protocol.specs.Ends.{least_node_from}
 
 pub record Least (test : ℕ → Node → Bool) (a k : ℕ) (nodes : ℕ → Node) : Type 0 where
   pub node : ℕ
@@ -29,7 +29,11 @@ least_from test a (suc k) nodes j l h e = go (test a (nodes a)) refl (λ lower. 
         let rest = later (omega arith) in
         let g = rest.above in let s = rest.below in
         record {
-          node = rest.node; found = cond-false (test a (nodes a)) _ _ f ∙ rest.found; above = omega arith; below = omega arith; holds = rest.holds;
+          node = rest.node;
+          found = cond-false (test a (nodes a)) _ _ f ∙ rest.found;
+          above = omega arith;
+          below = omega arith;
+          holds = rest.holds;
           lesser = λ m g s. here false f m g (cases_eq a m) refl (λ b. rest.lesser m b s);
         }
 

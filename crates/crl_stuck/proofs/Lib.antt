@@ -4,4 +4,7 @@ mod Elsewhere
 mod Sections
 mod Waiters
 mod Reports
+mod Sizes
+mod Progress
+mod RunsEnd
 pub mod Laws

@@ -1,11 +1,11 @@
 -- The report names one cause for each unfinished node.
-use Rattle.std.proofs.Common.{◌≡◌, ℕ, zero, suc, ◌+◌, ◌<◌, ◌≤◌, Bool, true, false, not, ◌&&◌, None, Some, Option, List, [], ◌∷◌, ◌++◌, map, if◌then◌else◌, refl, ap, sym, ◌∙◌, subst, arith}
-use Rattle.std.specs.List.{All, AllByRecursion}
-use Rattle.std.proofs.lemmas.Bool.{and_parts, and_from, cond-true, cond-false}
+use Rattle.std.proofs.Common.{◌≡◌, ℕ, zero, suc, ◌+◌, ◌<◌, Bool, true, false, not, List, [], ◌∷◌, ◌++◌, map, if◌then◌else◌, refl, ap, sym, ◌∙◌, subst, arith}
+use Rattle.std.specs.List.{AllByRecursion}
+use Rattle.std.proofs.lemmas.Bool.{and_parts, and_from}
 use Rattle.std.proofs.lemmas.List.Elements.{All-from_recursion}
 use Rattle.crl_model.specs.declared.blocked.Blocked.{Blocked}
 use Rattle.crl_protocol.specs.Chosen.{Running}
-use Rattle.crl_protocol.specs.Ends.{blocked_line, blocked_at, blocked_from, is_finished, all_finished, is_stuck, report}
+use Rattle.crl_protocol.specs.Ends.{blocked_line, blocked_at, blocked_from, is_finished, all_finished, report}
 use Rattle.crl_stuck.specs.Stuck.{stuck_node, IsCause, IsBlocked, EndsStuck, unfinished_from, unfinished, ReportNamesStuck}
 
 -- the lines of the nodes from i on
@@ -35,7 +35,7 @@ named end i (suc k) count e h = go (named end (i + 1) k count (omega arith) h) (
         let b = h i (omega arith) x in
         let one : line false ≡ b.cause ∷ blocked_from (i + 1) k end = ap (λ o. blocked_line o ++ blocked_from (i + 1) k end) b.named in
         at_line false (ap (map stuck_node) one ∙ (ap (λ j. j ∷ map stuck_node (blocked_from (i + 1) k end)) b.own ∙ ap (λ l. i ∷ l) rest.nodes))
-            (subst (AllByRecursion (IsCause end.world)) (sym one) (b.stands, rest.causes)) x
+        (subst (AllByRecursion (IsCause end.world)) (sym one) (b.stands, rest.causes)) x
 
 -- all finished
 finished_parts : (end : Running) (i k : ℕ) → all_finished i k end ≡ true → unfinished_from i k end ≡ []

@@ -1,24 +1,23 @@
 -- With no piece in a box, a node that waits for a section is kept out by another that has one open.
-use Rattle.std.proofs.Common.{◌≡◌, ◌≢◌, ℕ, ◌+◌, ◌<◌, ◌≤◌, ◌==◌, Bool, true, false, not, ◌&&◌, None, Some, Option, List, [], refl, ap, sym, ◌∙◌, subst, arith}
+use Rattle.std.proofs.Common.{◌≡◌, ◌≢◌, ℕ, ◌<◌, ◌≤◌, Bool, true, None, Some, Option, List, [], refl, ap, sym, ◌∙◌, subst}
 use Rattle.std.proofs.Math.Logic.{◌⊎◌, inl, inr}
 use Rattle.std.proofs.lemmas.Bool.{cases_eq, cases_lt}
 use Rattle.crl_model.specs.declared.name.Name.{Name}
 use Rattle.crl_model.specs.declared.event.Event.{Event}
-use Rattle.crl_model.specs.declared.directory.Section.{Section}
 use Rattle.crl_model.specs.declared.directory.Section.TheVariants.{Closed}
 use Rattle.crl_protocol.specs.Places.{find_all}
 use Rattle.crl_protocol.specs.Home.{Home}
 use Rattle.crl_protocol.specs.Remote.{Remote}
 use Rattle.crl_protocol.specs.Handlers.{is_queued}
 use Rattle.crl_protocol.specs.Sections.{section_at}
-use Rattle.crl_protocol.specs.Node.{Node, Waiting, ForSection}
+use Rattle.crl_protocol.specs.Node.{Waiting, ForSection}
 use Rattle.crl_protocol.specs.World.{World, new_world, world_of, pieces_in_boxes, IsRunFrom}
 use Rattle.crl_flight.specs.Flight.{Under, messages_of}
 use Rattle.crl_coherence.specs.Region.{Region}
-use Rattle.crl_coherence.specs.Coherent.{IsCoherent, node_section}
+use Rattle.crl_coherence.specs.Coherent.{node_section}
 use Rattle.crl_coherence.specs.Facts.{WhoWaitsIsBlocked}
 use Rattle.crl_coherence.proofs.Laws.{waiting_is_blocked}
-use Rattle.crl_regions.specs.MailFits.{HasTable, HasSize}
+use Rattle.crl_regions.specs.MailFits.{HasTable}
 use Rattle.crl_regions.specs.Steps.{RegionsHold}
 use Rattle.crl_regions.specs.View.{flying, side, table_of, table_or_blank, view, array_of}
 use Rattle.crl_regions.proofs.Laws.{regions_in_runs, quiet_boxes, sections_are_tables, sizes_known, waiters_ask, count_in_run}

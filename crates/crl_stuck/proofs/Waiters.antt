@@ -1,5 +1,5 @@
 -- With no piece in a box each node that waits is blocked.
-use Rattle.std.proofs.Common.{◌≡◌, ◌≢◌, ℕ, ◌+◌, ◌<◌, ◌≤◌, ◌==◌, Bool, true, false, not, ◌&&◌, None, Some, Option, List, [], length, refl, ap, sym, ◌∙◌, subst, arith}
+use Rattle.std.proofs.Common.{◌≡◌, ◌≢◌, ℕ, ◌<◌, Bool, true, false, not, List, [], refl, ap, sym, ◌∙◌, subst, arith}
 use Rattle.std.proofs.lemmas.Bool.{and_from, ne_eqb, lt-ltb, ltb-true, ltb-false}
 use Rattle.crl_model.specs.declared.name.Name.{Name}
 use Rattle.crl_model.specs.declared.event.Event.{Event}
@@ -9,19 +9,19 @@ use Rattle.crl_model.specs.declared.directory.Section.TheVariants.{Closed, Readi
 use Rattle.crl_model.specs.declared.blocked.Blocked.TheVariants as blocked
 use Rattle.crl_protocol.specs.Remote.{is_closed}
 use Rattle.crl_protocol.specs.Sections.{section_at}
-use Rattle.crl_protocol.specs.Node.{Node, Activity, Awaited, Waiting, ForSection, ForMap, ForDelete, ForRound}
+use Rattle.crl_protocol.specs.Node.{Node, Awaited, Waiting, ForSection, ForMap, ForDelete, ForRound}
 use Rattle.crl_protocol.specs.World.{World, new_world, world_of, pieces_in_boxes, IsRunFrom}
 use Rattle.crl_protocol.specs.Chosen.{Running, choices}
-use Rattle.crl_protocol.specs.Ends.{holds_open, is_absent, by_holder, by_absent, blocked_while, blocked_at}
+use Rattle.crl_protocol.specs.Ends.{holds_open, is_absent, by_holder, by_absent, blocked_while}
 use Rattle.crl_deeds.proofs.Laws.{name_self}
 use Rattle.crl_lifetime.specs.Lifetime.{waits_for_map, waits_for_delete}
 use Rattle.crl_lifetime.proofs.Laws.{quiet_in_runs}
 use Rattle.crl_regions.proofs.Laws.{count_in_run}
-use Rattle.crl_rounds.specs.Standing.{RoundsStand, RoundCall, round_awaited, machine_of}
+use Rattle.crl_rounds.specs.Standing.{RoundCall, round_awaited}
 use Rattle.crl_rounds.proofs.Laws.{rounds_in_runs}
-use Rattle.crl_stuck.specs.Stuck.{IsKeptOut, IsAwaiting, IsBlocked, WaitersAreBlocked, EndsStuck}
+use Rattle.crl_stuck.specs.Stuck.{IsBlocked, WaitersAreBlocked, EndsStuck}
 use Rattle.crl_stuck.proofs.Choices.{NoChoice, no_choice, waits_unfinished}
-use Rattle.crl_stuck.proofs.Least.{Least, least_is}
+use Rattle.crl_stuck.proofs.Least.{least_is}
 use Rattle.crl_stuck.proofs.Sections.{IsHeld, held}
 
 -- the test of holders
@@ -63,7 +63,10 @@ kept_out w i name waits h =
       named = ap (λ a. blocked_while i a w) waits ∙ ap (λ o. by_holder i name o) least.found;
       own = refl;
       stands = record {
-        waits = waits; node = omega arith; other = it.other; has_open = it.has_open;
+        waits = waits;
+        node = omega arith;
+        other = it.other;
+        has_open = it.has_open;
         least = λ m l other. untested i m name (w.nodes m) (least.lesser m (omega arith) l) other;
       };
     }
@@ -77,7 +80,10 @@ awaiting w i round kind m waits few late =
       named = ap (λ a. blocked_while i a w) waits ∙ ap (λ o. by_absent i round o) least.found;
       own = refl;
       stands = record {
-        kind = kind; waits = waits; node = omega arith; not_come = ltb-true _ _ least.holds;
+        kind = kind;
+        waits = waits;
+        node = omega arith;
+        not_come = ltb-true _ _ least.holds;
         least = λ n l. ltb-false _ _ (least.lesser n (omega arith) l);
       };
     }
