@@ -71,7 +71,7 @@ moves_goes n w s c front rests f x = goes_calm n w w c front [] refl (record { c
 moves_idle : (n : ℕ) (w : World) (s : WorldStep) → Moves w s → Facts n w → ((b : Awaited) → (w.nodes n).activity ≡ Waiting b → ⊥) → (lines_of_node n s.entries ≡ []) × ((s.world.nodes n).activity ≡ (w.nodes n).activity)
 moves_idle n w s (heard_by i e p rest parcels part o few took d) f h =
     let x = idle_effect n w _ i _ _ o rest parcels (hearing n w i e p rest parcels part o few took d f.ground f.waiting)
-        (effect n i (record (w.nodes i) { inbox = rest; parcels = parcels }) _ _ o d (with_rest i (w.nodes i) p rest parcels took (f.ground.known.fits i)) (is_away i (w.nodes i) p rest part took (f.ground.known.fits i))) h in
+    (effect n i (record (w.nodes i) { inbox = rest; parcels = parcels }) _ _ o d (with_rest i (w.nodes i) p rest parcels took (f.ground.known.fits i)) (is_away i (w.nodes i) p rest part took (f.ground.known.fits i))) h in
     (x.0, lasts_as x.1 h)
 moves_idle n w s (gathers i e p rest parcels key few took keyed) f h = (refl, lasts_as (gather_calm n w i e p rest parcels key few took keyed).act h)
 moves_idle n w s (carriage i e p rest few took) f h = (refl, lasts_as (carried_calm n w i e p rest few took f.ground).act h)

@@ -74,11 +74,12 @@ known_runs n count capacity before [] w is r few size ground sided = record {
   waiting = subst (Waits n) (sym is) (waits_of n count capacity before (shorter count capacity before [] r) few);
   sided = sided;
 }
-known_runs n count capacity before (e ∷ es) w is r few size ground sided =
-    (record { few = subst (λ k. n < k) (sym size) few; ground = ground; waiting = subst (Waits n) (sym is) (waits_of n count capacity before (shorter count capacity before (e ∷ es) r) few); sided = sided },
-    may,
-    known_runs n count capacity (before ++ e ∷ []) es (step e w).world (ap (λ x. (step e x).world) is ∙ sym (world_grows (new_world count capacity) before e))
-    (subst (IsRun count capacity) (sym (append_assoc before (e ∷ []) es)) r) few (turn_count w _ (turn_of w e may) ∙ size) (ground_step w e may ground) (kept_turn Sided sided_kept w _ (turn_of w e may) ground.known.fits sided))
+known_runs n count capacity before (e ∷ es) w is r few size ground sided = (
+  record { few = subst (λ k. n < k) (sym size) few; ground = ground; waiting = subst (Waits n) (sym is) (waits_of n count capacity before (shorter count capacity before (e ∷ es) r) few); sided = sided },
+  may,
+  known_runs n count capacity (before ++ e ∷ []) es (step e w).world (ap (λ x. (step e x).world) is ∙ sym (world_grows (new_world count capacity) before e))
+      (subst (IsRun count capacity) (sym (append_assoc before (e ∷ []) es)) r) few (turn_count w _ (turn_of w e may) ∙ size) (ground_step w e may ground) (kept_turn Sided sided_kept w _ (turn_of w e may) ground.known.fits sided),
+)
   where
     may : is_enabled e w ≡ true
     may = subst (λ x. is_enabled e x ≡ true) (sym is) (run_behind (new_world count capacity) before (e ∷ es) r.enabled).0
