@@ -1,7 +1,7 @@
 -- Sums over the boxes of all nodes, as an event changes them; and the messages that stand for what a node waits for, each
 -- kind by itself.
-use Rattle.std.proofs.Common.{◌≡◌, ℕ, zero, suc, ◌+◌, ◌≤◌, ◌<◌, ◌==◌, Bool, true, false, Some, List, [], ◌∷◌, ◌++◌, if◌then◌else◌, refl, ap, sym, ◌∙◌, subst, arith}
-use Rattle.std.proofs.lemmas.Bool.{cond_both, cond-true, eqb-true, eqb-false, eq-eqb, cases_lt}
+use Rattle.std.proofs.Common.{◌≡◌, ℕ, zero, suc, ◌+◌, ◌≤◌, ◌<◌, ◌==◌, Bool, true, false, Some, List, [], ◌∷◌, if◌then◌else◌, refl, ap, ◌∙◌, arith}
+use Rattle.std.proofs.lemmas.Bool.{cond_both, eqb-true, eqb-false, eq-eqb, cases_lt}
 use Rattle.std.proofs.Math.Logic.{◌⊎◌, inl, inr}
 use Rattle.crl_model.specs.declared.name.Name.{Name}
 use Rattle.crl_model.specs.declared.event.Event.{Event}
@@ -12,8 +12,8 @@ use Rattle.crl_model.specs.declared.message.DeleteTold.TheVariants as delete_tol
 use Rattle.crl_model.specs.declared.message.Message.{Message}
 use Rattle.crl_model.specs.declared.message.Kind.{Kind}
 use Rattle.crl_model.specs.declared.message.Kind.TheVariants as kind
-use Rattle.crl_model.specs.Names.{at_node, name_eq}
-use Rattle.crl_protocol.specs.Mail.{Mail, Ask, kind_about}
+use Rattle.crl_model.specs.Names.{at_node}
+use Rattle.crl_protocol.specs.Mail.{Ask}
 use Rattle.crl_protocol.specs.Parcels.{Piece, pieces_in, PartsGathered}
 use Rattle.crl_protocol.specs.Places.{Took}
 use Rattle.crl_protocol.specs.Node.{Node, Recorded, Note, Outcome}
