@@ -1,10 +1,10 @@
--- A node's calls stand once in the account, in order, with their answers: what is known of every world of a run.
+-- What is known of every world of a run for a node, and so: its calls stand once in the account, in order, with their answers.
 use Rattle.std.proofs.Common.{◌≡◌, ℕ, ◌≤◌, ◌<◌, true, List, [], ◌∷◌, ◌++◌, length, refl, ap, sym, ◌∙◌, subst, append_assoc, arith}
 use Rattle.crl_model.specs.declared.event.Event.{Event}
-use Rattle.crl_protocol.specs.Talk.{talk, AreLinesOf, lines_of_node}
-use Rattle.crl_protocol.specs.World.{World, new_world, step, is_enabled, IsRunFrom, IsRun, world_of, world_after, account}
+use Rattle.crl_protocol.specs.World.{World, new_world, step, is_enabled, IsRunFrom, IsRun, world_of, world_after}
 use Rattle.crl_deeds.specs.Tokens.{map_token}
 use Rattle.crl_deeds.proofs.Laws.{turn_of, turn_count, kept_turn, who_maps_has_one, who_deletes_has_one, boxed_sum}
+use Rattle.crl_talk.specs.Calls.{CallsStandOnce}
 use Rattle.crl_talk.proofs.Heard.{Ground, ground_start, ground_step}
 use Rattle.crl_talk.proofs.Pending.{Waits}
 use Rattle.crl_talk.proofs.Sides.{Sided, sided_kept, sided_start}
@@ -55,6 +55,7 @@ known_runs n count capacity before (e ∷ es) w is r few size ground sided = (
     may : is_enabled e w ≡ true
     may = subst (λ x. is_enabled e x ≡ true) (sym is) (run_behind (new_world count capacity) before (e ∷ es) r.enabled).0
 
-pub calls_stand : (count capacity : ℕ) (run : List Event) → IsRun count capacity run → (n : ℕ) → n < count → AreLinesOf n (talk n (new_world count capacity) run) (lines_of_node n (account count capacity run))
+pub calls_stand : (count capacity : ℕ) (run : List Event) → IsRun count capacity run → (n : ℕ) → n < count → CallsStandOnce n count capacity run
 calls_stand count capacity run r n few =
-    (rests_of n run (new_world count capacity) (known_runs n count capacity [] run (new_world count capacity) refl r few refl (ground_start count capacity) (λ i. sided_start i))).free refl
+    let known = known_runs n count capacity [] run (new_world count capacity) refl r few refl (ground_start count capacity) (λ i. sided_start i) in
+    record { lines = (rests_of n run (new_world count capacity) known).free refl }
