@@ -178,21 +178,18 @@ token_of _ n q from to _ = 0
 abbrev pub token : Token → ℕ → Name → Message → ℕ
 token k n q m = token_of k n q m.sender m.addressee m.kind
 
-no_mail : (k : Token) (n : ℕ) (q : Name) → NoMail (token k n q)
-no_mail MapAsk n q from to name (Ask write have) = refl
-no_mail MapAsk n q from to name _ = refl
-no_mail (MapIs t) n q from to name (Ask write have) = refl
-no_mail (MapIs t) n q from to name _ = refl
-no_mail DeleteAsk n q from to name (Ask write have) = refl
-no_mail DeleteAsk n q from to name _ = refl
-no_mail (DeleteIs d) n q from to name (Ask write have) = refl
-no_mail (DeleteIs d) n q from to name _ = refl
-
 pub token_mail : (k : Token) (n : ℕ) (q : Name) → NoMail (token k n q)
-token_mail = no_mail
+token_mail MapAsk n q from to name (Ask write have) = refl
+token_mail MapAsk n q from to name _ = refl
+token_mail (MapIs t) n q from to name (Ask write have) = refl
+token_mail (MapIs t) n q from to name _ = refl
+token_mail DeleteAsk n q from to name (Ask write have) = refl
+token_mail DeleteAsk n q from to name _ = refl
+token_mail (DeleteIs d) n q from to name (Ask write have) = refl
+token_mail (DeleteIs d) n q from to name _ = refl
 
 pub token_whole : (k : Token) (n : ℕ) (q : Name) → Whole (token k n q)
-token_whole k n q m = whole_of (token k n q) (no_mail k n q) m.sender m.addressee m.kind
+token_whole k n q m = whole_of (token k n q) (token_mail k n q) m.sender m.addressee m.kind
 
 -- a token under way goes to a node of the world
 pub token_near : (k : Token) (n : ℕ) (q : Name) (count from to : ℕ) (x : Kind) → PlainKind count from to x → (token_of k n q from to x ≡ 0) ⊎ (to < count)
