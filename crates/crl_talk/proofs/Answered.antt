@@ -1,5 +1,5 @@
 -- A call of a node: it is answered with its lines, or the node waits with those that stand at once.
-use Rattle.std.proofs.Common.{◌≡◌, ℕ, ◌+◌, ◌==◌, Bool, true, false, None, Some, Option, List, [], ◌∷◌, if◌then◌else◌, refl, ap, sym, ◌∙◌, subst}
+use Rattle.std.proofs.Common.{◌≡◌, ℕ, ◌+◌, ◌==◌, Bool, true, false, None, Some, Option, List, [], ◌∷◌, refl, ap, sym, ◌∙◌, subst}
 use Rattle.std.proofs.lemmas.Bool.{cond_both, eq-eqb}
 use Rattle.crl_model.specs.declared.name.Name.{Name}
 use Rattle.crl_model.specs.declared.stage.Stage.TheVariants as stage
@@ -21,10 +21,10 @@ use Rattle.crl_protocol.specs.Home.{Home, HomeStep}
 use Rattle.crl_protocol.specs.Remote.{Remote, RemoteStep}
 use Rattle.crl_protocol.specs.Lifetimes.{Mapping}
 use Rattle.crl_protocol.specs.Sections.{Guard}
-use Rattle.crl_protocol.specs.Node.{Node, Answer, Done, Refused, Wait, Activity, Free, Waiting, ForSection, ForMap, ForDelete, ForRound, Outcome, guard_answer, is_mine, home_of, lifetime_of, map_count, message_to}
-use Rattle.crl_protocol.specs.Calls.{answer_of, result_of, node_calls, call_or_refuse}
-use Rattle.crl_protocol.specs.Talk.{lines_of_node, IsPlaceOf, AreRefused, AreRound, AreLines}
-use Rattle.crl_protocol.specs.Verdict.{refuse_if, of_part, word_of, place_of, verdict, uses_serial, after_refusal, refuses_call}
+use Rattle.crl_protocol.specs.Node.{Node, Done, Refused, Wait, Free, Waiting, ForSection, ForMap, ForDelete, ForRound, Outcome, guard_answer, is_mine, home_of, lifetime_of, map_count, message_to}
+use Rattle.crl_protocol.specs.Calls.{answer_of, node_calls, call_or_refuse}
+use Rattle.crl_protocol.specs.Talk.{lines_of_node, AreRound, AreLines}
+use Rattle.crl_protocol.specs.Verdict.{refuse_if, of_part, word_of, place_of, verdict, after_refusal, refuses_call}
 use Rattle.crl_protocol.specs.World.{is_call}
 use Rattle.crl_deeds.specs.Deeds.{Calls, StartsCall, EndsCall, IsNowhere, Idles, Copies, Lives, Rounds, Notes, Deed}
 use Rattle.crl_deeds.specs.NodeFacts.{OwnFits, seen, MappedHere, Fits}

@@ -1,6 +1,6 @@
 -- What a node that waits for a section has asked for: to read or to write.
-use Rattle.std.proofs.Common.{◌≡◌, ℕ, ◌+◌, ◌==◌, Bool, true, false, not, ◌&&◌, None, Some, Option, List, [], ◌∷◌, ◌++◌, if◌then◌else◌, refl, ap, sym, ◌∙◌, subst}
-use Rattle.std.proofs.lemmas.Bool.{cond_both, cond-true, cond-false, and_parts}
+use Rattle.std.proofs.Common.{◌≡◌, ℕ, ◌==◌, Bool, true, false, not, ◌&&◌, None, Some, Option, List, [], ◌∷◌, ◌++◌, if◌then◌else◌, refl, ap, sym, ◌∙◌, subst}
+use Rattle.std.proofs.lemmas.Bool.{cond_both, cond-true}
 use Rattle.std.proofs.Math.Logic.{◌⊎◌, inl, inr}
 use Rattle.std.specs.List.{AllByRecursion}
 use Rattle.crl_model.specs.declared.name.Name.{Name}
@@ -11,10 +11,10 @@ use Rattle.crl_model.specs.declared.message.Granted.TheVariants.{Shared, Exclusi
 use Rattle.crl_model.specs.declared.message.Kind.{Kind}
 use Rattle.crl_model.specs.Names.{name_eq}
 use Rattle.crl_protocol.specs.Places.{at}
-use Rattle.crl_protocol.specs.Home.{Home, HomeStep, is_servable, open_own, grant_next, grant_for, opens_own_section, posts_first, serve, with_marks, recalls_and_yields, home_takes_ask, bytes_after, home_takes_return, is_to_lower, home_takes_release, own_ask, is_empty, is_reading, home_starts}
+use Rattle.crl_protocol.specs.Home.{Home, HomeStep, is_servable, open_own, grant_next, grant_for, opens_own_section, posts_first, serve, with_marks, recalls_and_yields, home_takes_ask, home_takes_return, is_to_lower, home_takes_release, own_ask, is_empty, is_reading, home_starts}
 use Rattle.crl_protocol.specs.Remote.{Copy, Remote, RemoteStep, remote_starts, starts_over, remote_takes_grant, grant_fits, asks_to_write, asks_to_read}
 use Rattle.crl_protocol.specs.Sections.{is_writing}
-use Rattle.crl_protocol.specs.Node.{Node, Activity, Free, Waiting, ForSection, ForMap, Outcome, home_of, with_home, with_remote}
+use Rattle.crl_protocol.specs.Node.{Node, Activity, Free, Waiting, ForSection, Outcome, home_of, with_home, with_remote}
 use Rattle.crl_deeds.specs.Deeds.{Hears, Serves, CallsBack, Copies, Lives, Rounds, Deed}
 use Rattle.crl_deeds.specs.NodeFacts.{NoOwn, CopyFits, IsAway, Fits}
 use Rattle.crl_deeds.proofs.Laws.{same_name, name_self, all_append, home_put, queue_of, asking_of, recalled_goes, yields_goes, remote_bytes}

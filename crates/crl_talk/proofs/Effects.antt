@@ -1,6 +1,6 @@
 -- What a deed that is no call of node n does for its talk: which lines of n it records, whom it tells, and how long n waits.
-use Rattle.std.proofs.Common.{◌≡◌, ℕ, ◌+◌, ◌==◌, Bool, true, false, None, Some, Option, List, [], ◌∷◌, if◌then◌else◌, refl, ap, sym, ◌∙◌, arith}
-use Rattle.std.proofs.lemmas.Bool.{cond_both, cond-true, cond-false, eqb-true, eq-eqb}
+use Rattle.std.proofs.Common.{◌≡◌, ℕ, ◌+◌, ◌==◌, Bool, true, false, List, [], ◌∷◌, if◌then◌else◌, refl, ap, sym, ◌∙◌, arith}
+use Rattle.std.proofs.lemmas.Bool.{cond-true, cond-false, eqb-true, eq-eqb}
 use Rattle.crl_model.specs.declared.name.Name.{Name}
 use Rattle.crl_model.specs.declared.stage.Stage.{Stage}
 use Rattle.crl_model.specs.declared.stage.Stage.TheVariants as stage
@@ -10,7 +10,6 @@ use Rattle.crl_model.specs.declared.call.CallKind.TheVariants as word
 use Rattle.crl_model.specs.declared.call.Refusal.{Refusal}
 use Rattle.crl_model.specs.declared.call.Refusal.TheVariants as refusal
 use Rattle.crl_model.specs.declared.collective.Fold.{Fold}
-use Rattle.crl_model.specs.declared.entry.Entry.{Entry}
 use Rattle.crl_model.specs.declared.entry.Place.TheVariants.{Region}
 use Rattle.crl_model.specs.declared.entry.What.{What}
 use Rattle.crl_model.specs.declared.entry.What.TheVariants as what
@@ -32,8 +31,7 @@ use Rattle.crl_protocol.specs.Handlers.{delete_answer, purges_waiting}
 use Rattle.crl_protocol.specs.Talk.{lines_of_node}
 use Rattle.crl_deeds.specs.Counts.{NoneYet}
 use Rattle.crl_deeds.specs.Deeds.{Cause, Calls, Hears, Unfit, Serves, CallsBack, Copies, Lives, Rounds, Notes, Idles, Deed}
-use Rattle.crl_deeds.specs.NodeFacts.{IsAway, Leaves, Fits}
-use Rattle.crl_deeds.specs.Turns.{Came}
+use Rattle.crl_deeds.specs.NodeFacts.{IsAway, Fits}
 use Rattle.crl_deeds.proofs.Laws.{same_name, name_self, lifetime_put, going_own, own_waits, grant_waits}
 use Rattle.crl_deeds.specs.Deeds as deed
 use Rattle.crl_talk.proofs.Asking.{AskedAs, granted_as, served_own_as}

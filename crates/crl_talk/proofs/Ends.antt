@@ -1,21 +1,19 @@
 -- What a node enters where it ends a section: the bytes of the guard.
-use Rattle.std.proofs.Common.{◌≡◌, ℕ, true, false, None, Some, Option, List, [], ◌∷◌, ◌++◌, refl, ap, sym, ◌∙◌, subst}
+use Rattle.std.proofs.Common.{◌≡◌, ℕ, true, false, Some, Option, List, [], ◌∷◌, ◌++◌, refl, ap, ◌∙◌, subst}
 use Rattle.crl_model.specs.declared.name.Name.{Name}
 use Rattle.crl_model.specs.declared.call.Call.{Call}
 use Rattle.crl_model.specs.declared.call.Call.TheVariants as call
-use Rattle.crl_model.specs.declared.call.Refusal.{Refusal}
 use Rattle.crl_model.specs.declared.directory.Section.TheVariants as section
 use Rattle.crl_model.specs.declared.entry.What.TheVariants as what
 use Rattle.crl_model.specs.declared.event.Event.{Event}
 use Rattle.crl_model.specs.declared.event.Event.TheVariants as event
 use Rattle.crl_protocol.specs.Sections.{OpenSection, section_bytes, bytes_at}
-use Rattle.crl_protocol.specs.Node.{Free, entry_of}
+use Rattle.crl_protocol.specs.Node.{entry_of}
 use Rattle.crl_protocol.specs.Talk.{Heard, hears}
-use Rattle.crl_protocol.specs.Verdict.{verdict}
 use Rattle.crl_protocol.specs.World.{World, new_world, is_enabled, IsRunFrom, world_of}
-use Rattle.crl_deeds.specs.Entries.{entries_of_call, entries_at}
+use Rattle.crl_deeds.specs.Entries.{entries_of_call}
 use Rattle.crl_talk.specs.Guards.{Given, given_yet, guards_held, AreGuards, closed, writing, reading, nested, SectionsAreGuards, bytes_held, EndsShowGuards}
-use Rattle.crl_talk.proofs.Heard.{Ground, may_call, ground_start, ground_run, sections_are_guards}
+use Rattle.crl_talk.proofs.Heard.{may_call, ground_start, ground_run, sections_are_guards}
 
 -- without a guard no section is open
 none_open : (n count number : ℕ) (bytes : List ℕ) {A : Type 0} → AreGuards n [] (Some (record { section = section.Reading count; number = number; bytes = bytes })) → A

@@ -1,5 +1,5 @@
 -- A message that a node hears, as it moves the call for which node n waits.
-use Rattle.std.proofs.Common.{◌≡◌, ℕ, ◌+◌, ◌≤◌, ◌<◌, ◌==◌, Bool, true, false, List, [], ◌∷◌, ◌++◌, if◌then◌else◌, refl, ap, sym, ◌∙◌, subst, arith}
+use Rattle.std.proofs.Common.{◌≡◌, ℕ, ◌+◌, ◌<◌, ◌==◌, Bool, true, false, List, [], ◌∷◌, ◌++◌, if◌then◌else◌, refl, ap, sym, ◌∙◌, subst, arith}
 use Rattle.std.proofs.lemmas.Bool.{cond-true, eqb-true, eq-eqb}
 use Rattle.crl_model.specs.declared.name.Name.{Name}
 use Rattle.crl_model.specs.declared.stage.Stage.TheVariants as stage
@@ -22,19 +22,19 @@ use Rattle.crl_model.specs.Calls.{kind_of}
 use Rattle.crl_protocol.specs.Parcels.{Piece, PartsGathered}
 use Rattle.crl_protocol.specs.Lifetimes.{Lifetime}
 use Rattle.crl_protocol.specs.Sections.{Guard}
-use Rattle.crl_protocol.specs.Node.{Node, Activity, Done, Waiting, Ready, ForSection, ForMap, ForDelete, ForRound, Awaited, Outcome, guard_answer, is_mine, lifetime_of, message_to}
+use Rattle.crl_protocol.specs.Node.{Node, Activity, Done, Waiting, Ready, ForSection, ForMap, ForDelete, ForRound, Awaited, Outcome, guard_answer, lifetime_of, message_to}
 use Rattle.crl_protocol.specs.Calls.{answer_of, result_of}
 use Rattle.crl_protocol.specs.Handlers.{delete_answer}
 use Rattle.crl_protocol.specs.Talk.{lines_of_node, AreLines}
 use Rattle.crl_protocol.specs.World.{World}
 use Rattle.crl_deeds.specs.Deeds.{Hears, StartsCall}
-use Rattle.crl_deeds.specs.Tokens.{weigh, of_name, map_token_kind, delete_token_kind}
-use Rattle.crl_deeds.proofs.Laws.{name_self, append_nil}
+use Rattle.crl_deeds.specs.Tokens.{weigh, of_name}
+use Rattle.crl_deeds.proofs.Laws.{append_nil}
 use Rattle.crl_deeds.specs.Deeds as deed
 use Rattle.crl_talk.proofs.Asking.{AskedAs}
 use Rattle.crl_talk.proofs.Effects.{map_lines, map_answer, delete_lines, start_line, KeepsGoing, Lasts, QuietFor, Effect, quiet, tells_map, tells_delete, begins, ends, opens, gets_map, gets_delete, ends_own, gets_round}
-use Rattle.crl_talk.proofs.Pending.{MapFront, map_asked, map_answered, DeleteFront, delete_asked, delete_answered, under_way, Pending, for_section, for_map, for_delete, going, for_round, Goes, waits, ready, Waits, Wants, Calm, goes_calm, Hearing, map_alone, delete_alone, going_alone, going_beside, asker_maps, asker_deletes, deleter_waits, quiet_token, one_name, map_same, lasts_map, lasts_delete}
-use Rattle.crl_talk.proofs.Weights.{Token, MapAsk, MapIs, DeleteAsk, DeleteIs, same_told, same_delete, told_is, told_self, delete_is, delete_self, token_of, token, token_mail, token_whole}
+use Rattle.crl_talk.proofs.Pending.{map_asked, map_answered, delete_asked, delete_answered, Pending, for_section, for_map, for_delete, going, for_round, Goes, waits, ready, Waits, Wants, Calm, goes_calm, Hearing, map_alone, delete_alone, going_alone, going_beside, asker_maps, asker_deletes, deleter_waits, quiet_token, one_name, map_same, lasts_map, lasts_delete}
+use Rattle.crl_talk.proofs.Weights.{MapAsk, MapIs, DeleteAsk, DeleteIs, same_told, same_delete, told_is, told_self, delete_is, delete_self, token, token_mail, token_whole}
 
 -- The lines of an answer.
 pub map_are : (n : ℕ) (q : Name) (t : Told) → AreLines n (call.Map q) (map_answer q t) (map_lines q t)

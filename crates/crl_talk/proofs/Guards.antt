@@ -1,5 +1,5 @@
 -- The sections that are open at a node are those of its guards: after every deed.
-use Rattle.std.proofs.Common.{◌≡◌, ℕ, zero, suc, ◌+◌, ◌-◌, ◌≤◌, ◌==◌, ◌&&◌, Bool, true, false, None, Some, Option, List, [], ◌∷◌, ◌++◌, if◌then◌else◌, refl, ap, sym, ◌∙◌, subst, arith}
+use Rattle.std.proofs.Common.{◌≡◌, ℕ, ◌+◌, ◌-◌, ◌==◌, ◌&&◌, Bool, true, false, None, Some, Option, List, [], ◌∷◌, ◌++◌, if◌then◌else◌, refl, ap, sym, ◌∙◌, subst, arith}
 use Rattle.std.proofs.lemmas.Bool.{cond_both, eqb-true}
 use Rattle.crl_model.specs.declared.name.Name.{Name}
 use Rattle.crl_model.specs.declared.call.Call.{Call}
@@ -22,15 +22,14 @@ use Rattle.crl_protocol.specs.Node.{Node, Answer, Activity, Done, Wait, Free, Wa
 use Rattle.crl_protocol.specs.Sectioning.{closes}
 use Rattle.crl_protocol.specs.Calls.{answer_of}
 use Rattle.crl_protocol.specs.Handlers.{delete_answer, purges_waiting}
-use Rattle.crl_protocol.specs.Talk.{Heard, Called}
+use Rattle.crl_protocol.specs.Talk.{Called}
 use Rattle.crl_deeds.specs.Deeds.{Cause, Calls, Hears, FreeIf, opened_at, StartsCall, EndsCall, CanStart, CanEnd, Copies, Lives, Rounds, Notes, Idles, Deed}
 use Rattle.crl_deeds.specs.NodeFacts.{IsAway, Fits}
 use Rattle.crl_deeds.specs.Counts.{AwaitsSection, SectionsFit}
-use Rattle.crl_deeds.specs.Turns.{Came}
 use Rattle.crl_deeds.proofs.Laws.{same_name, by_name, going_own, own_waits, grant_waits, write_starts_closed, read_starts_below}
 use Rattle.crl_deeds.specs.Deeds as deed
-use Rattle.crl_talk.specs.Guards.{Given, given_of, given_yet, ends_section, is_done, without_newest, held_after, AreGuards, closed, writing, reading, nested}
-use Rattle.crl_talk.proofs.Asking.{AskedAs, hears_as, home_waits_as, side_waits_as, granted_as, served_own_as}
+use Rattle.crl_talk.specs.Guards.{Given, given_of, given_yet, is_done, without_newest, held_after, AreGuards, closed, writing, reading, nested}
+use Rattle.crl_talk.proofs.Asking.{AskedAs, home_waits_as, side_waits_as, granted_as, served_own_as}
 
 -- A section that ends is that of the newest guard.
 abbrev after_end : Option OpenSection → Option OpenSection

@@ -1,28 +1,26 @@
 -- The sections that are open at a node are those of its guards: in every run.
 use Rattle.std.proofs.Common.{◌≡◌, ℕ, ◌<◌, ◌==◌, Bool, true, false, List, [], ◌∷◌, ◌++◌, if◌then◌else◌, refl, ap, sym, ◌∙◌, subst}
-use Rattle.std.proofs.lemmas.Bool.{cond_both, cond-true, cond-false, and_parts, eqb-true, ltb-true}
+use Rattle.std.proofs.lemmas.Bool.{and_parts, eqb-true, ltb-true}
 use Rattle.crl_model.specs.declared.name.Name.{Name}
 use Rattle.crl_model.specs.declared.call.Call.{Call}
-use Rattle.crl_model.specs.declared.directory.Section.TheVariants as section
 use Rattle.crl_model.specs.declared.event.Event.{Event}
 use Rattle.crl_model.specs.declared.event.Event.TheVariants as event
-use Rattle.crl_model.specs.declared.message.Message.{Message}
 use Rattle.crl_protocol.specs.Parcels.{Piece, with_load, PartsGathered}
 use Rattle.crl_protocol.specs.Places.{Took}
 use Rattle.crl_protocol.specs.Sections.{section_at}
-use Rattle.crl_protocol.specs.Node.{Node, Answer, Activity, Free, Waiting, Ready, ForSection, Outcome}
+use Rattle.crl_protocol.specs.Node.{Node, Activity, Free, Waiting, Ready, Outcome}
 use Rattle.crl_protocol.specs.Calls.{node_calls}
 use Rattle.crl_protocol.specs.Talk.{Heard, Called, Collected, hears_of, hears}
 use Rattle.crl_protocol.specs.Verdict.{verdict}
 use Rattle.crl_protocol.specs.World.{World, WorldStep, new_world, step, is_enabled, is_free, is_ready, collects, noted_call, commits, IsRunFrom, world_after, world_of}
-use Rattle.crl_deeds.specs.Counts.{Known, SectionsFit}
+use Rattle.crl_deeds.specs.Counts.{Known}
 use Rattle.crl_deeds.specs.Deeds.{Cause, Calls, Hears, FreeIf, Deed}
 use Rattle.crl_deeds.specs.NodeFacts.{ComesIn, IsAway, Leaves, Fits}
 use Rattle.crl_deeds.specs.Turns.{Came, Kept}
-use Rattle.crl_deeds.proofs.Laws.{call_deed, deed_frame, turn_of, all_took, each_at, away_load, kept_turn, known_start, known_step}
+use Rattle.crl_deeds.proofs.Laws.{call_deed, deed_frame, turn_of, all_took, away_load, kept_turn, known_start, known_step}
 use Rattle.crl_talk.specs.Guards.{Given, given_of, given_yet, held_after, guards_held, AreGuards, SectionsAreGuards}
 use Rattle.crl_talk.specs.Guards as guards
-use Rattle.crl_talk.proofs.Asking.{AskedAs, hears_as}
+use Rattle.crl_talk.proofs.Asking.{hears_as}
 use Rattle.crl_talk.proofs.Guards.{Asks, Yet, Holds, hear_held, hear_back, call_held, call_yet, call_begins, can_open}
 use Rattle.crl_talk.proofs.Moves.{Moves, each_moved, handle_moves, carry_moves}
 

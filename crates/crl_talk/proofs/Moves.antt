@@ -1,5 +1,5 @@
 -- What an event does that is neither a call nor an answer taken: a piece comes, or is carried.
-use Rattle.std.proofs.Common.{◌≡◌, ℕ, ◌<◌, ◌==◌, ◌&&◌, true, None, Some, Option, List, [], refl, sym, subst}
+use Rattle.std.proofs.Common.{◌≡◌, ℕ, ◌<◌, ◌&&◌, true, None, Some, Option, List, refl, sym, subst}
 use Rattle.std.proofs.lemmas.Bool.{cond_both, and_parts, ltb-true}
 use Rattle.crl_model.specs.declared.event.Event.{Event}
 use Rattle.crl_model.specs.declared.event.Event.TheVariants as event
@@ -13,7 +13,7 @@ use Rattle.crl_protocol.specs.Receiving.{size_for, slots_with, gathers_piece, re
 use Rattle.crl_protocol.specs.Places.{Took, Taken, take_out}
 use Rattle.crl_protocol.specs.Node.{Node, Recorded, Note, Done, Outcome, only}
 use Rattle.crl_protocol.specs.Handlers.{node_handles}
-use Rattle.crl_protocol.specs.World.{World, WorldStep, note, put_in, carries, steps_node, stays, handles_at, step, is_enabled}
+use Rattle.crl_protocol.specs.World.{World, WorldStep, note, carries, steps_node, stays, handles_at, step, is_enabled}
 use Rattle.crl_deeds.specs.Deeds.{Hears, Deed}
 use Rattle.crl_deeds.proofs.Laws.{message_deed, took_at, each_at}
 

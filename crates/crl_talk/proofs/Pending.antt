@@ -1,6 +1,6 @@
 -- The call for which a node waits: which of its lines stand already, by what is under way.
-use Rattle.std.proofs.Common.{◌≡◌, ℕ, ◌+◌, ◌≤◌, ◌<◌, ◌==◌, Bool, true, false, None, Some, Option, List, [], ◌∷◌, ◌++◌, if◌then◌else◌, refl, ap, sym, ◌∙◌, subst, arith}
-use Rattle.std.proofs.lemmas.Bool.{cond_both, cond-true, cond-false, eqb-true, eq-eqb}
+use Rattle.std.proofs.Common.{◌≡◌, ℕ, ◌+◌, ◌≤◌, ◌<◌, ◌==◌, Bool, true, false, List, [], ◌∷◌, ◌++◌, if◌then◌else◌, refl, ap, sym, ◌∙◌, subst, arith}
+use Rattle.std.proofs.lemmas.Bool.{cond-true, cond-false, eqb-true, eq-eqb}
 use Rattle.crl_model.specs.declared.name.Name.{Name}
 use Rattle.crl_model.specs.declared.stage.Stage.{Stage}
 use Rattle.crl_model.specs.declared.stage.Stage.TheVariants as stage
@@ -8,34 +8,25 @@ use Rattle.crl_model.specs.declared.call.Call.{Call}
 use Rattle.crl_model.specs.declared.call.Call.TheVariants as call
 use Rattle.crl_model.specs.declared.call.CallKind.{CallKind}
 use Rattle.crl_model.specs.declared.collective.Part.{Part}
-use Rattle.crl_model.specs.declared.collective.Fold.{Fold}
-use Rattle.crl_model.specs.declared.collective.Fold.TheVariants.{Mixed}
-use Rattle.crl_model.specs.declared.entry.Place.TheVariants.{Region}
 use Rattle.crl_model.specs.declared.entry.What.{What}
 use Rattle.crl_model.specs.declared.entry.What.TheVariants as what
 use Rattle.crl_model.specs.declared.message.Told.{Told}
-use Rattle.crl_model.specs.declared.message.Told.TheVariants as told
 use Rattle.crl_model.specs.declared.message.DeleteTold.{DeleteTold}
-use Rattle.crl_model.specs.declared.message.DeleteTold.TheVariants as delete_told
 use Rattle.crl_model.specs.declared.message.Message.{Message}
 use Rattle.crl_model.specs.declared.message.Kind.{Kind}
 use Rattle.crl_model.specs.declared.message.Kind.TheVariants as kind
 use Rattle.crl_model.specs.Calls.{kind_of}
 use Rattle.crl_model.specs.Names.{name_eq}
-use Rattle.crl_protocol.specs.Mail.{Mail, Ask, kind_about}
-use Rattle.crl_protocol.specs.Sections.{Guard}
-use Rattle.crl_protocol.specs.Node.{Node, Answer, Done, Activity, Waiting, Ready, ForSection, ForMap, ForDelete, ForRound, Outcome, guard_answer, is_mine, lifetime_of, message_to}
-use Rattle.crl_protocol.specs.Calls.{answer_of, result_of}
-use Rattle.crl_protocol.specs.Handlers.{delete_answer}
-use Rattle.crl_protocol.specs.Talk.{lines_of_node, AreLines}
+use Rattle.crl_protocol.specs.Mail.{Ask}
+use Rattle.crl_protocol.specs.Node.{Node, Answer, Activity, Waiting, Ready, ForSection, ForMap, ForDelete, ForRound, Outcome, lifetime_of}
+use Rattle.crl_protocol.specs.Talk.{AreLines}
 use Rattle.crl_protocol.specs.World.{World}
 use Rattle.crl_deeds.specs.Deeds.{Hears, StartsCall}
 use Rattle.crl_deeds.specs.Tokens.{sum, weigh, Whole, load, NoMail, of_name, map_token, map_token_kind, waits_map, delete_token, delete_token_kind, waits_delete, deletes_for_node, deleting}
 use Rattle.crl_deeds.proofs.Laws.{same_name, name_self, append_nil}
-use Rattle.crl_deeds.specs.Deeds as deed
 use Rattle.crl_talk.proofs.Asking.{AskedAs}
-use Rattle.crl_talk.proofs.Effects.{map_lines, map_answer, delete_lines, start_line, KeepsGoing, Lasts, same, marked, QuietFor, Effect, quiet, tells_map, tells_delete, begins, ends, opens, gets_map, gets_delete, ends_own, gets_round}
-use Rattle.crl_talk.proofs.Weights.{sum_gap, table_le, nothing, BlindLoad, Token, MapAsk, MapIs, DeleteAsk, DeleteIs, told_is, told_self, delete_is, delete_self, same_told, same_delete, token_of, token, token_mail, token_whole, ask_le_map, is_le_map, ask_le_delete, is_le_delete}
+use Rattle.crl_talk.proofs.Effects.{map_lines, delete_lines, Lasts, same, marked, QuietFor}
+use Rattle.crl_talk.proofs.Weights.{sum_gap, table_le, nothing, BlindLoad, Token, MapAsk, MapIs, DeleteAsk, DeleteIs, same_told, same_delete, token_of, token, token_mail, ask_le_map, is_le_map, ask_le_delete, is_le_delete}
 
 -- Of a map and of a delete: the message under way, and the lines that stand with it.
 pub data MapFront (q : Name) : Token → List What → Type 0 where

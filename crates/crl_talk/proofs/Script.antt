@@ -1,6 +1,6 @@
 -- A run that follows a script makes the calls of its statements.
 use Rattle.std.proofs.Common.{◌≡◌, ℕ, ◌==◌, ◌&&◌, Bool, true, false, None, Some, Option, if◌then◌else◌, List, [], ◌∷◌, ◌++◌, length, refl, ap, sym, ◌∙◌, subst}
-use Rattle.std.proofs.lemmas.Bool.{cond-true, cond-false, eqb-true, eq-eqb, and_parts}
+use Rattle.std.proofs.lemmas.Bool.{cond-true, cond-false, eqb-true, eq-eqb}
 use Rattle.crl_model.specs.declared.name.Name.{Name}
 use Rattle.crl_model.specs.declared.call.Call.{Call}
 use Rattle.crl_model.specs.declared.call.Call.TheVariants as call
@@ -10,11 +10,11 @@ use Rattle.crl_model.specs.declared.event.Event.TheVariants as event
 use Rattle.crl_model.specs.declared.statement.Statement.{Statement}
 use Rattle.crl_model.specs.declared.statement.Statement.TheVariants as statement
 use Rattle.crl_model.specs.Names.{at_node}
-use Rattle.crl_protocol.specs.Node.{Node, Answer, Writing, Made, Mapped, Reading, Done, Came, Refused, Wait, Free}
+use Rattle.crl_protocol.specs.Node.{Node, Answer, Writing}
 use Rattle.crl_protocol.specs.Verdict.{verdict}
 use Rattle.crl_protocol.specs.World.{World, WorldStep, step}
-use Rattle.crl_protocol.specs.Chosen.{Actor, new_actor, block_of, Running, running, call_of, call_with, draft_of, after_change, is_change, is_allowed, takes_guard, goes_on, with_actor}
-use Rattle.crl_deeds.specs.Laws.{IsNext, past_statement, next_call, is_inside, node_of, is_call_event, Follows, ended, changes, calls, happens}
+use Rattle.crl_protocol.specs.Chosen.{Actor, block_of, Running, running, call_of, call_with, draft_of, after_change, is_change, is_allowed, takes_guard}
+use Rattle.crl_deeds.specs.Laws.{IsNext, next_call, is_inside, node_of, is_call_event, Follows, ended, changes, calls, happens}
 use Rattle.crl_talk.specs.Script.{Drafts, no_drafts, drafts_given, Changes, puts, adds, IsPlain, CallsFor, plain, leaves, cant_leave, cant_change, calls_at, CallsAre, CallsAreThose}
 use Rattle.crl_talk.specs.Script as script
 

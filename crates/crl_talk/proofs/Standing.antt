@@ -1,43 +1,14 @@
--- A node's calls stand once in the account, in order, with their answers: what is known of every world of a run.
-use Rattle.std.proofs.Common.{◌≡◌, ◌⊎◌, inl, inr, ℕ, ◌+◌, ◌^◌, ◌≤◌, ◌<◌, ◌==◌, Bool, true, false, None, Some, Option, List, [], ◌∷◌, ◌++◌, length, if◌then◌else◌, refl, ap, sym, ◌∙◌, subst, append_assoc, arith}
-use Rattle.std.proofs.lemmas.Bool.{cond_both, cond-true, cond-false, eqb-true, eq-eqb, ltb-true, and_parts}
-use Rattle.crl_model.specs.declared.name.Name.{Name}
-use Rattle.crl_model.specs.declared.stage.Stage.TheVariants as stage
-use Rattle.crl_model.specs.declared.call.Call.{Call}
-use Rattle.crl_model.specs.declared.call.Call.TheVariants as call
-use Rattle.crl_model.specs.declared.call.Refusal.TheVariants as refusal
-use Rattle.crl_model.specs.declared.collective.Fold.TheVariants.{Mixed}
-use Rattle.crl_model.specs.declared.entry.Entry.{Entry}
-use Rattle.crl_model.specs.declared.entry.Place.TheVariants.{Round}
-use Rattle.crl_model.specs.declared.entry.What.{What}
-use Rattle.crl_model.specs.declared.entry.What.TheVariants as what
+-- What is known of every world of a run for a node, and so: its calls stand once in the account, in order, with their answers.
+use Rattle.std.proofs.Common.{◌≡◌, ℕ, ◌≤◌, ◌<◌, true, List, [], ◌∷◌, ◌++◌, length, refl, ap, sym, ◌∙◌, subst, append_assoc, arith}
 use Rattle.crl_model.specs.declared.event.Event.{Event}
-use Rattle.crl_model.specs.declared.event.Event.TheVariants as event
-use Rattle.crl_model.specs.declared.message.Told.TheVariants as told
-use Rattle.crl_model.specs.declared.message.DeleteTold.TheVariants as delete_told
-use Rattle.crl_model.specs.declared.message.Kind.TheVariants as kind
-use Rattle.crl_model.specs.Calls.{kind_of}
-use Rattle.crl_protocol.specs.Sections.{Guard}
-use Rattle.crl_protocol.specs.Node.{Node, Answer, Made, Mapped, Reading, Writing, Done, Came, Refused, Wait, Activity, Free, Waiting, Ready, Awaited, Outcome, guard_answer, lifetime_of, message_to}
-use Rattle.crl_protocol.specs.Calls.{node_calls, answer_of, result_of}
-use Rattle.crl_protocol.specs.Handlers.{delete_answer}
-use Rattle.crl_protocol.specs.Talk.{Heard, Called, Collected, hears_of, hears, ToldCall, next_collected, answer_to, calls_told, talk, AreLines, ArePart, AreLinesOf, nothing as none_called, answered as one_answered, waiting as one_waits, lines_of_node}
-use Rattle.crl_protocol.specs.Verdict.{verdict}
-use Rattle.crl_protocol.specs.World.{World, WorldStep, new_world, step, is_enabled, is_ready, is_call, collects, noted_call, commits, steps_node, IsRunFrom, IsRun, world_of, world_after, account, account_from}
-use Rattle.crl_deeds.specs.Deeds.{Calls, Deed}
-use Rattle.crl_deeds.specs.Tokens.{weigh, of_name, map_token, delete_token, deleting}
-use Rattle.crl_deeds.proofs.Laws.{call_deed, deed_frame, turn_of, turn_count, kept_turn, append_nil, who_maps_has_one, who_deletes_has_one, boxed_sum}
-use Rattle.crl_talk.proofs.Answered.{Answered, done, waits_section, waits_map, waits_delete, deletes, comes, answered}
-use Rattle.crl_talk.proofs.Asking.{AskedAs}
-use Rattle.crl_talk.proofs.Effects.{Lasts, same, marked, map_lines, map_answer, delete_lines, start_line, effect, other_calls}
-use Rattle.crl_talk.proofs.Going.{goes_effect, idle_effect, section_are, round_are, map_are, delete_are}
-use Rattle.crl_talk.proofs.Heard.{Ground, ground_start, ground_step, with_rest, is_away, may_call}
-use Rattle.crl_talk.proofs.Moves.{Moves, hears as heard_by, gathers, carriage, rests, handle_moves, carry_moves}
-use Rattle.crl_talk.proofs.Pending.{MapFront, map_asked, map_answered, DeleteFront, delete_asked, delete_answered, Pending, for_section, for_map, for_delete, going, for_round, Goes, waits, ready, Waits, Calm, goes_calm, one_name}
+use Rattle.crl_protocol.specs.World.{World, new_world, step, is_enabled, IsRunFrom, IsRun, world_of, world_after}
+use Rattle.crl_deeds.specs.Tokens.{map_token}
+use Rattle.crl_deeds.proofs.Laws.{turn_of, turn_count, kept_turn, who_maps_has_one, who_deletes_has_one, boxed_sum}
+use Rattle.crl_talk.specs.Calls.{CallsStandOnce}
+use Rattle.crl_talk.proofs.Heard.{Ground, ground_start, ground_step}
+use Rattle.crl_talk.proofs.Pending.{Waits}
 use Rattle.crl_talk.proofs.Sides.{Sided, sided_kept, sided_start}
-use Rattle.crl_talk.proofs.Stepping.{other_calm, gather_calm, carried_calm, hearing}
-use Rattle.crl_talk.proofs.Weights.{Token, MapAsk, DeleteAsk, token, token_mail, token_whole, sum_stepped}
-use Rattle.crl_talk.proofs.Events.{Facts, Runs, Now}
+use Rattle.crl_talk.proofs.Events.{Runs}
 use Rattle.crl_talk.proofs.Talked.{rests_of}
 
 -- What is known of each world of a run.
@@ -84,6 +55,7 @@ known_runs n count capacity before (e ∷ es) w is r few size ground sided = (
     may : is_enabled e w ≡ true
     may = subst (λ x. is_enabled e x ≡ true) (sym is) (run_behind (new_world count capacity) before (e ∷ es) r.enabled).0
 
-pub calls_stand : (count capacity : ℕ) (run : List Event) → IsRun count capacity run → (n : ℕ) → n < count → AreLinesOf n (talk n (new_world count capacity) run) (lines_of_node n (account count capacity run))
+pub calls_stand : (count capacity : ℕ) (run : List Event) → IsRun count capacity run → (n : ℕ) → n < count → CallsStandOnce n count capacity run
 calls_stand count capacity run r n few =
-    (rests_of n run (new_world count capacity) (known_runs n count capacity [] run (new_world count capacity) refl r few refl (ground_start count capacity) (λ i. sided_start i))).free refl
+    let known = known_runs n count capacity [] run (new_world count capacity) refl r few refl (ground_start count capacity) (λ i. sided_start i) in
+    record { lines = (rests_of n run (new_world count capacity) known).free refl }

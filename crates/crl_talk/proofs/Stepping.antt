@@ -1,28 +1,25 @@
 -- What an event of another node, and a message that a node hears, leaves of a world for node n.
-use Rattle.std.proofs.Common.{◌≡◌, ℕ, ◌+◌, ◌≤◌, ◌<◌, ◌==◌, Bool, true, false, Some, List, [], ◌∷◌, ◌++◌, if◌then◌else◌, refl, ap, sym, ◌∙◌, subst, arith}
-use Rattle.std.proofs.lemmas.Bool.{cond_both, cond-true, cond-false, eqb-true, eq-eqb}
+use Rattle.std.proofs.Common.{◌≡◌, ℕ, ◌<◌, ◌==◌, Bool, Some, List, refl, ap, sym, ◌∙◌, subst, arith}
+use Rattle.std.proofs.lemmas.Bool.{cond_both, cond-true, eqb-true, eq-eqb}
 use Rattle.crl_model.specs.declared.name.Name.{Name}
 use Rattle.crl_model.specs.declared.stage.Stage.TheVariants as stage
-use Rattle.crl_model.specs.declared.call.Call.{Call}
 use Rattle.crl_model.specs.declared.event.Event.{Event}
 use Rattle.crl_model.specs.declared.message.Message.{Message}
-use Rattle.crl_model.specs.declared.message.Kind.{Kind}
 use Rattle.crl_model.specs.Names.{at_node}
 use Rattle.crl_protocol.specs.Parcels.{Piece, with_load, Key, key_of, PartsGathered}
 use Rattle.crl_protocol.specs.Places.{Took}
-use Rattle.crl_protocol.specs.Node.{Node, Done, Activity, Waiting, ForSection, Outcome, only, lifetime_of}
-use Rattle.crl_protocol.specs.Talk.{lines_of_node}
-use Rattle.crl_protocol.specs.World.{World, WorldStep, note, put_in, commits, steps_node, carries}
-use Rattle.crl_deeds.specs.Counts.{Plain, Known}
-use Rattle.crl_deeds.specs.Deeds.{Calls, Hears, Deed}
-use Rattle.crl_deeds.specs.Tokens.{sum, weigh, weighs, on_piece, Whole, load, NoMail}
+use Rattle.crl_protocol.specs.Node.{Node, Done, Activity, Outcome, only, lifetime_of}
+use Rattle.crl_protocol.specs.World.{World, note, put_in, commits, steps_node, carries}
+use Rattle.crl_deeds.specs.Counts.{Plain}
+use Rattle.crl_deeds.specs.Deeds.{Hears, Deed}
+use Rattle.crl_deeds.specs.Tokens.{on_piece, NoMail}
 use Rattle.crl_deeds.specs.Turns.{Frame, HeldIn, HeldOut}
 use Rattle.crl_deeds.proofs.Laws.{deed_frame, all_took, each_at, weigh_took, keyed_none, part_same}
 use Rattle.crl_talk.proofs.Asking.{AskedAs, hears_as}
-use Rattle.crl_talk.proofs.Effects.{KeepsGoing, Lasts, same, Effect, effect, other_calls}
+use Rattle.crl_talk.proofs.Effects.{KeepsGoing, Lasts, same}
 use Rattle.crl_talk.proofs.Heard.{Ground, with_rest, is_away}
-use Rattle.crl_talk.proofs.Pending.{under_way, Waits, Wants, Calm, Hearing}
-use Rattle.crl_talk.proofs.Weights.{nothing, BlindLoad, removed, sum_rest, sum_le, table_le, sum_stepped, sum_carried, Token, token, token_mail, token_whole, token_near}
+use Rattle.crl_talk.proofs.Pending.{Waits, Calm, Hearing}
+use Rattle.crl_talk.proofs.Weights.{nothing, removed, sum_rest, sum_le, table_le, sum_stepped, sum_carried, token, token_mail, token_whole, token_near}
 
 -- a node that takes another value
 at_other : (R : Node → Type 0) (nodes : ℕ → Node) (j i : ℕ) (x : Node) → (j ≡ i → R x) → R (nodes i) → R (at_node nodes j x i)

@@ -1,7 +1,7 @@
 -- Sums over the boxes of all nodes, as an event changes them; and the messages that stand for what a node waits for, each
 -- kind by itself.
-use Rattle.std.proofs.Common.{◌≡◌, ℕ, zero, suc, ◌+◌, ◌≤◌, ◌<◌, ◌==◌, Bool, true, false, Some, List, [], ◌∷◌, ◌++◌, if◌then◌else◌, refl, ap, sym, ◌∙◌, subst, arith}
-use Rattle.std.proofs.lemmas.Bool.{cond_both, cond-true, eqb-true, eqb-false, eq-eqb, cases_lt}
+use Rattle.std.proofs.Common.{◌≡◌, ℕ, zero, suc, ◌+◌, ◌≤◌, ◌<◌, ◌==◌, Bool, true, false, Some, List, [], ◌∷◌, if◌then◌else◌, refl, ap, ◌∙◌, arith}
+use Rattle.std.proofs.lemmas.Bool.{cond_both, eqb-true, eqb-false, eq-eqb, cases_lt}
 use Rattle.std.proofs.Math.Logic.{◌⊎◌, inl, inr}
 use Rattle.crl_model.specs.declared.name.Name.{Name}
 use Rattle.crl_model.specs.declared.event.Event.{Event}
@@ -12,8 +12,8 @@ use Rattle.crl_model.specs.declared.message.DeleteTold.TheVariants as delete_tol
 use Rattle.crl_model.specs.declared.message.Message.{Message}
 use Rattle.crl_model.specs.declared.message.Kind.{Kind}
 use Rattle.crl_model.specs.declared.message.Kind.TheVariants as kind
-use Rattle.crl_model.specs.Names.{at_node, name_eq}
-use Rattle.crl_protocol.specs.Mail.{Mail, Ask, kind_about}
+use Rattle.crl_model.specs.Names.{at_node}
+use Rattle.crl_protocol.specs.Mail.{Ask}
 use Rattle.crl_protocol.specs.Parcels.{Piece, pieces_in, PartsGathered}
 use Rattle.crl_protocol.specs.Places.{Took}
 use Rattle.crl_protocol.specs.Node.{Node, Recorded, Note, Outcome}
@@ -178,21 +178,18 @@ token_of _ n q from to _ = 0
 abbrev pub token : Token → ℕ → Name → Message → ℕ
 token k n q m = token_of k n q m.sender m.addressee m.kind
 
-no_mail : (k : Token) (n : ℕ) (q : Name) → NoMail (token k n q)
-no_mail MapAsk n q from to name (Ask write have) = refl
-no_mail MapAsk n q from to name _ = refl
-no_mail (MapIs t) n q from to name (Ask write have) = refl
-no_mail (MapIs t) n q from to name _ = refl
-no_mail DeleteAsk n q from to name (Ask write have) = refl
-no_mail DeleteAsk n q from to name _ = refl
-no_mail (DeleteIs d) n q from to name (Ask write have) = refl
-no_mail (DeleteIs d) n q from to name _ = refl
-
 pub token_mail : (k : Token) (n : ℕ) (q : Name) → NoMail (token k n q)
-token_mail = no_mail
+token_mail MapAsk n q from to name (Ask write have) = refl
+token_mail MapAsk n q from to name _ = refl
+token_mail (MapIs t) n q from to name (Ask write have) = refl
+token_mail (MapIs t) n q from to name _ = refl
+token_mail DeleteAsk n q from to name (Ask write have) = refl
+token_mail DeleteAsk n q from to name _ = refl
+token_mail (DeleteIs d) n q from to name (Ask write have) = refl
+token_mail (DeleteIs d) n q from to name _ = refl
 
 pub token_whole : (k : Token) (n : ℕ) (q : Name) → Whole (token k n q)
-token_whole k n q m = whole_of (token k n q) (no_mail k n q) m.sender m.addressee m.kind
+token_whole k n q m = whole_of (token k n q) (token_mail k n q) m.sender m.addressee m.kind
 
 -- a token under way goes to a node of the world
 pub token_near : (k : Token) (n : ℕ) (q : Name) (count from to : ℕ) (x : Kind) → PlainKind count from to x → (token_of k n q from to x ≡ 0) ⊎ (to < count)

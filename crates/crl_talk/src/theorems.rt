@@ -2,10 +2,11 @@
 ghost use Rattle.std.specs.Prelude.{ℕ, ◌<◌, List};
 ghost use Rattle.crl_model.specs.declared.event.Event.{Event};
 ghost use Rattle.crl_model.specs.declared.statement.Statement.{Statement};
-ghost use Rattle.crl_protocol.specs.World.{new_world, world_of, account, IsRun, IsRunFrom};
+ghost use Rattle.crl_protocol.specs.World.{new_world, world_of, IsRun, IsRunFrom};
 ghost use Rattle.crl_protocol.specs.Chosen.{Running, running, block_of};
 ghost use Rattle.crl_deeds.specs.Laws.{Follows};
-ghost use Rattle.crl_protocol.specs.Talk.{hears, talk, AreLinesOf, lines_of_node};
+ghost use Rattle.crl_protocol.specs.Talk.{hears};
+ghost use Rattle.crl_talk.specs.Calls.{CallsStandOnce};
 ghost use Rattle.crl_talk.specs.Guards.{SectionsAreGuards, EndsShowGuards};
 ghost use Rattle.crl_talk.specs.Script.{CallsAreThose};
 
@@ -30,5 +31,5 @@ pub fn ends_show_their_guards()
 /// The entries of a node in the account, in order, are the lines of its calls with their answers, each call once. Where the
 /// last call has no answer yet, a part of its lines stands at the end.
 pub fn calls_stand_once()
-    ensures { (count capacity : ℕ) (run : List Event) → IsRun count capacity run → (n : ℕ) → n < count → AreLinesOf n (talk n (new_world count capacity) run) (lines_of_node n (account count capacity run)) }
+    ensures { (count capacity : ℕ) (run : List Event) → IsRun count capacity run → (n : ℕ) → n < count → CallsStandOnce n count capacity run }
 {}
