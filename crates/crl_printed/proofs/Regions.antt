@@ -7,7 +7,7 @@ use Rattle.crl_model.specs.declared.report.FinalRegion.{FinalRegion}
 use Rattle.crl_model.specs.Stages.{is_there}
 use Rattle.crl_machine.specs.SingleMachine.{State, start, IsHistory, after_all}
 use Rattle.crl_machine.specs.FinalRegions.{region_named, regions_at, regions_from, final_regions}
-use Rattle.crl_printed.specs.Printed.{HasBytes}
+use Rattle.crl_account.specs.Reports.{HasBytes}
 use Rattle.crl_printed.proofs.Filled.{filled_at_end}
 
 both_lists : (xs ys : List FinalRegion) → AllByRecursion HasBytes xs → AllByRecursion HasBytes ys → AllByRecursion HasBytes (xs ++ ys)

@@ -8,7 +8,7 @@ ghost use Rattle.crl_model.specs.declared.entry.Entry.{Entry};
 ghost use Rattle.crl_machine.specs.SingleMachine.{start, IsHistory, after_all};
 ghost use Rattle.crl_machine.specs.FinalRegions.{final_regions};
 ghost use Rattle.crl_account.specs.Text.{IsPrintable};
-ghost use Rattle.crl_printed.specs.Printed.{HasBytes};
+ghost use Rattle.crl_account.specs.Reports.{HasBytes};
 
 /// In a legal history each entry is printable: no list of bytes in it is empty, what its round gave isn't Mixed, and
 /// what was refused is about a round exactly where the reason is WrongSize or Mixed.
