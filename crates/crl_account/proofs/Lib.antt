@@ -6,3 +6,5 @@ pub mod Lines
 pub mod Held
 pub mod Stages
 pub mod Feeds
+pub mod Printed
+pub mod Elements

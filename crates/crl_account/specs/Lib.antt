@@ -1,5 +1,6 @@
 pub mod Text
 pub mod Reading
+pub mod Reports
 pub mod Words
 pub mod Guess
 pub mod Account

@@ -4,6 +4,7 @@
 
 mod fault;
 mod field;
+mod fit;
 mod guess;
 mod line;
 mod piece;

@@ -2,7 +2,10 @@
 ghost use Rattle.std.specs.Prelude.{◌≡◌, ◌++◌, IfOk, OnOk};
 ghost use Rattle.std.specs.List.{flat_map};
 ghost use Rattle.crl_account.specs.Text.{final_text, blocked_text, report_text};
+ghost use Rattle.crl_account.specs.Account.{lines_of, IsAccount};
+ghost use Rattle.crl_account.specs.Reports.{IsPrintableReport};
 
+use crate::fit::meet_numbers;
 use crate::write::{
     write_account, write_counts, write_region, write_stuck_round, write_stuck_section,
 };
@@ -12,11 +15,20 @@ use crl_model::report::{FinalRegion, Report};
 use std::alloc::Global;
 
 /// The lines of the account, then those of the final regions, then those of what blocks nodes, and then the counts.
+/// Where each entry is printable and each region has a byte at least, the text is an account of the entries.
 ///
 /// # Errors
 ///
 /// `OutOfMemory`.
 pub fn print_report(alloc: Global, report: &Report) -> Result<Vec<u8>, OutOfMemory>
+    ensures text { IfOk result (λ text. text.items ≡ report_text report.now) }
+    ensures account { IfOk result (λ text. IsPrintableReport report.now → IsAccount (lines_of text.items) report.now.entries) }
+{
+    meet_numbers(report);
+    print_lines(alloc, report)
+}
+
+fn print_lines(alloc: Global, report: &Report) -> Result<Vec<u8>, OutOfMemory>
     ensures { IfOk result (λ text. text.items ≡ report_text report.now) }
 {
     let mut text = Vec::new(alloc);

@@ -10,7 +10,7 @@ use crl_model::collective::{Fold, Part};
 use crl_model::entry::{Entry, Place, What};
 
 /// Whether there is a byte. Each is below 256.
-fn is_filled(bytes: &[u8]) -> bool
+pub(crate) fn is_filled(bytes: &[u8]) -> bool
     ensures some { IsTrue result ↔ (bytes.now ≢ []) }
     ensures fits { IsBytes bytes.now }
 {

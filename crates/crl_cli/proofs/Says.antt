@@ -1,11 +1,18 @@
 -- What is said of the bytes that were read, from what is said of their parts.
-use Rattle.std.proofs.Common.{◌≡◌, ◌≤◌, ◌<◌, ◌+◌, ◌∙◌, ℕ, suc, List, ◌∷◌, length, ap, arith, length-append, Ok, Err}
+use Rattle.std.proofs.Common.{◌≡◌, ◌≤◌, ◌<◌, ◌+◌, ◌∙◌, ℕ, suc, List, ◌∷◌, length, sym, subst, ap, arith, length-append, Ok, Err}
 use Rattle.crl_machine.specs.SingleMachine.{State}
 use Rattle.crl_check.specs.Histories.{IsFirstIllegal}
 use Rattle.std.specs.Prelude.{IfOk, Result, None, Some}
 use Rattle.crl_script.specs.Program.{Program}
 use Rattle.crl_script.specs.Sentence.{script_of}
+use Rattle.std.specs.List.{AllByRecursion}
 use Rattle.crl_model.specs.declared.entry.Entry.{Entry}
+use Rattle.crl_model.specs.declared.statement.Statement.{Statement}
+use Rattle.crl_model.specs.Reports.{Reported}
+use Rattle.crl_alone.specs.Reports.{IsReportOf}
+use Rattle.crl_account.specs.Text.{report_text}
+use Rattle.crl_account.specs.Reports.{HasBytes, IsPrintableReport}
+use Rattle.crl_printed.proofs.Laws.{printable_history, regions_filled}
 use Rattle.crl_outside.specs.Faults.{Rose}
 use Rattle.crl_account.specs.Account.{lines_of, IsAccount}
 use Rattle.crl_cli.specs.Commands.{command_of}
@@ -17,7 +24,7 @@ use Rattle.crl_cli.specs.declared.TheConstants.{SCRIPT_LIMIT, ACCOUNT_LIMIT}
 use Rattle.crl_cli.specs.declared.outcome.Outcome.{Outcome}
 use Rattle.crl_cli.specs.declared.status.Status.{Status}
 use Rattle.crl_cli.specs.declared.status.Status.TheVariants as status
-use Rattle.crl_cli.specs.Outcome.{SaysOrder, SaysCheck, SaysEntries, Says, SaysOf, IsBadScript, IsBadAccount, not_yet, Asked, IsInput, IsRun, Comes, usage, read_fault, said}
+use Rattle.crl_cli.specs.Outcome.{SaysOrder, SaysCheck, SaysEntries, Says, SaysOf, IsBadScript, IsBadAccount, not_yet, Asked, IsInput, IsRun, Comes, usage, read_fault, said, IsAlone, IsAccountOf}
 
 bad_one : (bytes text given : List ℕ) (s : Status) → IsBadScript bytes text → s ≡ status.BadScript → given ≡ text → SaysOrder s bytes given
 bad_one bytes text given s bad is same = rw (is, same) bad
@@ -118,3 +125,21 @@ pub place_inside : (s : State) (es : List Entry) (i : ℕ) → IsFirstIllegal s 
 place_inside s es i f =
     let whole : length es ≡ length f.before + suc (length f.behind) = ap length f.whole ∙ length-append f.before (f.entry ∷ f.behind) in
     omega (arith, whole, f.place)
+
+-- ---- what is printed of a script
+
+-- what is reported of a script can be read again
+printable_report : (statements : List Statement) (report : Reported) → IsReportOf statements report → IsPrintableReport report
+printable_report statements report is = record {
+  entries = printable_history 1 report.entries is.legal;
+  regions = subst (AllByRecursion HasBytes) (sym is.regions) (regions_filled 1 report.entries is.legal);
+}
+
+account_of : (program : Program) (statements : List Statement) (report : Reported) (text : List ℕ) → IsAlone program statements → IsReportOf statements report → text ≡ report_text report
+    → (IsPrintableReport report → IsAccount (lines_of text) report.entries) → IsAccountOf program text
+account_of program statements report text alone is printed reads =
+    record { statements = statements; alone = alone; report = report; reported = is; printed = printed; judged = reads (printable_report statements report is) }
+
+ran_one : (s : Status) (program : Program) (statements : List Statement) (report : Reported) (text : List ℕ) → s ≡ status.Ok → IsAlone program statements → IsReportOf statements report → text ≡ report_text report
+    → (IsPrintableReport report → IsAccount (lines_of text) report.entries) → SaysOf s program text
+ran_one s program statements report text ok alone is printed reads = rw ok (account_of program statements report text alone is printed reads)

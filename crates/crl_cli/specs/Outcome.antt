@@ -38,13 +38,14 @@ abbrev pub IsAlone : Program → List Statement → Type 0
 IsAlone program statements = (program.nodes ≡ 1) × (slice_get program.blocks 0 ≡ Some statements)
 
 -- What is printed of a script is one history of the single machine, and then its array: the run of its
--- statements is reported, and the text has the report's lines.
+-- statements is reported, the text has the report's lines, and `check` reads it as the report's entries.
 pub record IsAccountOf (program : Program) (text : List ℕ) : Type 0 where
   pub statements : List Statement
   pub alone : IsAlone program statements
   pub report : Reported
   pub reported : IsReportOf statements report
   pub printed : text ≡ report_text report
+  pub judged : IsAccount (lines_of text) report.entries
 
 -- the bytes are a script, and the text is its account
 pub record IsRun (bytes text : List ℕ) : Type 0 where

@@ -1,0 +1,4 @@
+mod Filled
+pub mod Laws
+mod Regions
+mod Rounds
