@@ -11,7 +11,6 @@ use Rattle.crl_deeds.specs.Laws.{AreStatements, chosen}
 use Rattle.crl_deeds.proofs.Laws.{sound_start, follow_runs, follow_turns, follow_world}
 use Rattle.crl_bound.specs.Counters.{count_calls, count_collects}
 use Rattle.crl_bound.proofs.Laws.{messages_bounded, events_few}
-use Rattle.crl_stuck.specs.Stuck.{EndsStuck}
 use Rattle.crl_stuck.specs.Ends.{statements_from, statements_in, most_messages, most_turns, RunEnds, ForEachScript, LastIsStuck}
 use Rattle.crl_stuck.proofs.Sizes.{bound_few}
 use Rattle.crl_stuck.proofs.Progress.{Took, Stops, runs_on}

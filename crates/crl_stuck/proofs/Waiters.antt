@@ -11,7 +11,6 @@ use Rattle.crl_protocol.specs.Remote.{is_closed}
 use Rattle.crl_protocol.specs.Sections.{section_at}
 use Rattle.crl_protocol.specs.Node.{Node, Awaited, Waiting, ForSection, ForMap, ForDelete, ForRound}
 use Rattle.crl_protocol.specs.World.{World, new_world, world_of, pieces_in_boxes, IsRunFrom}
-use Rattle.crl_protocol.specs.Chosen.{Running, choices}
 use Rattle.crl_protocol.specs.Ends.{holds_open, is_absent, by_holder, by_absent, blocked_while}
 use Rattle.crl_deeds.proofs.Laws.{name_self}
 use Rattle.crl_lifetime.specs.Lifetime.{waits_for_map, waits_for_delete}
@@ -20,7 +19,7 @@ use Rattle.crl_regions.specs.Reached.{AfterRuns}
 use Rattle.crl_regions.proofs.Laws.{count_in_run}
 use Rattle.crl_rounds.specs.Standing.{RoundCall, round_awaited}
 use Rattle.crl_rounds.proofs.Laws.{rounds_in_runs}
-use Rattle.crl_stuck.specs.Stuck.{IsBlocked, WaitersAreBlocked, EndsStuck, StopsStuck}
+use Rattle.crl_stuck.specs.Stuck.{IsBlocked, WaitersAreBlocked, StopsStuck}
 use Rattle.crl_stuck.proofs.Choices.{NoChoice, no_choice, waits_unfinished}
 use Rattle.crl_stuck.proofs.Least.{least_is}
 use Rattle.crl_stuck.proofs.Sections.{IsHeld, held}
