@@ -11,8 +11,7 @@ use Rattle.crl_deeds.specs.Laws.{AreStatements, chosen}
 use Rattle.crl_deeds.proofs.Laws.{sound_start, follow_runs, follow_turns, follow_world}
 use Rattle.crl_bound.specs.Counters.{count_calls, count_collects}
 use Rattle.crl_bound.proofs.Laws.{messages_bounded, events_few}
-use Rattle.crl_stuck.specs.Stuck.{EndsStuck}
-use Rattle.crl_stuck.specs.Ends.{statements_from, statements_in, most_messages, most_turns, RunEnds}
+use Rattle.crl_stuck.specs.Ends.{statements_from, statements_in, most_messages, most_turns, RunEnds, ForEachScript, LastIsStuck}
 use Rattle.crl_stuck.proofs.Sizes.{bound_few}
 use Rattle.crl_stuck.proofs.Progress.{Took, Stops, runs_on}
 use Rattle.crl_stuck.proofs.Waiters.{ends_stuck}
@@ -20,9 +19,9 @@ use Rattle.crl_stuck.proofs.Waiters.{ends_stuck}
 pub chosen_run : (count capacity : ℕ) (blocks : List (List Statement)) (words : ℕ → ℕ) (k : ℕ) → AreStatements blocks → IsRunFrom (new_world count capacity) (chosen count capacity blocks words k).events
 chosen_run count capacity blocks words k are = follow_runs (follow_turns count capacity blocks words k) (sound_start count capacity blocks are)
 
-pub stuck_chosen : (count capacity : ℕ) (blocks : List (List Statement)) (words : ℕ → ℕ) (k : ℕ) → AreStatements blocks → choices (chosen count capacity blocks words k) ≡ [] → EndsStuck (chosen count capacity blocks words k)
-stuck_chosen count capacity blocks words k are none =
-    ends_stuck count capacity (chosen count capacity blocks words k).events (chosen count capacity blocks words k) (chosen_run count capacity blocks words k are) (follow_world (follow_turns count capacity blocks words k)) none
+pub stuck_chosen : ForEachScript LastIsStuck
+stuck_chosen count capacity blocks words are k none =
+    ends_stuck count capacity (chosen count capacity blocks words k).events (chosen_run count capacity blocks words k are) (chosen count capacity blocks words k) (follow_world (follow_turns count capacity blocks words k)) none
 
 -- a run's events are few by its calls: those that are no calls are as many answers at most, and two for each message
 events_bounded : (count capacity : ℕ) (run : List Event) (calls : ℕ) → IsRunFrom (new_world count capacity) run → count_calls run ≤ calls → length run ≤ count_calls run + calls + 2 * (calls * most_messages count)
@@ -70,14 +69,14 @@ run_ends count capacity blocks words are = go (runs_on count words 1 (suc most) 
         let events = events_bounded count capacity end.events all (chosen_run count capacity blocks words (suc most) are) (omega arith) in
         by_numbers (length end.events) (count_calls end.events) (statements_from 0 count end.actors) all (all * most_messages count) t.turns events
       where
-        by_numbers : (events calls left all most : ℕ) → 0 + calls + left + suc (2 * all + 2 * most) ≤ events + 0 + all → events ≤ calls + all + 2 * most → ⊥
-        by_numbers events calls left all most h k = omega arith
+        by_numbers : (events calls left statements messages : ℕ) → 0 + calls + left + suc (2 * statements + 2 * messages) ≤ events + 0 + statements → events ≤ calls + statements + 2 * messages → ⊥
+        by_numbers events calls left statements messages h k = omega arith
 
     go : (Stops words 1 (suc most) start) ⊎ (Took count (suc most) start (chosen count capacity blocks words (suc most))) → RunEnds count capacity blocks words
     go (inl s) = let f = s.fewer in record {
       end = chosen count capacity blocks words s.turns;
       chosen = record { turns = s.turns; reached = refl; finished = s.none };
       few = omega arith;
-      stuck = stuck_chosen count capacity blocks words s.turns are s.none;
+      stuck = stuck_chosen count capacity blocks words are s.turns s.none;
     }
     go (inr t) = absurd (too_many t)

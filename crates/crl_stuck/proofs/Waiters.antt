@@ -11,15 +11,15 @@ use Rattle.crl_protocol.specs.Remote.{is_closed}
 use Rattle.crl_protocol.specs.Sections.{section_at}
 use Rattle.crl_protocol.specs.Node.{Node, Awaited, Waiting, ForSection, ForMap, ForDelete, ForRound}
 use Rattle.crl_protocol.specs.World.{World, new_world, world_of, pieces_in_boxes, IsRunFrom}
-use Rattle.crl_protocol.specs.Chosen.{Running, choices}
 use Rattle.crl_protocol.specs.Ends.{holds_open, is_absent, by_holder, by_absent, blocked_while}
 use Rattle.crl_deeds.proofs.Laws.{name_self}
 use Rattle.crl_lifetime.specs.Lifetime.{waits_for_map, waits_for_delete}
 use Rattle.crl_lifetime.proofs.Laws.{quiet_in_runs}
+use Rattle.crl_regions.specs.Reached.{AfterRuns}
 use Rattle.crl_regions.proofs.Laws.{count_in_run}
 use Rattle.crl_rounds.specs.Standing.{RoundCall, round_awaited}
 use Rattle.crl_rounds.proofs.Laws.{rounds_in_runs}
-use Rattle.crl_stuck.specs.Stuck.{IsBlocked, WaitersAreBlocked, EndsStuck}
+use Rattle.crl_stuck.specs.Stuck.{IsBlocked, WaitersAreBlocked, StopsStuck}
 use Rattle.crl_stuck.proofs.Choices.{NoChoice, no_choice, waits_unfinished}
 use Rattle.crl_stuck.proofs.Least.{least_is}
 use Rattle.crl_stuck.proofs.Sections.{IsHeld, held}
@@ -123,8 +123,8 @@ waiters count capacity run r quiet = record { blocked = λ i a few e. go i a few
     go i (ForDelete name) l e = absurd (delete_none i name l e)
     go i (ForRound round kind) l e = absent_node count capacity run r quiet i round kind l e
 
-pub ends_stuck : (count capacity : ℕ) (run : List Event) (end : Running) → IsRunFrom (new_world count capacity) run → end.world ≡ world_of count capacity run → choices end ≡ [] → EndsStuck end
-ends_stuck count capacity run end r same none = record {
+pub ends_stuck : AfterRuns StopsStuck
+ends_stuck count capacity run r end same none = record {
   truly = (left.boxes, λ i f few. let l = ltb-true i end.world.count few in let a = waits_unfinished end left i l f in let b = all.blocked i a.0 l a.1 in (b.cause, b.named));
   waits = waits_unfinished end left;
   waiters = all;

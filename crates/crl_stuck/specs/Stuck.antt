@@ -9,8 +9,8 @@ use Rattle.crl_model.specs.declared.blocked.Blocked.{Blocked}
 use Rattle.crl_model.specs.declared.blocked.Blocked.TheVariants as blocked
 use Rattle.crl_protocol.specs.Sections.{section_at}
 use Rattle.crl_protocol.specs.Node.{Awaited, Waiting, ForSection, ForMap, ForDelete, ForRound}
-use Rattle.crl_protocol.specs.World.{World}
-use Rattle.crl_protocol.specs.Chosen.{Running}
+use Rattle.crl_protocol.specs.World.{World, pieces_in_boxes}
+use Rattle.crl_protocol.specs.Chosen.{Running, choices}
 use Rattle.crl_protocol.specs.Ends.{blocked_at, is_finished, IsTrulyStuck, report}
 
 -- The node waits for a section of the region, and the holder is the least other node that has one open.
@@ -56,6 +56,13 @@ pub record EndsStuck (end : Running) : Type 0 where
   pub truly : IsTrulyStuck end
   pub waits : (i : ℕ) → i < end.world.count → is_finished i end ≡ false → (a : Awaited) × ((end.world.nodes i).activity ≡ Waiting a)
   pub waiters : WaitersAreBlocked end.world
+
+-- The statements, of a world that a run reaches.
+abbrev pub QuietIsBlocked : World → Type 0
+QuietIsBlocked w = pieces_in_boxes w ≡ [] → WaitersAreBlocked w
+
+abbrev pub StopsStuck : World → Type 0
+StopsStuck w = (end : Running) → end.world ≡ w → choices end ≡ [] → EndsStuck end
 
 -- the nodes that aren't finished, by node
 abbrev pub unfinished_from : ℕ → ℕ → Running → List ℕ
