@@ -135,11 +135,8 @@ printable_report statements report is = record {
   regions = subst (AllByRecursion HasBytes) (sym is.regions) (regions_filled 1 report.entries is.legal);
 }
 
-account_of : (program : Program) (statements : List Statement) (report : Reported) (text : List ℕ) → IsAlone program statements → IsReportOf statements report → text ≡ report_text report
+-- the text of what the run of a script of one node gives is its account
+pub account_of : (program : Program) (statements : List Statement) (report : Reported) (text : List ℕ) → IsAlone program statements → IsReportOf statements report → text ≡ report_text report
     → (IsPrintableReport report → IsAccount (lines_of text) report.entries) → IsAccountOf program text
 account_of program statements report text alone is printed reads =
     record { statements = statements; alone = alone; report = report; reported = is; printed = printed; judged = reads (printable_report statements report is) }
-
-ran_one : (s : Status) (program : Program) (statements : List Statement) (report : Reported) (text : List ℕ) → s ≡ status.Ok → IsAlone program statements → IsReportOf statements report → text ≡ report_text report
-    → (IsPrintableReport report → IsAccount (lines_of text) report.entries) → SaysOf s program text
-ran_one s program statements report text ok alone is printed reads = rw ok (account_of program statements report text alone is printed reads)
