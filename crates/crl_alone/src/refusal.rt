@@ -5,11 +5,11 @@ ghost use Rattle.crl_model.specs.declared.statement.Statement.{Statement};
 ghost use Rattle.crl_alone.specs.Refusals.{is_bad_size, is_open, create_refusal, map_refusal, unmap_refusal, read_refusal, end_read_refusal, write_refusal, end_write_refusal, put_refusal, refusal_of, refused_name, name_of, kind_of, refused};
 
 use crl_machine::machine::Machine;
+use crl_machine::share::Share;
 use crl_model::REGION_LIMIT;
 use crl_model::call::{Call, CallKind, Refusal};
 use crl_model::entry::{Place, What};
 use crl_model::name::Name;
-use crl_machine::share::Share;
 use crl_model::stage::Stage;
 use crl_model::statement::Statement;
 
