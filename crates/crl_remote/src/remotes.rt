@@ -1,5 +1,5 @@
 //! A node's side of the regions of other homes, by name.
-ghost use Rattle.std.specs.Prelude.{◌≡◌, ◌+◌, ◌<◌, ◌^◌, IsOk, IsSome, None, Some, OnOk, OnErr, true, option_copied};
+ghost use Rattle.std.specs.Prelude.{◌≡◌, ◌+◌, ◌<◌, ◌≤◌, ◌^◌, IsOk, IsSome, None, Some, OnOk, OnErr, true, option_copied};
 ghost use Rattle.crl_model.specs.Names.{at_name};
 ghost use Rattle.crl_table.specs.Tables.{table_of, has_place, HasPlace, weight_of};
 ghost use Rattle.crl_protocol.specs.Remote as table;
@@ -65,16 +65,29 @@ impl Remotes {
         self.rows.ready(&name)
     }
 
-    /// The name, which has a place, is mapped or cached here anew, with a region of so many bytes: no copy is
-    /// here.
+    /// The name, which has a place, is mapped here anew, with a region of so many bytes: no copy is here. What was
+    /// kept of the name before is gone.
+    #[tactic(auto, using(crate::proofs::Rows::over_gone))]
     pub fn add(&mut self, name: Name, size: u32)
         requires place { HasPlace name self.old.rows }
-        requires absent { table_of self.old.rows name ≡ None }
         ensures row { HasRow name (Some (table.new_remote size)) self.old self.new }
-        ensures owes { owed_in self.new.rows ≡ owed_in self.old.rows }
+        ensures owes { owed_in self.new.rows ≤ owed_in self.old.rows }
     {
         let _owed = self.owed();
+        self.clear(name);
         self.put(name, Remote::new(size));
+    }
+
+    /// The row of the name, if there is one, is taken out. Its place stays.
+    fn clear(&mut self, name: Name)
+        requires place { HasPlace name self.old.rows }
+        ensures row { HasRow name None self.old self.new }
+        ensures absent { table_of self.new.rows name ≡ None }
+        ensures place { HasPlace name self.new.rows }
+        ensures owes { owed_in self.new.rows ≤ owed_in self.old.rows }
+    {
+        let row = self.rows.take(&name);
+        self.owed -= owed_by(&row);
     }
 
     /// The row of the name is taken out. Its place stays.
