@@ -45,9 +45,17 @@ impl Paper {
         requires { length bytes.now ≤ self }
         ensures { result ≡ bytes.now }
     {
+        Bytes::from_vec(self.write_vec(bytes))
+    }
+
+    /// The same as a vector.
+    pub fn write_vec(self, bytes: &[u8]) -> Vec<u8>
+        requires { length bytes.now ≤ self }
+        ensures { result.items ≡ bytes.now }
+    {
         let mut written = self.blank;
         let _ = written.extend_from_slice(bytes);
-        Bytes::from_vec(written)
+        written
     }
 }
 

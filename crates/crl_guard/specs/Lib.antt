@@ -1,0 +1,2 @@
+pub mod GuardWrites
+pub mod Standings

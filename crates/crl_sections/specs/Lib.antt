@@ -1,0 +1,2 @@
+pub mod OpenSections
+pub mod SectionsState
