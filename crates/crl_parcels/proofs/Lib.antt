@@ -1,0 +1,4 @@
+mod Adding
+mod Finding
+mod Keys
+pub mod Laws

@@ -1,0 +1,3 @@
+pub mod ParcelKeys
+pub mod ParcelsState
+pub mod PieceComes
