@@ -1,0 +1,7 @@
+//! All that a node keeps, side by side, and the node of the protocol that it stands for. The acts of a node change it: those
+//! about sections stand in `crl_sectioning`, those about names and rounds in `crl_naming`.
+#![tactic(auto)]
+
+mod desk;
+
+pub use desk::Desk;
