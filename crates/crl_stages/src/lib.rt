@@ -4,6 +4,8 @@
 
 mod node_set;
 mod row;
+mod stages;
 
 pub use node_set::NodeSet;
 pub use row::Row;
+pub use stages::Stages;
