@@ -1,0 +1,5 @@
+pub mod Laws
+mod Nodes
+mod Pieces
+mod Queues
+mod Tables
