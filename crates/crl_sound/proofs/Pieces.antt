@@ -1,7 +1,7 @@
 -- The pieces in every run's boxes: those that come are safe, and those that go are for others.
 use Rattle.std.proofs.Common.{◌≡◌, ◌≢◌, ℕ, ◌<◌, Bool, true, false, None, Some, Option, List, refl, ap, sym, ◌∙◌, subst}
 use Rattle.std.specs.List.{AllByRecursion}
-use Rattle.std.proofs.lemmas.List.Elements.{All-to_recursion}
+use Rattle.std.proofs.lemmas.List.Elements.{recursion_from_All}
 use Rattle.crl_model.specs.declared.collective.Part.{Part}
 use Rattle.crl_model.specs.declared.event.Event.{Event}
 use Rattle.crl_model.specs.declared.message.Kind.{Kind}
@@ -21,6 +21,7 @@ use Rattle.crl_rounds.proofs.Laws.{mail_in_runs}
 use Rattle.crl_safety.specs.Safety.{PieceIsSafe, MessageIsSafe}
 use Rattle.crl_safety.specs.Tests.{MeetsTest}
 use Rattle.crl_sound.specs.Sound.{AfterAnyRun, PiecesAreSafe, LeavesForOther, PiecesLeaveForOthers}
+use Rattle.crl_sound.proofs.Senders.{IsBy, senders_in_runs}
 use Rattle.crl_sound.proofs.Tables.{counted_in_runs}
 
 -- A part that is under way is awaited where it comes.
@@ -91,7 +92,19 @@ came_safe count capacity run r i p rest small took = record {
 
     mail : IsRoundMail w (machine_of count capacity run) p.message.sender i p.message.kind
     mail = subst (λ j. IsRoundMail w (machine_of count capacity run) p.message.sender j p.message.kind) sent.1
-        (all_took (RoundMailFits w (machine_of count capacity run)) (box_took w i p rest few took) (All-to_recursion (RoundMailFits w (machine_of count capacity run)) (pieces_in_boxes w) (mail_in_runs count capacity run r))).0
+        (all_took (RoundMailFits w (machine_of count capacity run)) (box_took w i p rest few took) (recursion_from_All (RoundMailFits w (machine_of count capacity run)) (pieces_in_boxes w) (mail_in_runs count capacity run r))).0
 
 pub pieces_safe : AfterAnyRun PiecesAreSafe
 pieces_safe count capacity run r i place t few e = came_safe count capacity run r i t.taken t.rest few (took_at place ((world_of count capacity run).nodes i).inbox t e)
+
+-- A piece in an outbox.
+pub pieces_leave : AfterAnyRun PiecesLeaveForOthers
+pieces_leave count capacity run r i place t few e =
+    let w = world_of count capacity run in
+    let took = took_at place (w.nodes i).outbox t e in
+    let sent = (boxes_to_others count capacity run r).outbox i t.taken t.rest took in
+    let from : t.taken.message.sender ≡ i = (all_took (IsBy i) took (senders_in_runs count capacity run r i)).0 in record {
+      sender = from;
+      addressee = subst (λ k. t.taken.message.addressee < k) (count_in_run count capacity run r) sent.addressee;
+      other = λ same. sent.other (from ∙ sym same);
+    }

@@ -20,11 +20,11 @@ NodesAreSafe count w = (i : ℕ) → i < count → IsSafe (w.nodes i)
 abbrev pub PiecesAreSafe : ℕ → World → Type 0
 PiecesAreSafe count w = (i place : ℕ) (t : Taken Piece) → i < count → take_out place (w.nodes i).inbox ≡ Some t → PieceIsSafe (w.nodes i) t.taken
 
--- the piece is for another node of the world
+-- the piece is this node's, and for another node of the world
 pub record LeavesForOther (count i : ℕ) (p : Piece) : Type 0 where
+  pub sender : p.message.sender ≡ i
   pub addressee : p.message.addressee < count
   pub other : p.message.addressee ≢ i
-  pub sender : p.message.sender ≡ i
 
 abbrev pub PiecesLeaveForOthers : ℕ → World → Type 0
 PiecesLeaveForOthers count w = (i place : ℕ) (t : Taken Piece) → i < count → take_out place (w.nodes i).outbox ≡ Some t → LeavesForOther count i t.taken
