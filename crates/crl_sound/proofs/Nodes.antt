@@ -1,28 +1,27 @@
 -- Every node of a run is safe.
-use Rattle.std.proofs.Common.{◌≡◌, ◌≢◌, ℕ, ◌+◌, ◌<◌, ◌≤◌, ◌^◌, ◌==◌, Bool, true, false, None, Some, Option, List, [], length, refl, ap, sym, ◌∙◌, subst, arith}
-use Rattle.std.specs.List.{AllByRecursion}
+use Rattle.std.proofs.Common.{◌≡◌, ◌≢◌, ℕ, ◌<◌, ◌==◌, Bool, true, false, None, Some, List, [], length, refl, ap, sym, ◌∙◌, subst, arith}
 use Rattle.std.proofs.lemmas.Bool.{cond-true, cond-false, eqb-true, eqb-false, eq-eqb, ne_eqb}
 use Rattle.crl_model.specs.declared.name.Name.{Name}
-use Rattle.crl_model.specs.declared.directory.Section.TheVariants.{Closed}
 use Rattle.crl_model.specs.declared.event.Event.{Event}
-use Rattle.crl_model.specs.declared.message.Message.{Message}
 use Rattle.crl_protocol.specs.Handlers.{is_queued}
 use Rattle.crl_protocol.specs.Home.{Home}
 use Rattle.crl_protocol.specs.Node.{Node, Activity, Waiting, ForSection, is_mine, home_of}
 use Rattle.crl_protocol.specs.Remote.{Remote}
-use Rattle.crl_protocol.specs.Sections.{OpenSection, section_at}
+use Rattle.crl_protocol.specs.Sections.{OpenSection}
 use Rattle.crl_protocol.specs.World.{World, new_world, world_of, IsRun, IsRunFrom, is_free}
 use Rattle.crl_bound.specs.Counters.{CountersFit}
 use Rattle.crl_bound.proofs.Laws.{counters_fit}
 use Rattle.crl_coherence.specs.Coherent.{IsCoherent}
 use Rattle.crl_coherence.proofs.Laws.{asks_once}
+use Rattle.crl_deeds.specs.Counts.{Counted}
 use Rattle.crl_flight.specs.Flight.{messages_of}
+use Rattle.crl_regions.specs.MailFits.{HasSize}
 use Rattle.crl_regions.specs.View.{side, sight, table_of, table_or_blank, array_of}
 use Rattle.crl_regions.proofs.Laws.{regions_in_runs, sections_are_tables, sizes_known, askers_wait, count_in_run}
-use Rattle.crl_safety.specs.Safety.{IsSafe, HomeIsSafe, RemoteIsSafe, BytesAreSafe}
+use Rattle.crl_safety.specs.Safety.{HomeIsSafe, RemoteIsSafe, BytesAreSafe}
 use Rattle.crl_sound.specs.Sound.{AfterEachRun, NodesAreSafe}
-use Rattle.crl_sound.proofs.Tables.{TableFits, IsNear, counted_in_runs, tables_in_runs}
-use Rattle.crl_sound.proofs.Queues.{times, asks_differ, has_room, not_queued}
+use Rattle.crl_sound.proofs.Tables.{TableFits, counted_in_runs, tables_in_runs}
+use Rattle.crl_sound.proofs.Queues.{asks_differ, has_room, not_queued}
 
 -- The counters.
 counters_of : (count capacity : ℕ) (run : List Event) → IsRun count capacity run → (i : ℕ) → i < count → CountersFit (length run) ((world_of count capacity run).nodes i)
@@ -62,7 +61,7 @@ at_home count capacity run r name h few there = record {
     n : Node
     n = (world_of count capacity run).nodes name.home
 
-    counted : Rattle.crl_deeds.specs.Counts.Counted count name.home n
+    counted : Counted count name.home n
     counted = counted_in_runs count capacity run r.enabled name.home
 
     fits : TableFits count h
@@ -94,7 +93,7 @@ remote_safe count capacity run r i name x other e = record {
     here : (size : ℕ) → side size ((w.nodes i).remotes name) ≡ x
     here size = ap (λ o. side size o) e
 
-    t : Rattle.crl_regions.specs.MailFits.HasSize x.size (table_of name w)
+    t : HasSize x.size (table_of name w)
     t = (sizes_known count capacity run r).record_of i name x e
 
     whole : IsCoherent name.home (sight name t.0 w.nodes (messages_of (regions_in_runs count capacity run r).0) (array_of name count capacity run))

@@ -1,26 +1,28 @@
 -- The pieces in every run's boxes: those that come are safe, and those that go are for others.
-use Rattle.std.proofs.Common.{◌≡◌, ◌≢◌, ℕ, ◌<◌, Bool, true, false, None, Some, Option, List, refl, ap, sym, ◌∙◌, subst}
-use Rattle.std.specs.List.{AllByRecursion}
+use Rattle.std.proofs.Common.{◌≡◌, ℕ, ◌<◌, true, false, None, Some, Option, List, ap, sym, ◌∙◌, subst}
 use Rattle.std.proofs.lemmas.List.Elements.{recursion_from_All}
 use Rattle.crl_model.specs.declared.collective.Part.{Part}
 use Rattle.crl_model.specs.declared.event.Event.{Event}
 use Rattle.crl_model.specs.declared.message.Kind.{Kind}
 use Rattle.crl_model.specs.declared.message.Kind.TheVariants as kind
-use Rattle.crl_pieces.specs.Pieces.{is_complete, joined}
+use Rattle.crl_pieces.specs.Pieces.{joined}
 use Rattle.crl_protocol.specs.Gathering.{Gathering, awaits}
 use Rattle.crl_protocol.specs.Node.{Node}
-use Rattle.crl_protocol.specs.Parcels.{Piece, Key, key_in, key_of, with_load}
-use Rattle.crl_protocol.specs.Places.{Taken, Took, take_out}
+use Rattle.crl_protocol.specs.Parcels.{Piece, Key, key_in, with_load}
+use Rattle.crl_protocol.specs.Places.{Took}
 use Rattle.crl_protocol.specs.Receiving.{slots_with}
 use Rattle.crl_protocol.specs.World.{World, new_world, world_of, pieces_in_boxes, IsRunFrom}
+use Rattle.crl_machine.specs.SingleMachine.{State}
+use Rattle.crl_deeds.specs.Counts.{Counted}
 use Rattle.crl_deeds.proofs.Laws.{took_at, all_took}
 use Rattle.crl_regions.specs.Addresses.{GoesToOther}
+use Rattle.crl_regions.specs.Reached.{MakesFitting}
 use Rattle.crl_regions.proofs.Laws.{boxes_to_others, box_took, whole_meet, pieces_meet, count_in_run}
 use Rattle.crl_rounds.specs.Standing.{RoundMailFits, IsRoundMail, machine_of}
 use Rattle.crl_rounds.proofs.Laws.{mail_in_runs}
 use Rattle.crl_safety.specs.Safety.{PieceIsSafe, MessageIsSafe}
 use Rattle.crl_safety.specs.Tests.{MeetsTest}
-use Rattle.crl_sound.specs.Sound.{AfterAnyRun, PiecesAreSafe, LeavesForOther, PiecesLeaveForOthers}
+use Rattle.crl_sound.specs.Sound.{AfterAnyRun, PiecesAreSafe, PiecesLeaveForOthers}
 use Rattle.crl_sound.proofs.Senders.{IsBy, senders_in_runs}
 use Rattle.crl_sound.proofs.Tables.{counted_in_runs}
 
@@ -29,7 +31,7 @@ awaited : (from : ℕ) (g : Gathering) → g.parts from ≡ None → awaits from
 awaited from g e = ap (λ (o : Option Part). elim o [ None ↦ true | Some part ↦ false ]) e
 
 -- A message without bytes.
-plain_safe : (w : World) (s : Rattle.crl_machine.specs.SingleMachine.State) (i from : ℕ) (k : Kind) → IsRoundMail w s from i k → MeetsTest (w.nodes i) from k → MessageIsSafe (w.nodes i) from k
+plain_safe : (w : World) (s : State) (i from : ℕ) (k : Kind) → IsRoundMail w s from i k → MeetsTest (w.nodes i) from k → MessageIsSafe (w.nodes i) from k
 plain_safe w s i from (kind.Come round part) m t = subst (λ j. awaits from (w.nodes j).gathering ≡ true) (sym m.to_first) (awaited from (w.nodes 0).gathering m.awaited)
 plain_safe w s i from (kind.Ask name write have) m t = t
 plain_safe w s i from (kind.Grant name version granted) m t = t
@@ -81,13 +83,13 @@ came_safe count capacity run r i p rest small took = record {
     few : i < w.count
     few = subst (λ k. i < k) (sym (count_in_run count capacity run r)) small
 
-    counted : Rattle.crl_deeds.specs.Counts.Counted count i n
+    counted : Counted count i n
     counted = counted_in_runs count capacity run r i
 
     sent : GoesToOther w.count p.message × (p.message.addressee ≡ i)
     sent = (boxes_to_others count capacity run r).inbox i p rest took
 
-    makes : Rattle.crl_regions.specs.Reached.MakesFitting n p
+    makes : MakesFitting n p
     makes = whole_meet count capacity run r i p rest few took
 
     mail : IsRoundMail w (machine_of count capacity run) p.message.sender i p.message.kind

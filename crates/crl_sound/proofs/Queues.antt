@@ -1,7 +1,7 @@
 -- A queue of asks of different nodes of the world has room for one more node.
 use Rattle.std.proofs.Common.{◌≡◌, ◌≢◌, ℕ, zero, suc, ◌+◌, ◌<◌, ◌≤◌, ◌==◌, Bool, true, false, ◌||◌, None, Some, Option, List, [], ◌∷◌, ◌++◌, length, if◌then◌else◌, refl, ap, sym, ◌∙◌, subst, arith}
 use Rattle.std.specs.List.{AllByRecursion}
-use Rattle.std.proofs.lemmas.Bool.{cond-true, cond-false, eqb-true, eqb-false, ne_eqb}
+use Rattle.std.proofs.lemmas.Bool.{cond-false, eqb-true, eqb-false, ne_eqb}
 use Rattle.crl_model.specs.declared.directory.Asked.{Asked}
 use Rattle.crl_protocol.specs.Handlers.{is_queued}
 use Rattle.crl_protocol.specs.Places.{find_all}

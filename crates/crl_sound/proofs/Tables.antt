@@ -1,5 +1,5 @@
 -- In every run each table of a region has a place for each node of the world, and the asks in its queue are of such nodes.
-use Rattle.std.proofs.Common.{◌≡◌, ℕ, zero, suc, ◌+◌, ◌<◌, ◌==◌, Bool, true, false, ◌&&◌, not, None, Some, Option, List, [], ◌∷◌, ◌++◌, length, replicate, if◌then◌else◌, refl, ap, sym, ◌∙◌, subst, arith}
+use Rattle.std.proofs.Common.{◌≡◌, ℕ, zero, suc, ◌+◌, ◌<◌, ◌==◌, Bool, true, false, ◌&&◌, not, None, Some, Option, List, [], ◌∷◌, ◌++◌, length, replicate, if◌then◌else◌, refl, sym, ◌∙◌, subst, arith}
 use Rattle.std.specs.List.{AllByRecursion}
 use Rattle.std.proofs.lemmas.Bool.{cond_both}
 use Rattle.crl_model.specs.declared.name.Name.{Name}
@@ -18,7 +18,7 @@ use Rattle.crl_protocol.specs.Node.{Node, new_node, Outcome, home_of, with_home,
 use Rattle.crl_protocol.specs.Calls.{creates}
 use Rattle.crl_protocol.specs.World.{new_world, world_of, IsRunFrom}
 use Rattle.crl_deeds.specs.Counts.{Counted, Plain}
-use Rattle.crl_deeds.specs.Deeds.{Cause, Calls, Hears, EndsCall, a_read, a_write, Serves, ask_comes, copy_returns, copy_lowers, Copies, home_opens, home_waits, home_ends, home_serves, home_serves_own, Lives, made, used_up, Rounds, comes_away, Notes, flushes_own, Deed, copies, lives, rounds, notes}
+use Rattle.crl_deeds.specs.Deeds.{Cause, EndsCall, a_read, a_write, Serves, ask_comes, copy_returns, copy_lowers, Copies, home_opens, home_waits, home_ends, home_serves, home_serves_own, Lives, made, used_up, Rounds, comes_away, Notes, flushes_own, Deed, copies, lives, rounds, notes}
 use Rattle.crl_deeds.specs.Turns.{Came, Local, Held}
 use Rattle.crl_deeds.proofs.Laws.{home_put, home_end, home_none, held_run, counted_local, counted_start, all_append}
 
