@@ -19,9 +19,12 @@ use Rattle.crl_regions.specs.MailFits.{HasSize}
 use Rattle.crl_regions.specs.View.{side, sight, table_of, table_or_blank, array_of}
 use Rattle.crl_regions.proofs.Laws.{regions_in_runs, sections_are_tables, sizes_known, askers_wait, count_in_run}
 use Rattle.crl_safety.specs.Safety.{HomeIsSafe, RemoteIsSafe, BytesAreSafe}
-use Rattle.crl_sound.specs.Sound.{AfterEachRun, NodesAreSafe}
+use Rattle.crl_sound.specs.Sound.{AfterAnyRun, AfterEachRun, NodesKnowTheirNumber, NodesAreSafe}
 use Rattle.crl_sound.proofs.Tables.{TableFits, counted_in_runs, tables_in_runs}
 use Rattle.crl_sound.proofs.Queues.{asks_differ, has_room, not_queued}
+
+pub numbers_known : AfterAnyRun NodesKnowTheirNumber
+numbers_known count capacity run r i = let c = counted_in_runs count capacity run r i in (c.me, c.few)
 
 -- The counters.
 counters_of : (count capacity : ℕ) (run : List Event) → IsRun count capacity run → (i : ℕ) → i < count → CountersFit (length run) ((world_of count capacity run).nodes i)

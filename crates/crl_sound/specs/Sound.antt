@@ -14,6 +14,10 @@ AfterAnyRun Holds = (count capacity : ℕ) (run : List Event) → IsRunFrom (new
 abbrev pub AfterEachRun : (ℕ → World → Type 0) → Type 0
 AfterEachRun Holds = (count capacity : ℕ) (run : List Event) → IsRun count capacity run → Holds count (world_of count capacity run)
 
+-- each node has its own number, and knows how many nodes there are
+abbrev pub NodesKnowTheirNumber : ℕ → World → Type 0
+NodesKnowTheirNumber count w = (i : ℕ) → ((w.nodes i).me ≡ i) × ((w.nodes i).nodes ≡ count)
+
 abbrev pub NodesAreSafe : ℕ → World → Type 0
 NodesAreSafe count w = (i : ℕ) → i < count → IsSafe (w.nodes i)
 

@@ -1,5 +1,10 @@
 //! The theorems. What is safe is defined in `crl_safety`.
-ghost use Rattle.crl_sound.specs.Sound.{AfterEachRun, AfterAnyRun, NodesAreSafe, PiecesAreSafe, PiecesLeaveForOthers};
+ghost use Rattle.crl_sound.specs.Sound.{AfterEachRun, AfterAnyRun, NodesKnowTheirNumber, NodesAreSafe, PiecesAreSafe, PiecesLeaveForOthers};
+
+/// Each node has its own number, and knows how many nodes there are.
+pub fn nodes_know_their_number()
+    ensures { AfterAnyRun NodesKnowTheirNumber }
+{}
 
 /// After each run every node is safe: what it has of its own regions and of others fits together, and no counter that the
 /// next event raises passes a word.
