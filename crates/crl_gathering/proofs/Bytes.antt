@@ -1,5 +1,5 @@
 -- How many bytes a round brings.
-use Rattle.std.proofs.Common.{◌≡◌, ℕ, ℤ, pos, ◌+ℤ◌, zero, suc, ◌+◌, ◌<◌, ◌≤◌, Bool, true, false, List, [], ◌∷◌, refl, sym, ap, ◌∙◌, arith, length, max, if◌then◌else◌}
+use Rattle.std.proofs.Common.{◌≡◌, ℕ, ℤ, pos, ◌+ℤ◌, zero, suc, ◌≤◌, Bool, true, false, List, [], ◌∷◌, refl, ap, arith, length, max, if◌then◌else◌}
 use Rattle.std.specs.Option.{option_map_or}
 use Rattle.std.specs.declared.option.Option.{Option}
 use Rattle.std.specs.declared.option.Option.TheVariants.{None, Some}
@@ -8,7 +8,7 @@ use Rattle.crl_model.specs.declared.collective.Part.TheVariants as part
 use Rattle.crl_model.specs.declared.collective.Fold.TheVariants as fold
 use Rattle.crl_model.specs.FoldOf.{are_barriers, sum_from, least_from, greatest_from, sent_from, fold_of}
 use Rattle.crl_protocol.specs.Places.{put}
-use Rattle.crl_gathering.specs.Lengths.{part_bytes, fold_bytes, slot_bytes, longest_sent, FoldFits}
+use Rattle.crl_gathering.specs.Lengths.{part_bytes, fold_bytes, longest_sent, FoldFits}
 use Rattle.crl_gathering.specs.RoundState.{present}
 
 abbrev sent_bytes : Option (List ℕ) → ℕ

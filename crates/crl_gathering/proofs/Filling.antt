@@ -8,11 +8,11 @@ use Rattle.std.proofs.lemmas.Bool.{cond-true, cond-false, eqb-true, eqb-false}
 use Rattle.crl_model.specs.declared.collective.Part.{Part}
 use Rattle.crl_model.specs.Names.{at_node}
 use Rattle.crl_model.specs.FoldOf.{fold_of}
-use Rattle.crl_protocol.specs.Gathering.{Gathering, no_parts, first_round, with_part, all_parts, after_parts, gathers}
+use Rattle.crl_protocol.specs.Gathering.{Gathering, no_parts, with_part, all_parts, after_parts, gathers}
 use Rattle.crl_protocol.specs.Places.{at, put}
 use Rattle.crl_gathering.specs.Tallies.{tally_gives}
 use Rattle.crl_gathering.specs.declared.tally.Tally.{Tally}
-use Rattle.crl_gathering.specs.RoundState.{RoundState, gathering_of, next_round, round_step, completes_round, are_there, others_there, with_present, present}
+use Rattle.crl_gathering.specs.RoundState.{RoundState, next_round, round_step, completes_round, are_there, others_there, with_present, present}
 
 pub slots_put : (n : ℕ) (v : Option Part) (xs : List (Option Part)) → n < length xs → put n v xs ≡ slice_set xs n v
 slots_put n v [] h = grind arith

@@ -2,9 +2,9 @@
 ghost use Rattle.std.specs.Prelude.{◌≡◌};
 
 use crate::{Round, copy_fold, fold_len};
+use crl_model::OutOfMemory;
 use crl_model::bytes::Bytes;
 use crl_model::collective::{Fold, Part};
-use crl_model::OutOfMemory;
 use crl_outbox::Paper;
 
 #[test]
@@ -21,7 +21,9 @@ fn sums_are_folded(rt: HostRuntime) -> Result<(), OutOfMemory> {
     }
     assert!(rt; round.is_last(2));
     if round.awaits(2) && round.number() < 9 {
-        assert!(rt; round.contribute(2, Part::Sum(i64::MAX)) == Some(Fold::Sum(9_223_372_036_854_775_805)));
+        assert!(rt;
+            round.contribute(2, Part::Sum(i64::MAX)) == Some(Fold::Sum(9_223_372_036_854_775_805))
+        );
     }
     assert_eq!(rt; round.number(), 2);
     assert!(rt; round.awaits(1));

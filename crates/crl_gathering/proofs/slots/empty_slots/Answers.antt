@@ -1,4 +1,4 @@
-use Rattle.std.proofs.Common.{◌∙◌, ap, arith, length}
+use Rattle.std.proofs.Common.{◌∙◌, ap, arith}
 use Rattle.crl_protocol.specs.Places.{at}
 use Rattle.crl_gathering.proofs.Filling.{none_more}
 use Rattle.crl_gathering.proofs.slots.empty_slots.Goals as goal

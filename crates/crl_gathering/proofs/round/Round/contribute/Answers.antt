@@ -1,5 +1,4 @@
 use Rattle.std.proofs.Common.{◌≡◌, ◌<◌, true, false, Some, ◌∙◌, sym, ap, subst, arith, length}
-use Rattle.crl_model.specs.declared.collective.Fold.{Fold}
 use Rattle.crl_model.specs.FoldOf.{fold_of}
 use Rattle.crl_protocol.specs.Gathering.{RoundStep}
 use Rattle.crl_protocol.specs.Places.{put}
