@@ -1,8 +1,7 @@
 -- The lifetimes by serial, where a row is added, read or written.
-use Rattle.std.proofs.Common.{◌≡◌, ◌≢◌, ℕ, zero, suc, ◌+◌, ◌-◌, ◌<◌, ◌≤◌, Bool, true, false, ◌==◌, List, [], ◌∷◌, ◌++◌, refl, sym, ap, ◌∙◌, arith, length, slice_index_or, slice_set, if◌then◌else◌}
-use Rattle.std.specs.Prelude.{All}
+use Rattle.std.proofs.Common.{◌≡◌, ◌≢◌, ℕ, zero, suc, ◌+◌, ◌-◌, ◌<◌, ◌≤◌, Bool, true, false, ◌==◌, List, [], ◌∷◌, ◌++◌, refl, sym, ap, ◌∙◌, arith, length, slice_index_or, slice_set}
 use Rattle.std.proofs.lemmas.List.Elements.{All-push, All-set, All-get_or}
-use Rattle.std.proofs.lemmas.Bool.{cond-true, cond-false, eqb-true, eqb-false, ne_eqb}
+use Rattle.std.proofs.lemmas.Bool.{cond-true, cond-false, eqb-false, ne_eqb}
 use Rattle.crl_model.specs.Names.{at_node}
 use Rattle.crl_protocol.specs.Lifetimes.{Lifetime, no_lifetime, lifetime_with_asker}
 use Rattle.crl_stages.specs.declared.row.Row.{Row}
