@@ -5,6 +5,8 @@ use Rattle.std.specs.declared.option.Option.{Option}
 use Rattle.std.specs.declared.option.Option.TheVariants.{None, Some}
 use Rattle.crl_model.specs.declared.name.Name.{Name}
 use Rattle.crl_model.specs.Guards.{Guard}
+use Rattle.crl_model.specs.declared.directory.Section.{Section}
+use Rattle.crl_model.specs.declared.directory.Section.TheVariants.{Closed, Reading, Writing}
 use Rattle.crl_model.specs.Names.{at_name}
 use Rattle.crl_table.specs.Tables.{table_of, has_place, weight}
 use Rattle.crl_protocol.specs.Home.{is_reading}
@@ -28,6 +30,12 @@ pub record HasSections (name : Name) (r : Option OpenSection) (old new : Section
   pub last : new.last ≡ old.last
   pub rows : table_of new.rows ≡ at_name (table_of old.rows) name r
   pub places : has_place new.rows ≡ has_place old.rows
+
+-- there is no row of a region of which no section is open
+abbrev pub IsAbsentIfClosed : Section → Option OpenSection → Type 0
+IsAbsentIfClosed Closed row = row ≡ None
+IsAbsentIfClosed (Reading count) row = Unit {0}
+IsAbsentIfClosed Writing row = Unit {0}
 
 -- A section may begin: to write where none is open, to read also inside read sections of as many bytes.
 abbrev pub CanBegin : Bool → List ℕ → Option OpenSection → Type 0
