@@ -99,7 +99,8 @@ impl Open {
 
     /// Which sections are open.
     pub fn section(&self) -> Section
-        ensures { result ≡ self.now.section }
+        ensures section { result ≡ self.now.section }
+        ensures some { 0 < guards_in result }
     {
         self.section
     }
@@ -109,13 +110,6 @@ impl Open {
         ensures { result ≡ self.now.number }
     {
         self.number
-    }
-
-    /// The bytes with which they began.
-    pub fn bytes(&self) -> &[u8]
-        ensures { result.now ≡ self.now.bytes }
-    {
-        self.bytes.as_slice()
     }
 
     /// How many guards are out.
