@@ -1,0 +1,3 @@
+pub mod Members
+pub mod Seen
+pub mod Stepping

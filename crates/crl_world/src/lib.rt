@@ -1,0 +1,13 @@
+//! All nodes of a run in one value: each event that may come, the choices of a turn, and what is read at the end. The
+//! world is generic in its nodes, and a contract sees it as the protocol's world.
+#![tactic(auto)]
+
+mod carrying;
+mod ends;
+mod faults;
+mod steps;
+mod world;
+
+pub use faults::{CallFault, EndFault, StartFault, StepFault};
+pub use steps::EVENT_LIMIT;
+pub use world::World;
