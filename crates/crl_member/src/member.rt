@@ -21,7 +21,7 @@ use crl_model::directory::Section;
 use crl_model::journal::Recorded;
 use crl_model::name::Name;
 use crl_model::{NodeNo, OutOfMemory};
-use crl_pane::{Reading, Writing};
+use crl_guard::{Reading, Writing};
 use std::alloc::Global;
 
 /// A node. A contract sees it as the protocol's node, its state.

@@ -7,7 +7,7 @@ use crate::faults::EndFault;
 use crate::steps::EVENT_LIMIT;
 use crate::world::World;
 use crl_member::Member;
-use crl_pane::{Reading, Writing};
+use crl_guard::{Reading, Writing};
 
 impl<N: Member> World<N> {
     /// The guard is of a read section that is open at its node, and has its bytes.

@@ -15,7 +15,7 @@ use crl_member::Member;
 use crl_model::NodeNo;
 use crl_model::activity::Answer;
 use crl_model::call::Call;
-use crl_pane::{Reading, Writing};
+use crl_guard::{Reading, Writing};
 
 /// The largest number of events of a world, 2^62.
 pub const EVENT_LIMIT: u64 = 0x4000_0000_0000_0000;
