@@ -13,6 +13,7 @@ use crl_guard::{Reading, Writing};
 use crl_model::NodeNo;
 use crl_model::name::Name;
 use crl_model::stage::Stage;
+use crl_outbox::Mailbox;
 
 impl Node {
     /// The addressee of the piece at this place of the outbox.
@@ -20,7 +21,7 @@ impl Node {
         requires { place < length (state self.now).outbox }
         ensures { result ≡ addressee_of (take_out place (state self.now).outbox) }
     {
-        self.desk.outbox.piece(place).message.addressee
+        addressee_in(&self.desk.outbox, place)
     }
 
     /// Whether the guard is of a read section that is open here, and has its bytes.
@@ -69,4 +70,12 @@ impl Node {
         }
         None
     }
+}
+
+/// The addressee of the piece at this place.
+fn addressee_in(outbox: &Mailbox, place: usize) -> NodeNo
+    requires { place < length outbox.now.list }
+    ensures { result ≡ addressee_of (take_out place outbox.now.list) }
+{
+    outbox.piece(place).message.addressee
 }
