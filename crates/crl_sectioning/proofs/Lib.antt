@@ -1,0 +1,6 @@
+mod Begins
+mod Flushes
+mod Heard
+mod HomeStarts
+mod Lets
+mod RemoteStarts
