@@ -7,11 +7,14 @@ use Rattle.crl_model.specs.declared.name.Name.{Name}
 use Rattle.crl_model.specs.declared.directory.Section.{Section}
 use Rattle.crl_model.specs.declared.directory.Section.TheVariants.{Closed, Reading, Writing}
 use Rattle.crl_model.specs.declared.call.Refusal.{Refusal}
+use Rattle.crl_model.specs.declared.call.Refusal.TheVariants.{NotReading}
+use Rattle.crl_model.specs.declared.call.Call.TheVariants.{EndRead, EndWrite}
 use Rattle.crl_protocol.specs.Home.{is_reading}
-use Rattle.crl_protocol.specs.Sections.{OpenSection, section_of, section_at, count_of}
+use Rattle.crl_protocol.specs.Sections.{OpenSection, section_of, section_at, section_bytes, count_of, is_writing}
 use Rattle.crl_protocol.specs.Node.{Node, COUNT_LIMIT}
-use Rattle.crl_protocol.specs.Verdict.{verdict, else_if, of_start, of_more, of_unmapped}
+use Rattle.crl_protocol.specs.Verdict.{verdict, else_if, of_start, of_end, of_more, of_unmapped, refuse_if}
 use Rattle.crl_sections.specs.SectionsState.{IsAbsentIfClosed}
+use Rattle.crl_remote.specs.Copies.{IsReading, IsWriting}
 use Rattle.crl_sectioning.specs.Starts.{start_call, MayOpen}
 
 second_none : (a b : Option Refusal) → else_if a b ≡ None → b ≡ None
@@ -57,3 +60,41 @@ pub may_open : (write : Bool) (size : ℕ) (row : Option OpenSection) → of_sta
 may_open write size None heard absent word sized = tt
 may_open true size (Some o) heard absent word sized = absurd (none_if_closed o absent (closed_to_write o.section heard))
 may_open false size (Some o) heard absent word sized = (reads_inside o.section heard (none_if_closed o absent), count_below false o.section heard word, sym (sized o refl))
+
+-- the sections that an end finds open
+pub heard_end_read : (name : Name) (n : Node) → verdict n (EndRead name) ≡ None → of_end false (section_at name n.sections) ≡ None
+unfolding verdict
+heard_end_read name n e = second_none (of_unmapped n name) _ e
+
+pub heard_end_write : (name : Name) (bytes : List ℕ) (n : Node) → verdict n (EndWrite name bytes) ≡ None → of_end true (section_at name n.sections) ≡ None
+unfolding verdict
+heard_end_write name bytes n e = second_none (of_unmapped n name) _ e
+
+some_reads : (count : ℕ) (b : Bool) → (count == 0) ≡ b → refuse_if b NotReading ≡ None → 0 < count
+some_reads count true e heard = absurd (cc)
+some_reads count false e heard = let other = eqb-false count 0 e in omega arith
+
+pub end_reads : (s : Section) → of_end false s ≡ None → is_reading s ≡ true
+end_reads Closed e = absurd (cc)
+end_reads (Reading count) e = refl
+end_reads Writing e = absurd (cc)
+
+pub end_reads_here : (s : Section) → of_end false s ≡ None → IsReading s
+end_reads_here Closed e = absurd (cc)
+end_reads_here (Reading count) e = some_reads count (count == 0) refl e
+end_reads_here Writing e = absurd (cc)
+
+pub end_writes : (s : Section) → of_end true s ≡ None → is_writing s ≡ true
+end_writes Closed e = absurd (cc)
+end_writes (Reading count) e = absurd (cc)
+end_writes Writing e = refl
+
+pub end_writes_here : (s : Section) → of_end true s ≡ None → IsWriting s
+end_writes_here Closed e = absurd (cc)
+end_writes_here (Reading count) e = absurd (cc)
+end_writes_here Writing e = tt
+
+-- a section that is written began with as many bytes as the region has
+pub written_size : (size : ℕ) (row : Option OpenSection) → of_end true (section_of row) ≡ None → ((o : OpenSection) → row ≡ Some o → length o.bytes ≡ size) → length (section_bytes row) ≡ size
+written_size size None heard sized = absurd (cc)
+written_size size (Some o) heard sized = sized o refl

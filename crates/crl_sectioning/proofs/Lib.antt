@@ -1,4 +1,6 @@
 mod Begins
+mod Closes
+mod Finds
 mod Flushes
 mod Heard
 mod HomeStarts

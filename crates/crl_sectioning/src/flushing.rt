@@ -1,19 +1,19 @@
 //! A flush.
 ghost use Rattle.std.specs.Prelude.{◌≡◌, ◌+◌, IfOk, true, false};
 ghost use Rattle.crl_pieces.specs.Pieces.{count};
-ghost use Rattle.crl_model.specs.declared.entry.What.TheVariants as what;
-ghost use Rattle.crl_protocol.specs.Node.{is_mine, Done};
+ghost use Rattle.crl_protocol.specs.Node.{is_mine};
 ghost use Rattle.crl_protocol.specs.Sectioning.{flushes};
 ghost use Rattle.crl_remote.specs.RemotesState.{row_at, IsThere};
 ghost use Rattle.crl_desk.specs.Desks.{state, acted, HasRoom};
-ghost use Rattle.crl_sectioning.specs.Acts.{IsFlushReady, SendsNothing, with_entry};
+ghost use Rattle.crl_sectioning.specs.Acts.{IsFlushReady, SendsNothing};
 
 use crate::place::{Place, place_of};
+use crate::recording::record;
 use crl_desk::Desk;
 use crl_guard::{Reading, Writing};
 use crl_model::OutOfMemory;
 use crl_model::activity::Answer;
-use crl_model::entry::{Entry, What};
+use crl_model::entry::What;
 use crl_model::name::Name;
 use crl_outbox::Sheets;
 use crl_pieces::parts::count;
@@ -59,7 +59,7 @@ fn flush_remote(desk: &mut Desk, at: u64, name: Name, sheets: Sheets) -> Answer<
     ensures room { HasRoom 0 0 1 desk.new }
 {
     desk.remotes.flush(name, sheets, &mut desk.outbox);
-    record_flush(desk, at, name)
+    record(desk, at, What::Flush { name })
 }
 
 /// The flush of a region of the node's own, or of one that isn't here.
@@ -71,23 +71,5 @@ fn flush_nothing(desk: &mut Desk, at: u64, name: Name) -> Answer<Reading, Writin
     ensures answer { result ≡ (flushes name (state desk.old)).answer }
     ensures room { HasRoom 0 0 1 desk.new }
 {
-    record_flush(desk, at, name)
-}
-
-/// The entry of a flush.
-fn record_flush(desk: &mut Desk, at: u64, name: Name) -> Answer<Reading, Writing>
-    requires room { HasRoom 0 1 1 desk.old }
-    ensures state { state desk.new ≡ with_entry at (what.Flush name) (state desk.old) }
-    ensures answer { result ≡ Done }
-    ensures room { HasRoom 0 0 1 desk.new }
-{
-    let what = What::Flush { name };
-    desk.journal.record(
-        at,
-        Entry {
-            node: desk.me,
-            what,
-        },
-    );
-    Answer::Done
+    record(desk, at, What::Flush { name })
 }

@@ -4,7 +4,12 @@
 
 mod flushing;
 mod place;
+mod reading;
+mod recording;
 mod starting;
+mod writing;
 
 pub use flushing::{flush, ready_flush};
+pub use reading::end_read;
 pub use starting::start;
+pub use writing::end_write;
