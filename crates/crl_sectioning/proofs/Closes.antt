@@ -1,7 +1,7 @@
 -- The end of a section.
 use Rattle.std.proofs.Common.{◌≡◌, refl, ℕ, ◌-◌, false, List, ◌++◌}
 use Rattle.std.specs.declared.option.Option.{Option}
-use Rattle.std.specs.declared.option.Option.TheVariants.{None, Some}
+use Rattle.std.specs.declared.option.Option.TheVariants.{Some}
 use Rattle.crl_model.specs.declared.name.Name.{Name}
 use Rattle.crl_model.specs.declared.piece.Piece.{Piece}
 use Rattle.crl_model.specs.declared.entry.What.{What}

@@ -1,5 +1,5 @@
 -- A flush, of a node that has a copy, and of one that has none.
-use Rattle.std.proofs.Common.{◌≡◌, refl, sym, ℕ, Bool, true, false, List, [], ◌∷◌, ◌++◌, if◌then◌else◌}
+use Rattle.std.proofs.Common.{◌≡◌, refl, ℕ, Bool, true, false, List, ◌++◌, if◌then◌else◌}
 use Rattle.std.proofs.lemmas.List.{append-nil}
 use Rattle.std.specs.declared.option.Option.{Option}
 use Rattle.std.specs.declared.option.Option.TheVariants.{None, Some}
@@ -8,7 +8,7 @@ use Rattle.crl_model.specs.declared.piece.Piece.{Piece}
 use Rattle.crl_model.specs.declared.entry.What.TheVariants as what
 use Rattle.crl_model.specs.Names.{at_name}
 use Rattle.crl_protocol.specs.Remote.{Remote, remote_flushes}
-use Rattle.crl_protocol.specs.Node.{Node, Outcome, Done, only, is_mine}
+use Rattle.crl_protocol.specs.Node.{Node, Done, only, is_mine}
 use Rattle.crl_protocol.specs.Sectioning as sectioning
 use Rattle.crl_remote.specs.Posts.{mail_pieces}
 use Rattle.crl_desk.specs.Desks.{acted}

@@ -1,5 +1,5 @@
 -- What the verdict tells of the sections that are open, where it refuses nothing.
-use Rattle.std.proofs.Common.{◌≡◌, refl, sym, ◌∙◌, subst, ap, ℕ, ◌-◌, ◌<◌, ◌^◌, ◌==◌, Bool, true, false, not, List, length, arith}
+use Rattle.std.proofs.Common.{◌≡◌, refl, sym, subst, ℕ, ◌-◌, ◌<◌, ◌^◌, ◌==◌, Bool, true, false, List, length, arith}
 use Rattle.std.specs.declared.option.Option.{Option}
 use Rattle.std.specs.declared.option.Option.TheVariants.{None, Some}
 use Rattle.std.proofs.lemmas.Bool.{eqb-false}

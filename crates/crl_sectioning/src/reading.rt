@@ -40,12 +40,7 @@ pub fn end_read(desk: &mut Desk, at: u64, name: Name, seen: Bytes) -> Answer<Rea
 }
 
 /// The end where the node is the region's home.
-fn end_read_at_home(
-    desk: &mut Desk,
-    at: u64,
-    name: Name,
-    seen: Bytes,
-) -> Answer<Reading, Writing>
+fn end_read_at_home(desk: &mut Desk, at: u64, name: Name, seen: Bytes) -> Answer<Reading, Writing>
     requires room { HasRoom 0 0 0 desk.old }
     requires mine { is_mine (state desk.old) name ≡ true }
     requires there { home_of (state desk.old) name ≡ Some (table_at name desk.old.homes.homes) }
@@ -62,12 +57,7 @@ fn end_read_at_home(
 }
 
 /// The end over a copy.
-fn end_read_elsewhere(
-    desk: &mut Desk,
-    at: u64,
-    name: Name,
-    seen: Bytes,
-) -> Answer<Reading, Writing>
+fn end_read_elsewhere(desk: &mut Desk, at: u64, name: Name, seen: Bytes) -> Answer<Reading, Writing>
     requires room { HasRoom 0 0 0 desk.old }
     requires away { is_mine (state desk.old) name ≡ false }
     requires there { IsThere name desk.old.remotes }
@@ -84,12 +74,7 @@ fn end_read_elsewhere(
 }
 
 /// The end where the node doesn't have the region.
-fn end_read_nowhere(
-    desk: &mut Desk,
-    at: u64,
-    name: Name,
-    seen: Bytes,
-) -> Answer<Reading, Writing>
+fn end_read_nowhere(desk: &mut Desk, at: u64, name: Name, seen: Bytes) -> Answer<Reading, Writing>
     requires room { HasRoom 0 0 0 desk.old }
     requires nowhere { IsNowhere name (state desk.old) }
     requires reading { is_reading (section_at name (state desk.old).sections) ≡ true }

@@ -16,12 +16,7 @@ pub(crate) fn record(desk: &mut Desk, at: u64, what: What) -> Answer<Reading, Wr
     ensures answer { result ≡ Done }
     ensures room { HasRoom 0 0 1 desk.new }
 {
-    desk.journal.record(
-        at,
-        Entry {
-            node: desk.me,
-            what,
-        },
-    );
+    let node = desk.me;
+    desk.journal.record(at, Entry { node, what });
     Answer::Done
 }

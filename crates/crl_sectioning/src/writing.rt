@@ -59,12 +59,7 @@ fn close(sections: &mut Sections, name: Name, bytes: &Bytes) -> What
 }
 
 /// The end where the node is the region's home.
-fn end_write_at_home(
-    desk: &mut Desk,
-    at: u64,
-    name: Name,
-    bytes: Bytes,
-) -> Answer<Reading, Writing>
+fn end_write_at_home(desk: &mut Desk, at: u64, name: Name, bytes: Bytes) -> Answer<Reading, Writing>
     requires room { HasRoom 0 0 0 desk.old }
     requires mine { is_mine (state desk.old) name ≡ true }
     requires there { home_of (state desk.old) name ≡ Some (table_at name desk.old.homes.homes) }
@@ -105,12 +100,7 @@ fn end_write_elsewhere(
 }
 
 /// The end where the node doesn't have the region.
-fn end_write_nowhere(
-    desk: &mut Desk,
-    at: u64,
-    name: Name,
-    bytes: Bytes,
-) -> Answer<Reading, Writing>
+fn end_write_nowhere(desk: &mut Desk, at: u64, name: Name, bytes: Bytes) -> Answer<Reading, Writing>
     requires room { HasRoom 0 0 0 desk.old }
     requires nowhere { IsNowhere name (state desk.old) }
     requires writing { is_writing (section_at name (state desk.old).sections) ≡ true }

@@ -11,9 +11,9 @@ use Rattle.crl_sectioning.proofs.reading.end_read_at_home.Goals as goal
 pub returns-clause-state : goal.returns-clause-state
 returns-clause-state c =
     home_ends c.args.at c.args.name (what.Read c.args.name (bytes_at c.args.name (state c.args.desk.now).sections)) (what.Read c.args.name c.args.seen) (home_ends_read c.args.desk.now.me) remote_ends_read (state c.args.desk.now) _
-      (table_at c.args.name c.args.desk.now.homes.homes) (end_read_step c.args.name c.args.desk.now.homes) c.args.desk.now.homes.me _ _ _
-      c.requires.room.parts.home c.requires.there (ap (λ me. home_ends_read me (table_at c.args.name c.args.desk.now.homes.homes)) c.requires.room.parts.home)
-      (ap (λ bytes. what.Read c.args.name bytes) c.requires.seen) c.end_read.ensures.sections (ap (λ s. s.homes) c.end_read-2.ensures.homes) c.end_read-2.ensures.posts c.record.ensures.state
+    (table_at c.args.name c.args.desk.now.homes.homes) (end_read_step c.args.name c.args.desk.now.homes) c.args.desk.now.homes.me _ _ _
+    c.requires.room.parts.home c.requires.there (ap (λ me. home_ends_read me (table_at c.args.name c.args.desk.now.homes.homes)) c.requires.room.parts.home)
+    (ap (λ bytes. what.Read c.args.name bytes) c.requires.seen) c.end_read.ensures.sections (ap (λ s. s.homes) c.end_read-2.ensures.homes) c.end_read-2.ensures.posts c.record.ensures.state
 
 pub returns-clause-answer : goal.returns-clause-answer
 returns-clause-answer c =

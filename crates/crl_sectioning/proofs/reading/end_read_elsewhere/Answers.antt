@@ -11,9 +11,9 @@ use Rattle.crl_sectioning.proofs.reading.end_read_elsewhere.Goals as goal
 pub returns-clause-state : goal.returns-clause-state
 returns-clause-state c =
     remote_ends c.args.at c.args.name (what.Read c.args.name (bytes_at c.args.name (state c.args.desk.now).sections)) (what.Read c.args.name c.args.seen) (home_ends_read c.args.desk.now.me) remote_ends_read (state c.args.desk.now) _
-      (row_at c.args.name c.args.desk.now.remotes) (end_read_step c.args.name c.args.desk.now.remotes) c.args.desk.now.remotes.me _ _ _
-      c.requires.room.parts.remote c.requires.away c.requires.there refl
-      (ap (λ bytes. what.Read c.args.name bytes) c.requires.seen) c.end_read.ensures.sections c.end_read-2.ensures.row.rows c.end_read-2.ensures.posts c.record.ensures.state
+    (row_at c.args.name c.args.desk.now.remotes) (end_read_step c.args.name c.args.desk.now.remotes) c.args.desk.now.remotes.me _ _ _
+    c.requires.room.parts.remote c.requires.away c.requires.there refl
+    (ap (λ bytes. what.Read c.args.name bytes) c.requires.seen) c.end_read.ensures.sections c.end_read-2.ensures.row.rows c.end_read-2.ensures.posts c.record.ensures.state
 
 pub returns-clause-answer : goal.returns-clause-answer
 returns-clause-answer c =

@@ -11,9 +11,9 @@ use Rattle.crl_sectioning.proofs.writing.end_write_elsewhere.Goals as goal
 pub returns-clause-state : goal.returns-clause-state
 returns-clause-state c =
     remote_ends c.args.at c.args.name (what.Write c.args.name (bytes_at c.args.name (state c.args.desk.now).sections) c.args.bytes) c.close-what.result (home_ends_write c.args.desk.now.me c.args.bytes) (remote_ends_write c.args.bytes) (state c.args.desk.now) _
-      (row_at c.args.name c.args.desk.now.remotes) (end_write_step c.args.name c.args.bytes c.args.desk.now.remotes) c.args.desk.now.remotes.me _ _ _
-      c.requires.room.parts.remote c.requires.away c.requires.there refl
-      c.close-what.ensures.what c.close-what.ensures.sections c.end_write.ensures.row.rows c.end_write.ensures.posts c.record.ensures.state
+    (row_at c.args.name c.args.desk.now.remotes) (end_write_step c.args.name c.args.bytes c.args.desk.now.remotes) c.args.desk.now.remotes.me _ _ _
+    c.requires.room.parts.remote c.requires.away c.requires.there refl
+    c.close-what.ensures.what c.close-what.ensures.sections c.end_write.ensures.row.rows c.end_write.ensures.posts c.record.ensures.state
 
 pub returns-clause-answer : goal.returns-clause-answer
 returns-clause-answer c =
