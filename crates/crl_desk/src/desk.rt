@@ -13,6 +13,7 @@ use crl_outbox::Mailbox;
 use crl_parcels::Parcels;
 use crl_remote::Remotes;
 use crl_sections::Sections;
+use crl_stages::Stages;
 use crl_table::Table;
 use std::alloc::Global;
 
@@ -23,8 +24,9 @@ pub struct Desk {
     /// The node, and the number of nodes.
     pub me: NodeNo,
     pub nodes: NodeNo,
-    /// The tables of its own regions.
+    /// Of its own regions: their tables, and who has them.
     pub homes: Homes,
+    pub stages: Stages,
     /// Of other nodes' regions that are mapped or cached here.
     pub remotes: Remotes,
     pub maps: Table<Mapping>,
@@ -64,6 +66,7 @@ impl Desk {
             me,
             nodes,
             homes: Homes::new(alloc, me, nodes),
+            stages: Stages::new(alloc, nodes),
             remotes: Remotes::new(alloc, me),
             maps: Table::new(alloc),
             cache: Cache::new(alloc, capacity)?,

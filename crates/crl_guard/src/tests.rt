@@ -1,5 +1,5 @@
 //! Tests: bytes are changed through the guard of a write section, and what a node is at is taken once.
-ghost use Rattle.std.specs.Prelude.{◌≡◌, ◌≤◌, length};
+ghost use Rattle.std.specs.Prelude.{◌≡◌, IfOk};
 
 use crate::{Reading, Standing, Writing};
 use crl_model::OutOfMemory;
@@ -8,7 +8,9 @@ use crl_model::bytes::Bytes;
 use crl_model::name::Name;
 use std::alloc::Global;
 
-fn writing_of(alloc: Global, bytes: &[u8]) -> Result<Writing, OutOfMemory> {
+fn writing_of(alloc: Global, bytes: &[u8]) -> Result<Writing, OutOfMemory>
+    ensures { IfOk result (λ guard. guard.bytes ≡ bytes.now) }
+{
     Ok(Writing::new(
         Vec::from_slice(alloc, bytes)?,
         3,

@@ -1,5 +1,5 @@
 -- A key is looked for, place by place; a message is taken out, or put behind the others.
-use Rattle.std.proofs.Common.{◌≡◌, ℕ, zero, suc, ◌+◌, ◌<◌, ◌≤◌, Bool, true, false, Option, None, Some, List, [], ◌∷◌, ◌++◌, length, take, drop, slice_index_or, if◌then◌else◌, refl, sym, ap, ◌∙◌, arith}
+use Rattle.std.proofs.Common.{◌≡◌, ℕ, zero, suc, ◌+◌, ◌<◌, Bool, true, false, Option, None, Some, List, [], ◌∷◌, ◌++◌, length, take, slice_index_or, if◌then◌else◌, refl, sym, ap, ◌∙◌, arith}
 use Rattle.std.specs.Prelude.{remove}
 use Rattle.crl_pieces.specs.Gathering.{Gathering}
 use Rattle.crl_protocol.specs.Parcels.{Key, key_eq}
@@ -116,6 +116,7 @@ apart_behind p (x ∷ xs) e apart =
     let q : Key = key_of_parcel p.key in
     let r : Key = key_of_parcel x.key in
     let o : Option Gathering = gathering_in q xs in
-    let later : gathering_in q xs ≡ None = not_later x.gather o (key_eq q r) e in
-    (put_behind p xs later r ∙ neither p.gather (gathering_in r xs) (key_eq r q) (differ_back q r (key_eq r q) (not_first x.gather o (key_eq q r) e) refl) apart.0,
-    apart_behind p xs later apart.1)
+    let later : gathering_in q xs ≡ None = not_later x.gather o (key_eq q r) e in (
+      put_behind p xs later r ∙ neither p.gather (gathering_in r xs) (key_eq r q) (differ_back q r (key_eq r q) (not_first x.gather o (key_eq q r) e) refl) apart.0,
+      apart_behind p xs later apart.1,
+    )

@@ -1,5 +1,5 @@
 -- Keys that are equal are the same.
-use Rattle.std.proofs.Common.{◌≡◌, Bool, true, false, refl, sym, ap, ◌∙◌, arith}
+use Rattle.std.proofs.Common.{◌≡◌, true, false, refl, sym, ap, ◌∙◌, arith}
 use Rattle.crl_protocol.specs.Parcels.{Load, OfGrant, OfReturn, OfRelease, load_eq, Key, key_eq}
 
 load_same : (a b : Load) → load_eq a b ≡ true → a ≡ b

@@ -13,7 +13,8 @@ pub fn load_len(kind: &Kind) -> usize
     match kind {
         Kind::Grant { granted, .. } => granted_len(granted),
         Kind::Return {
-            bytes: Some(bytes), ..
+            bytes: Some(bytes),
+            ..
         } => bytes.len(),
         Kind::Release { bytes, .. } => bytes.len(),
         _ => 0,
@@ -40,7 +41,8 @@ pub fn take_load(kind: Kind) -> Bytes
             ..
         } => bytes,
         Kind::Return {
-            bytes: Some(bytes), ..
+            bytes: Some(bytes),
+            ..
         } => bytes,
         Kind::Release { bytes, .. } => bytes,
         _ => unreachable!(),

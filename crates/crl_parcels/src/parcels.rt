@@ -75,6 +75,16 @@ impl Parcels {
         }
     }
 
+    /// How many bytes the message with this key carries, if a piece of it came.
+    pub fn size_of(&self, key: ParcelKey) -> Option<u32>
+        ensures { result ≡ sizes_of self.now (key_of_parcel key) }
+    {
+        match place_of(self.list.as_slice(), key) {
+            Some(place) => Some(self.list[place].gather.size()),
+            None => None,
+        }
+    }
+
     /// The piece of this index, which is missing, comes of the message with this key, that carries the
     /// bytes of a region of this size. If no other is missing, answers the whole, and forgets the message.
     /// `blank` is needed if no other piece came. This takes no memory.

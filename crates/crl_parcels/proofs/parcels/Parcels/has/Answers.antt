@@ -1,4 +1,4 @@
-use Rattle.std.proofs.Common.{◌≡◌, ap, subst, ◌∙◌, Option}
+use Rattle.std.proofs.Common.{ap, ◌∙◌}
 use Rattle.std.specs.Option.{is_some}
 use Rattle.crl_parcels.specs.ParcelKeys.{key_of_parcel}
 use Rattle.crl_parcels.specs.ParcelsState.{gathering_in, slots_gathered}

@@ -1,4 +1,4 @@
-use Rattle.std.proofs.Common.{◌≡◌, ◌++◌, ◌∷◌, [], if◌then◌else◌, None, Some, List, false, subst, sym, ap, ◌∙◌}
+use Rattle.std.proofs.Common.{◌≡◌, if◌then◌else◌, None, Some, false, subst, sym, ap, ◌∙◌}
 use Rattle.crl_pieces.specs.Pieces.{with_piece, is_complete}
 use Rattle.crl_pieces.specs.Gathering.{Gathering}
 use Rattle.crl_protocol.specs.Parcels.{Key, key_eq}

@@ -1,0 +1,4 @@
+mod Bits
+mod Deletes
+mod Nodes
+mod Places

@@ -1,0 +1,3 @@
+pub mod NodeSets
+pub mod RowLifetimes
+pub mod StagesState
