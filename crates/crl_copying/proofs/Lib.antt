@@ -1,1 +1,3 @@
+mod Queues
 mod Recalls
+mod Served
