@@ -2,7 +2,7 @@
 use Rattle.std.specs.declared.option.Option.{Option}
 use Rattle.std.specs.declared.option.Option.TheVariants.{None, Some}
 use Rattle.crl_model.specs.declared.name.Name.{Name}
-use Rattle.std.specs.Prelude.{if◌then◌else◌, ◌==◌, ℕ, ◌+◌, ◌*◌, ◌^◌, ◌<◌, ◌≤◌, ◌≡◌, ◌++◌, List, length}
+use Rattle.std.specs.Prelude.{if◌then◌else◌, ℕ, ◌+◌, ◌<◌, ◌≤◌, ◌≡◌, ◌++◌, length}
 use Rattle.crl_protocol.specs.Gathering.{first_round}
 use Rattle.crl_protocol.specs.Node.{Node, Outcome, at_serial, is_mine}
 use Rattle.crl_protocol.specs.Parcels.{pieces_in}
@@ -72,7 +72,8 @@ size_or None = 0
 size_or (Some size) = size
 
 -- the size of the region as the node has it, 0 if it has none
+abbrev pub size_in : Name → Node → ℕ
+size_in name n = if is_mine n name then size_or (homes.size_or_none (at_serial name.serial n.homes)) else size_or (remotes.size_or_none (n.remotes name))
+
 abbrev pub size_at : Name → Desk → ℕ
-size_at name d =
-    if name.home == d.me then size_or (homes.size_or_none (at_serial name.serial d.homes.homes))
-    else size_or (remotes.size_or_none (table_of d.remotes.rows name))
+size_at name d = size_in name (state d)

@@ -50,12 +50,7 @@ impl Desk {
     /// # Errors
     ///
     /// `OutOfMemory`.
-    pub fn new(
-        alloc: Global,
-        me: NodeNo,
-        nodes: NodeNo,
-        capacity: u16,
-    ) -> Result<Desk, OutOfMemory>
+    pub fn new(alloc: Global, me: NodeNo, nodes: NodeNo, capacity: u16) -> Result<Desk, OutOfMemory>
         requires node { me < nodes }
         requires few { nodes ≤ 64 }
         ensures state { IfOk result (λ desk. state desk ≡ new_node nodes capacity me) }
@@ -97,7 +92,11 @@ impl Desk {
         ensures ok { OnOk result (HasRoom pieces records notes self.new) }
         ensures room { HasRoom 0 0 0 self.new }
     {
-        let owed = self.homes.owed().checked_add(self.remotes.owed()).ok_or(OutOfMemory)?;
+        let owed = self
+            .homes
+            .owed()
+            .checked_add(self.remotes.owed())
+            .ok_or(OutOfMemory)?;
         let places = owed.checked_add(pieces).ok_or(OutOfMemory)?;
         let guards = self.sections.guards();
         let records = guards.checked_add(records).ok_or(OutOfMemory)?;

@@ -3,5 +3,9 @@
 #![tactic(auto)]
 
 mod desk;
+mod kit;
+mod opening;
 
 pub use desk::Desk;
+pub use kit::SectionKit;
+pub use opening::{Shown, open_section};

@@ -41,6 +41,8 @@ pub record BytesAreSafe (n : Node) (name : Name) (s : OpenSection) : Type 0 wher
 pub record IsSafe (n : Node) : Type 0 where
   pub home : (name : Name) (h : Home) → home_of n name ≡ Some h → HomeIsSafe n name h
   pub remote : (name : Name) (r : Remote) → is_mine n name ≡ false → n.remotes name ≡ Some r → RemoteIsSafe n name r
+  -- of its own regions the node is the home, and nothing else
+  pub own : (name : Name) → is_mine n name ≡ true → n.remotes name ≡ None
   pub bytes : (name : Name) (s : OpenSection) → n.sections.records name ≡ Some s → BytesAreSafe n name s
   pub section_numbers : n.sections.last + 1 < 2 ^ 64
   pub rounds : n.rounds + 1 < 2 ^ 64

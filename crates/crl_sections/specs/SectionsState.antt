@@ -5,11 +5,12 @@ use Rattle.std.specs.declared.option.Option.{Option}
 use Rattle.std.specs.declared.option.Option.TheVariants.{None, Some}
 use Rattle.crl_model.specs.declared.name.Name.{Name}
 use Rattle.crl_model.specs.Guards.{Guard}
-use Rattle.crl_model.specs.Names.{at_name}
-use Rattle.crl_table.specs.Tables.{table_of, has_place, weight}
 use Rattle.crl_model.specs.declared.directory.Section.{Section}
 use Rattle.crl_model.specs.declared.directory.Section.TheVariants.{Closed, Reading, Writing}
-use Rattle.crl_protocol.specs.Sections.{Sections, OpenSection, section_at, bytes_at}
+use Rattle.crl_model.specs.Names.{at_name}
+use Rattle.crl_table.specs.Tables.{table_of, has_place, weight}
+use Rattle.crl_protocol.specs.Home.{is_reading}
+use Rattle.crl_protocol.specs.Sections.{Sections, OpenSection, section_at, bytes_at, count_of}
 use Rattle.crl_sections.specs.OpenSections.{guards_of, shows_to, is_written_by}
 
 -- the names that have a place, each with its open sections or none; and the last number given
@@ -29,6 +30,18 @@ pub record HasSections (name : Name) (r : Option OpenSection) (old new : Section
   pub last : new.last ≡ old.last
   pub rows : table_of new.rows ≡ at_name (table_of old.rows) name r
   pub places : has_place new.rows ≡ has_place old.rows
+
+-- there is no row of a region of which no section is open
+abbrev pub IsAbsentIfClosed : Section → Option OpenSection → Type 0
+IsAbsentIfClosed Closed row = row ≡ None
+IsAbsentIfClosed (Reading count) row = Unit {0}
+IsAbsentIfClosed Writing row = Unit {0}
+
+-- A section may begin: to write where none is open, to read also inside read sections of as many bytes.
+abbrev pub CanBegin : Bool → List ℕ → Option OpenSection → Type 0
+CanBegin write bytes None = Unit {0}
+CanBegin true bytes (Some r) = ⊥
+CanBegin false bytes (Some r) = (is_reading r.section ≡ true) × (count_of r.section < 2 ^ 32 - 1) × (length bytes ≡ length r.bytes)
 
 -- A section of so many bytes may begin beside those of a region that are open: to write where none is, to read
 -- also inside read sections of as many bytes.

@@ -99,7 +99,8 @@ impl Open {
 
     /// Which sections are open.
     pub fn section(&self) -> Section
-        ensures { result ≡ self.now.section }
+        ensures section { result ≡ self.now.section }
+        ensures some { 0 < guards_in result }
     {
         self.section
     }

@@ -5,7 +5,7 @@ ghost use Rattle.crl_table.specs.Tables.{table_of, has_place, HasPlace, weight, 
 ghost use Rattle.crl_protocol.specs.Home.{is_reading};
 ghost use Rattle.crl_protocol.specs.Sections.{no_sections, section_begins, section_ends, section_at, bytes_at, is_writing};
 ghost use Rattle.crl_sections.specs.OpenSections.{guards_of};
-ghost use Rattle.crl_sections.specs.SectionsState.{sections_of, guards, HasSections, MayBegin, fits_reading, fits_writing};
+ghost use Rattle.crl_sections.specs.SectionsState.{sections_of, guards, HasSections, IsAbsentIfClosed, MayBegin, fits_reading, fits_writing};
 
 use crate::open::Open;
 use crl_guard::{Reading, Writing};
@@ -72,7 +72,8 @@ impl Sections {
 
     /// Which sections of the region are open.
     pub fn section(&self, name: Name) -> Section
-        ensures { result ≡ section_at name (sections_of self.now) }
+        ensures section { result ≡ section_at name (sections_of self.now) }
+        ensures absent { IsAbsentIfClosed result (table_of self.now.rows name) }
     {
         match self.table.get(&name) {
             Some(open) => open.section(),
