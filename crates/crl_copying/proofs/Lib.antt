@@ -1,3 +1,4 @@
+mod Homes
 mod Queues
 mod Recalls
 mod Served

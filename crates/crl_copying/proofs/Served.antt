@@ -1,10 +1,10 @@
 -- A home has served its queue, and its own section opens if that was served.
 use Rattle.std.proofs.Common.{◌≡◌, refl, sym, ap, ℕ, ◌-◌, Bool, true, false, List, [], ◌∷◌, ◌++◌, append-nil, arith, if◌then◌else◌, ◌∙◌}
-use Rattle.std.specs.Prelude.{IsSome}
 use Rattle.std.specs.declared.option.Option.{Option}
 use Rattle.std.specs.declared.option.Option.TheVariants.{Some, None}
 use Rattle.crl_model.specs.declared.name.Name.{Name}
 use Rattle.crl_model.specs.declared.piece.Piece.{Piece}
+use Rattle.crl_model.specs.declared.directory.Asked.{Asked}
 use Rattle.crl_model.specs.declared.message.Kind.TheVariants as kind
 use Rattle.crl_protocol.specs.Home.{Home, HomeStep, home_takes_ask, home_takes_return, home_takes_release, return_fits, release_fits}
 use Rattle.crl_protocol.specs.Places.{put}
@@ -12,35 +12,10 @@ use Rattle.crl_protocol.specs.Node.{Node, is_mine, home_of, at_serial, with_home
 use Rattle.crl_protocol.specs.Sectioning.{after_serve}
 use Rattle.crl_protocol.specs.Handlers.{node_handles, is_queued_in}
 use Rattle.crl_home.specs.Posts.{letter_pieces}
-use Rattle.crl_home.specs.HomesState.{HomesState, table_or, table_at, with_table}
-use Rattle.crl_home.proofs.Laws.{table_is_put}
+use Rattle.crl_home.specs.HomesState.{HomesState, table_at, with_table, ask_step, return_step, release_step}
 use Rattle.crl_desk.specs.Desks.{acted}
 use Rattle.crl_copying.specs.Serving.{own_section, ready_with, if_served}
-
-of_mine : (b : Bool) (o : Option Home) (h : Home) → (if b then o else None) ≡ Some h → b ≡ true
-of_mine true o h e = refl
-of_mine false o h e = cc
-
-pub home_is_mine : (n : Node) (name : Name) (h : Home) → home_of n name ≡ Some h → is_mine n name ≡ true
-home_is_mine n name h e = of_mine (is_mine n name) (at_serial name.serial n.homes) h e
-
-of_there : (b : Bool) (o : Option Home) (h : Home) → (if b then o else None) ≡ Some h → o ≡ Some h
-of_there true o h e = e
-of_there false o h e = cc
-
-pub home_is_there : (n : Node) (name : Name) (h : Home) → home_of n name ≡ Some h → at_serial name.serial n.homes ≡ Some h
-home_is_there n name h e = of_there (is_mine n name) (at_serial name.serial n.homes) h e
-
-pub home_is_table : (n : Node) (name : Name) (h : Home) → home_of n name ≡ Some h → table_at name n.homes ≡ h
-home_is_table n name h e = ap table_or (home_is_there n name h e)
-
-pub some_is_some : (o : Option Home) (h : Home) → o ≡ Some h → IsSome o
-some_is_some None h e = cc
-some_is_some (Some g) h e = grind arith
-
--- the table stands where it was put
-put_table : (name : Name) (h t : Home) (old new : HomesState) → at_serial name.serial old.homes ≡ Some h → new ≡ with_table name t old → table_at name new.homes ≡ t
-put_table name h t old new there put_is = rw put_is (ap table_or (table_is_put name t old (some_is_some (at_serial name.serial old.homes) h there)))
+use Rattle.crl_copying.proofs.Homes.{home_is_there, home_is_table, home_is_some, put_table}
 
 -- what was posted and the table, if the home's own section opened, and if not
 served_open : (at : ℕ) (name : Name) (n : Node) (s : HomeStep) (homes : List (Option Home)) (out : List Piece) (sender : ℕ)
@@ -68,7 +43,7 @@ served_if at name n s homes out sender false opens is_me homes_are out_is table_
     served_shut at name n s homes out sender (sym opens) is_me homes_are out_is
 
 -- the step, over the table as the code has it
-pub served_law : (at : ℕ) (name : Name) (n : Node) (h : Home) (s : HomeStep) (old new : HomesState) (out : List Piece) (opened : Bool) (last : Node)
+served_law : (at : ℕ) (name : Name) (n : Node) (h : Home) (s : HomeStep) (old new : HomesState) (out : List Piece) (opened : Bool) (last : Node)
     → home_of n name ≡ Some h → old.homes ≡ n.homes → old.me ≡ n.me
     → new ≡ with_table name s.home old
     → out ≡ n.outbox ++ letter_pieces old.me name s.posts
@@ -76,6 +51,48 @@ pub served_law : (at : ℕ) (name : Name) (n : Node) (h : Home) (s : HomeStep) (
     → last ≡ if_served at name opened (record n { homes = new.homes; outbox = out })
     → last ≡ acted at (after_serve name s n)
 served_law at name n h s old new out opened last there same_homes is_me new_is out_is opened_is last_is =
-    let here : at_serial name.serial old.homes ≡ Some h = rw same_homes (home_is_there n name h there) in
     let put_is : new.homes ≡ put (name.serial - 1) (Some s.home) n.homes = rw new_is (rw same_homes refl) in
-    last_is ∙ served_if at name n s new.homes out old.me opened opened_is is_me put_is out_is (put_table name h s.home old new here new_is)
+    last_is ∙ served_if at name n s new.homes out old.me opened opened_is is_me put_is out_is (put_table name s.home old new (rw same_homes (home_is_some n name h there)) new_is)
+
+-- the step of the table is that of the node's region
+same_step : (name : Name) (n : Node) (h : Home) (old : HomesState) (step : ℕ → Home → HomeStep) → home_of n name ≡ Some h → old.homes ≡ n.homes → old.me ≡ n.me
+    → step old.me (table_at name old.homes) ≡ step n.me h
+same_step name n h old step there same_homes is_me =
+    ap (λ me. step me (table_at name old.homes)) is_me ∙ (ap (λ homes. step n.me (table_at name homes)) same_homes ∙ ap (step n.me) (home_is_table n name h there))
+
+pub ask_law : (at from : ℕ) (name : Name) (write : Bool) (have : ℕ) (n : Node) (h : Home) (old new : HomesState) (out : List Piece) (opened : Bool) (last : Node)
+    → home_of n name ≡ Some h → is_queued_in from n.homes ≡ false → old.homes ≡ n.homes → old.me ≡ n.me
+    → new ≡ with_table name (ask_step name (record { node = from; write = write; have = have }) old).home old
+    → out ≡ n.outbox ++ letter_pieces old.me name (ask_step name (record { node = from; write = write; have = have }) old).posts
+    → opened ≡ (ask_step name (record { node = from; write = write; have = have }) old).opened
+    → last ≡ if_served at name opened (record n { homes = new.homes; outbox = out })
+    → last ≡ acted at (node_handles from (kind.Ask name write have) n)
+unfolding node_handles
+ask_law at from name write have n h old new out opened last there none same_homes is_me new_is out_is opened_is last_is =
+    let asked : Asked = record { node = from; write = write; have = have } in
+    rw there (rw none (served_law at name n h (ask_step name asked old) old new out opened last there same_homes is_me new_is out_is opened_is last_is
+      ∙ ap (λ s. acted at (after_serve name s n)) (same_step name n h old (λ me. home_takes_ask me asked) there same_homes is_me)))
+
+pub return_law : (at from : ℕ) (name : Name) (version : ℕ) (bytes : Option (List ℕ)) (n : Node) (h : Home) (old new : HomesState) (out : List Piece) (opened : Bool) (last : Node)
+    → home_of n name ≡ Some h → return_fits from version bytes h ≡ true → old.homes ≡ n.homes → old.me ≡ n.me
+    → new ≡ with_table name (return_step name from bytes old).home old
+    → out ≡ n.outbox ++ letter_pieces old.me name (return_step name from bytes old).posts
+    → opened ≡ (return_step name from bytes old).opened
+    → last ≡ if_served at name opened (record n { homes = new.homes; outbox = out })
+    → last ≡ acted at (node_handles from (kind.Return name version bytes) n)
+unfolding node_handles
+return_law at from name version bytes n h old new out opened last there fits same_homes is_me new_is out_is opened_is last_is =
+    rw there (rw fits (served_law at name n h (return_step name from bytes old) old new out opened last there same_homes is_me new_is out_is opened_is last_is
+      ∙ ap (λ s. acted at (after_serve name s n)) (same_step name n h old (λ me. home_takes_return me from bytes) there same_homes is_me)))
+
+pub release_law : (at from : ℕ) (name : Name) (version : ℕ) (bytes : List ℕ) (n : Node) (h : Home) (old new : HomesState) (out : List Piece) (opened : Bool) (last : Node)
+    → home_of n name ≡ Some h → release_fits bytes h ≡ true → old.homes ≡ n.homes → old.me ≡ n.me
+    → new ≡ with_table name (release_step name from version bytes old).home old
+    → out ≡ n.outbox ++ letter_pieces old.me name (release_step name from version bytes old).posts
+    → opened ≡ (release_step name from version bytes old).opened
+    → last ≡ if_served at name opened (record n { homes = new.homes; outbox = out })
+    → last ≡ acted at (node_handles from (kind.Release name version bytes) n)
+unfolding node_handles
+release_law at from name version bytes n h old new out opened last there fits same_homes is_me new_is out_is opened_is last_is =
+    rw there (rw fits (served_law at name n h (release_step name from version bytes old) old new out opened last there same_homes is_me new_is out_is opened_is last_is
+      ∙ ap (λ s. acted at (after_serve name s n)) (same_step name n h old (λ me. home_takes_release me from version bytes) there same_homes is_me)))

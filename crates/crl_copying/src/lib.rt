@@ -2,5 +2,10 @@
 #![tactic(auto)]
 
 mod calling;
+mod granting;
+mod opening;
+mod serving;
 
 pub use calling::{ready_recall, take_recall, take_yield};
+pub use granting::take_grant;
+pub use serving::{take_ask, take_release, take_return};

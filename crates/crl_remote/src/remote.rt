@@ -1,5 +1,5 @@
 //! A node's side of one region of another home: its copy, and what opens and closes over it.
-ghost use Rattle.std.specs.Prelude.{◌≡◌, ◌+◌, ◌<◌, ◌≤◌, ◌++◌, IsSome, Some, None, true, length, option_copied, if◌then◌else◌};
+ghost use Rattle.std.specs.Prelude.{◌≡◌, ◌+◌, ◌<◌, ◌≤◌, ◌++◌, IsSome, IfSome, Some, None, true, length, option_copied, if◌then◌else◌};
 ghost use Rattle.crl_model.specs.declared.directory.Section.TheVariants.{Closed};
 ghost use Rattle.crl_pieces.specs.Pieces.{count};
 ghost use Rattle.crl_protocol.specs.Home.{one_section_less};
@@ -112,7 +112,8 @@ impl Remote {
 
     /// The bytes of the copy that is here, if one is.
     pub(crate) fn bytes(&self) -> Option<&[u8]>
-        ensures { bytes_of_copy self.now.copy ≡ option_copied result }
+        ensures bytes { bytes_of_copy self.now.copy ≡ option_copied result }
+        ensures sized { IfSome result (λ bytes. length bytes.now ≡ self.now.size) }
     {
         match &self.copy {
             Some(copy) => Some(copy.bytes.as_slice()),

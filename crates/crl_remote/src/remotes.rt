@@ -1,5 +1,5 @@
 //! A node's side of the regions of other homes, by name.
-ghost use Rattle.std.specs.Prelude.{◌≡◌, ◌+◌, ◌<◌, ◌≤◌, ◌^◌, IsOk, IsSome, None, Some, OnOk, OnErr, true, option_copied};
+ghost use Rattle.std.specs.Prelude.{◌≡◌, ◌+◌, ◌<◌, ◌≤◌, ◌^◌, IsOk, IsSome, IfSome, None, Some, OnOk, OnErr, true, length, option_copied};
 ghost use Rattle.crl_model.specs.Names.{at_name};
 ghost use Rattle.crl_table.specs.Tables.{table_of, has_place, HasPlace, weight_of};
 ghost use Rattle.crl_protocol.specs.Remote as table;
@@ -142,7 +142,8 @@ impl Remotes {
 
     /// The bytes of the copy of the region with this name. None if no copy is here.
     pub fn bytes(&self, name: Name) -> Option<&[u8]>
-        ensures { option_copied result ≡ bytes_in_row (table_of self.now.rows name) }
+        ensures bytes { option_copied result ≡ bytes_in_row (table_of self.now.rows name) }
+        ensures sized { IfSome result (λ bytes. length bytes.now ≡ (row_at name self.now).size) }
     {
         match self.rows.get(&name) {
             Some(row) => row.bytes(),
