@@ -1,3 +1,4 @@
+mod Grants
 mod Homes
 mod Queues
 mod Recalls
