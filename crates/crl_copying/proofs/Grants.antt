@@ -1,5 +1,5 @@
 -- A grant, at the node that waits for it.
-use Rattle.std.proofs.Common.{◌≡◌, refl, sym, ap, subst, ℕ, Bool, true, false, not, List, [], ◌∷◌, ◌++◌, append-nil, arith, if◌then◌else◌, ◌&&◌, ◌∙◌}
+use Rattle.std.proofs.Common.{◌≡◌, refl, sym, ap, ℕ, Bool, true, false, List, append-nil, ◌&&◌, ◌∙◌}
 use Rattle.std.specs.declared.option.Option.{Option}
 use Rattle.std.specs.declared.option.Option.TheVariants.{Some, None}
 use Rattle.crl_model.specs.declared.name.Name.{Name}
@@ -12,10 +12,10 @@ use Rattle.crl_protocol.specs.Remote.{Remote, remote_takes_grant, grant_fits, as
 use Rattle.crl_protocol.specs.Node.{Node, is_mine, section_opens}
 use Rattle.crl_protocol.specs.Sectioning.{copy_bytes}
 use Rattle.crl_protocol.specs.Handlers.{node_handles}
-use Rattle.crl_remote.specs.RemotesState.{row_or, size_or_none}
+use Rattle.crl_remote.specs.RemotesState.{row_or}
 use Rattle.crl_safety.specs.Safety.{IsSafe}
 use Rattle.crl_desk.specs.declared.kit.SectionKit.{SectionKit}
-use Rattle.crl_desk.specs.Desks.{acted, size_in, size_or}
+use Rattle.crl_desk.specs.Desks.{acted, size_in}
 use Rattle.crl_desk.specs.Kits.{HasPapers}
 use Rattle.crl_copying.specs.Serving.{ready_with, gives_write, AreFor}
 
@@ -66,7 +66,7 @@ granted_open at write name bytes n rows row rows_are = ap (λ (f : Name → Opti
 grant_opens : (at from : ℕ) (name : Name) (version : ℕ) (granted : Granted) (n : Node) (r : Remote)
     → n.remotes name ≡ Some r → grant_fits granted r ≡ true
     → ready_with at (section_opens (asks_to_write r.asking) name (copy_bytes (remote_takes_grant version granted r).copy) (record n { remotes = at_name n.remotes name (Some (remote_takes_grant version granted r)) }))
-      ≡ acted at (node_handles from (kind.Grant name version granted) n)
+    ≡ acted at (node_handles from (kind.Grant name version granted) n)
 unfolding node_handles section_opens
 grant_opens at from name version granted n r there fits = rw there (rw fits (rw (append-nil n.outbox) refl))
 

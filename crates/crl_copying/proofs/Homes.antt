@@ -1,5 +1,5 @@
 -- What there is at the home of a region before and after its step.
-use Rattle.std.proofs.Common.{◌≡◌, ◌≢◌, refl, sym, ap, ℕ, zero, suc, ◌+◌, ◌-◌, ◌<◌, ◌≤◌, ◌^◌, ◌==◌, length, Bool, true, false, List, [], ◌∷◌, ◌++◌, arith, if◌then◌else◌, ◌∙◌}
+use Rattle.std.proofs.Common.{◌≡◌, refl, sym, ap, ℕ, zero, suc, ◌+◌, ◌-◌, ◌<◌, ◌≤◌, ◌^◌, ◌==◌, length, Bool, true, false, List, [], ◌∷◌, arith, if◌then◌else◌, ◌∙◌}
 use Rattle.std.specs.Prelude.{IsSome}
 use Rattle.std.specs.declared.option.Option.{Option}
 use Rattle.std.specs.declared.option.Option.TheVariants.{Some, None}
@@ -18,10 +18,9 @@ use Rattle.crl_outbox.specs.MailboxState.{MailboxState}
 use Rattle.crl_safety.specs.Safety.{IsSafe}
 use Rattle.crl_desk.specs.declared.desk.Desk.{Desk}
 use Rattle.crl_desk.specs.declared.kit.SectionKit.{SectionKit}
-use Rattle.crl_desk.specs.Desks.{state, HasRoom, size_in, size_or}
+use Rattle.crl_desk.specs.Desks.{HasRoom, size_in, size_or}
 use Rattle.crl_desk.specs.Kits.{HasPapers}
 use Rattle.crl_copying.specs.Serving.{AreFor}
-use Rattle.crl_copying.specs.declared.opening.Papers.{Papers}
 use Rattle.crl_copying.proofs.Queues.{not_queued}
 
 of_mine : (b : Bool) (o : Option Home) (h : Home) → (if b then o else None) ≡ Some h → b ≡ true

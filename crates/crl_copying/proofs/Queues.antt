@@ -49,7 +49,7 @@ unfolding home_takes_release
 release_opens me from version bytes h e =
     let lower : Home = record h { bytes = bytes; listed = put from (Some (shared_listing version)) h.listed } in
     either_opens (is_to_lower version (at from h.listed)) (is_queued me h.queue) (serve me lower h.queue) (record { home = h; posts = []; opened = false })
-      (opens_if_queued me lower h.queue) refl e
+    (opens_if_queued me lower h.queue) refl e
 
 -- an ask that waits at none of the homes waits not at this one
 not_at : (from place : ℕ) (homes : List (Option Home)) (h : Home) → at place homes ≡ Some h → is_queued_in from homes ≡ false → is_queued from h.queue ≡ false

@@ -1,5 +1,5 @@
 -- A recall and a yield, where the region is here and where it isn't.
-use Rattle.std.proofs.Common.{◌≡◌, refl, ℕ, List, [], ◌∷◌, ◌++◌, append-nil, arith}
+use Rattle.std.proofs.Common.{◌≡◌, refl, ℕ, List, ◌++◌, append-nil, arith}
 use Rattle.std.specs.declared.option.Option.{Option}
 use Rattle.std.specs.declared.option.Option.TheVariants.{Some, None}
 use Rattle.std.specs.Prelude.{IsSome}
@@ -8,7 +8,7 @@ use Rattle.crl_model.specs.declared.piece.Piece.{Piece}
 use Rattle.crl_model.specs.declared.message.Kind.TheVariants as kind
 use Rattle.crl_model.specs.Names.{at_name}
 use Rattle.crl_protocol.specs.Remote.{Remote, RemoteStep, remote_takes_recall, remote_takes_yield}
-use Rattle.crl_protocol.specs.Node.{Node, Done, only}
+use Rattle.crl_protocol.specs.Node.{Node}
 use Rattle.crl_protocol.specs.Handlers.{node_handles, takes_call_back, ignores}
 use Rattle.crl_protocol.specs.Sectioning.{after_remote}
 use Rattle.crl_remote.specs.Posts.{mail_pieces}

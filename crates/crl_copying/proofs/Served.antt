@@ -1,21 +1,21 @@
 -- A home has served its queue, and its own section opens if that was served.
-use Rattle.std.proofs.Common.{◌≡◌, refl, sym, ap, ℕ, ◌-◌, Bool, true, false, List, [], ◌∷◌, ◌++◌, append-nil, arith, if◌then◌else◌, ◌∙◌}
+use Rattle.std.proofs.Common.{◌≡◌, refl, sym, ap, ℕ, ◌-◌, Bool, true, false, List, ◌++◌, append-nil, ◌∙◌}
 use Rattle.std.specs.declared.option.Option.{Option}
-use Rattle.std.specs.declared.option.Option.TheVariants.{Some, None}
+use Rattle.std.specs.declared.option.Option.TheVariants.{Some}
 use Rattle.crl_model.specs.declared.name.Name.{Name}
 use Rattle.crl_model.specs.declared.piece.Piece.{Piece}
 use Rattle.crl_model.specs.declared.directory.Asked.{Asked}
 use Rattle.crl_model.specs.declared.message.Kind.TheVariants as kind
 use Rattle.crl_protocol.specs.Home.{Home, HomeStep, home_takes_ask, home_takes_return, home_takes_release, return_fits, release_fits}
 use Rattle.crl_protocol.specs.Places.{put}
-use Rattle.crl_protocol.specs.Node.{Node, is_mine, home_of, at_serial, with_home, section_opens}
+use Rattle.crl_protocol.specs.Node.{Node, home_of, section_opens}
 use Rattle.crl_protocol.specs.Sectioning.{after_serve}
 use Rattle.crl_protocol.specs.Handlers.{node_handles, is_queued_in}
 use Rattle.crl_home.specs.Posts.{letter_pieces}
 use Rattle.crl_home.specs.HomesState.{HomesState, table_at, with_table, ask_step, return_step, release_step}
 use Rattle.crl_desk.specs.Desks.{acted}
 use Rattle.crl_copying.specs.Serving.{own_section, ready_with, if_served}
-use Rattle.crl_copying.proofs.Homes.{home_is_there, home_is_table, home_is_some, put_table}
+use Rattle.crl_copying.proofs.Homes.{home_is_table, home_is_some, put_table}
 
 -- what was posted and the table, if the home's own section opened, and if not
 served_open : (at : ℕ) (name : Name) (n : Node) (s : HomeStep) (homes : List (Option Home)) (out : List Piece) (sender : ℕ)
@@ -71,7 +71,7 @@ unfolding node_handles
 ask_law at from name write have n h old new out opened last there none same_homes is_me new_is out_is opened_is last_is =
     let asked : Asked = record { node = from; write = write; have = have } in
     rw there (rw none (served_law at name n h (ask_step name asked old) old new out opened last there same_homes is_me new_is out_is opened_is last_is
-      ∙ ap (λ s. acted at (after_serve name s n)) (same_step name n h old (λ me. home_takes_ask me asked) there same_homes is_me)))
+    ∙ ap (λ s. acted at (after_serve name s n)) (same_step name n h old (λ me. home_takes_ask me asked) there same_homes is_me)))
 
 pub return_law : (at from : ℕ) (name : Name) (version : ℕ) (bytes : Option (List ℕ)) (n : Node) (h : Home) (old new : HomesState) (out : List Piece) (opened : Bool) (last : Node)
     → home_of n name ≡ Some h → return_fits from version bytes h ≡ true → old.homes ≡ n.homes → old.me ≡ n.me
@@ -83,7 +83,7 @@ pub return_law : (at from : ℕ) (name : Name) (version : ℕ) (bytes : Option (
 unfolding node_handles
 return_law at from name version bytes n h old new out opened last there fits same_homes is_me new_is out_is opened_is last_is =
     rw there (rw fits (served_law at name n h (return_step name from bytes old) old new out opened last there same_homes is_me new_is out_is opened_is last_is
-      ∙ ap (λ s. acted at (after_serve name s n)) (same_step name n h old (λ me. home_takes_return me from bytes) there same_homes is_me)))
+    ∙ ap (λ s. acted at (after_serve name s n)) (same_step name n h old (λ me. home_takes_return me from bytes) there same_homes is_me)))
 
 pub release_law : (at from : ℕ) (name : Name) (version : ℕ) (bytes : List ℕ) (n : Node) (h : Home) (old new : HomesState) (out : List Piece) (opened : Bool) (last : Node)
     → home_of n name ≡ Some h → release_fits bytes h ≡ true → old.homes ≡ n.homes → old.me ≡ n.me
@@ -95,4 +95,4 @@ pub release_law : (at from : ℕ) (name : Name) (version : ℕ) (bytes : List �
 unfolding node_handles
 release_law at from name version bytes n h old new out opened last there fits same_homes is_me new_is out_is opened_is last_is =
     rw there (rw fits (served_law at name n h (release_step name from version bytes old) old new out opened last there same_homes is_me new_is out_is opened_is last_is
-      ∙ ap (λ s. acted at (after_serve name s n)) (same_step name n h old (λ me. home_takes_release me from version bytes) there same_homes is_me)))
+    ∙ ap (λ s. acted at (after_serve name s n)) (same_step name n h old (λ me. home_takes_release me from version bytes) there same_homes is_me)))

@@ -60,7 +60,8 @@ fn recall_here(desk: &mut Desk, at: u64, from: NodeNo, name: Name, version: u64,
     ensures state { state desk.new ≡ acted at (node_handles from (kind.Recall name version) (state desk.old)) }
     ensures room { HasRoom 0 0 1 desk.new }
 {
-    desk.remotes.take_recall(name, version, sheets, &mut desk.outbox);
+    desk.remotes
+        .take_recall(name, version, sheets, &mut desk.outbox);
 }
 
 /// A yield comes. If the region was forgotten here, nothing happens.
@@ -84,5 +85,6 @@ fn yield_here(desk: &mut Desk, at: u64, from: NodeNo, name: Name, version: u64, 
     ensures state { state desk.new ≡ acted at (node_handles from (kind.Yield name version) (state desk.old)) }
     ensures room { HasRoom 0 0 1 desk.new }
 {
-    desk.remotes.take_yield(name, version, sheets, &mut desk.outbox);
+    desk.remotes
+        .take_yield(name, version, sheets, &mut desk.outbox);
 }

@@ -50,9 +50,7 @@ pub fn take_ask(
         write,
         have,
     };
-    let opened = desk
-        .homes
-        .take_ask(name, asked, sheets, &mut desk.outbox);
+    let opened = desk.homes.take_ask(name, asked, sheets, &mut desk.outbox);
     open_if_served(desk, at, name, opened, Papers { guard, began, end });
 }
 
@@ -79,9 +77,7 @@ pub fn take_return(
         end,
         sheets: _,
     } = kit;
-    let opened = desk
-        .homes
-        .take_return(name, from, bytes, &mut desk.outbox);
+    let opened = desk.homes.take_return(name, from, bytes, &mut desk.outbox);
     open_if_served(desk, at, name, opened, Papers { guard, began, end });
 }
 
