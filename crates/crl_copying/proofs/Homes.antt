@@ -87,6 +87,7 @@ room_after d name t new out pieces room there new_is places owes = record {
     home_nodes = ap (λ (s : HomesState). s.nodes) new_is ∙ room.parts.home_nodes;
     remote = room.parts.remote;
     stage_nodes = room.parts.stage_nodes;
+    round_nodes = room.parts.round_nodes;
     serials = room.parts.serials ∙ sym (ap (λ (s : HomesState). length s.homes) new_is ∙ same_serials name t d.homes there);
   };
   for_pieces = omega (arith, room.for_pieces);

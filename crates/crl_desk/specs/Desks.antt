@@ -3,13 +3,13 @@ use Rattle.std.specs.declared.option.Option.{Option}
 use Rattle.std.specs.declared.option.Option.TheVariants.{None, Some}
 use Rattle.crl_model.specs.declared.name.Name.{Name}
 use Rattle.std.specs.Prelude.{if◌then◌else◌, ℕ, ◌+◌, ◌<◌, ◌≤◌, ◌≡◌, ◌++◌, length}
-use Rattle.crl_protocol.specs.Gathering.{first_round}
 use Rattle.crl_protocol.specs.Node.{Node, Outcome, at_serial, is_mine}
 use Rattle.crl_protocol.specs.Parcels.{pieces_in}
 use Rattle.crl_protocol.specs.World.{records_of}
 use Rattle.crl_table.specs.Tables.{table_of}
 use Rattle.crl_sections.specs.SectionsState.{sections_of, guards}
 use Rattle.crl_stages.specs.StagesState.{lifetimes_of}
+use Rattle.crl_gathering.specs.RoundState.{gathering_of}
 use Rattle.crl_parcels.specs.ParcelsState.{parcels_of}
 use Rattle.crl_home.specs.HomesState as homes
 use Rattle.crl_remote.specs.RemotesState as remotes
@@ -26,7 +26,7 @@ state d = record {
   maps = table_of d.maps;
   cache = d.cache.list;
   sections = sections_of d.sections;
-  gathering = first_round;
+  gathering = gathering_of d.round;
   rounds = d.rounds;
   activity = d.standing;
   inbox = d.inbox.list;
@@ -49,6 +49,7 @@ pub record IsOneNode (d : Desk) : Type 0 where
   pub home_nodes : d.homes.nodes ≡ d.nodes
   pub remote : d.remotes.me ≡ d.me
   pub stage_nodes : d.stages.nodes ≡ d.nodes
+  pub round_nodes : d.round.nodes ≡ d.nodes
   pub serials : length d.stages.rows ≡ length d.homes.homes
 
 -- There are places for all that the desk owes and for so many pieces more; for an entry and a note of the end of each open

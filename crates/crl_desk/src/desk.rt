@@ -4,6 +4,7 @@ ghost use Rattle.crl_protocol.specs.Node.{new_node};
 ghost use Rattle.crl_desk.specs.Desks.{state, HasRoom};
 
 use crl_cache::Cache;
+use crl_gathering::Round;
 use crl_guard::Standing;
 use crl_home::Homes;
 use crl_journal::Journal;
@@ -32,7 +33,8 @@ pub struct Desk {
     pub maps: Table<Mapping>,
     pub cache: Cache,
     pub sections: Sections,
-    /// The number of rounds to which this node came.
+    /// The round that node 0 gathers, and the number of rounds to which this node came.
+    pub round: Round,
     pub rounds: u64,
     pub standing: Standing,
     pub inbox: Mailbox,
@@ -66,6 +68,7 @@ impl Desk {
             maps: Table::new(alloc),
             cache: Cache::new(alloc, capacity)?,
             sections: Sections::new(alloc),
+            round: Round::new(alloc, nodes)?,
             rounds: 0,
             standing: Standing::new(),
             inbox: Mailbox::new(alloc),

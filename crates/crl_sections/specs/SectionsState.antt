@@ -10,7 +10,7 @@ use Rattle.crl_model.specs.declared.directory.Section.TheVariants.{Closed, Readi
 use Rattle.crl_model.specs.Names.{at_name}
 use Rattle.crl_table.specs.Tables.{table_of, has_place, weight}
 use Rattle.crl_protocol.specs.Home.{is_reading}
-use Rattle.crl_protocol.specs.Sections.{Sections, OpenSection, section_at, bytes_at, count_of}
+use Rattle.crl_protocol.specs.Sections.{Sections, OpenSection, count_of}
 use Rattle.crl_sections.specs.OpenSections.{guards_of, shows_to, is_written_by}
 
 -- the names that have a place, each with its open sections or none; and the last number given
@@ -42,20 +42,6 @@ abbrev pub CanBegin : Bool → List ℕ → Option OpenSection → Type 0
 CanBegin write bytes None = Unit {0}
 CanBegin true bytes (Some r) = ⊥
 CanBegin false bytes (Some r) = (is_reading r.section ≡ true) × (count_of r.section < 2 ^ 32 - 1) × (length bytes ≡ length r.bytes)
-
--- A section of so many bytes may begin beside those of a region that are open: to write where none is, to read
--- also inside read sections of as many bytes.
-abbrev pub MayBeginBeside : Bool → ℕ → Section → ℕ → Type 0
-MayBeginBeside write size Closed old = Unit {0}
-MayBeginBeside true size (Reading count) old = ⊥
-MayBeginBeside false size (Reading count) old = (count < 2 ^ 32 - 1) × (size ≡ old)
-MayBeginBeside write size Writing old = ⊥
-
-abbrev pub MayBeginOfSize : Bool → Name → ℕ → Sections → Type 0
-MayBeginOfSize write name size s = MayBeginBeside write size (section_at name s) (length (bytes_at name s))
-
-abbrev pub MayBegin : Bool → Name → List ℕ → Sections → Type 0
-MayBegin write name bytes s = MayBeginOfSize write name (length bytes) s
 
 -- The guard is the one of a section that is open, with the bytes that a read section shows, or with as many
 -- bytes as a write section began with.

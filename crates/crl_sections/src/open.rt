@@ -112,13 +112,6 @@ impl Open {
         self.number
     }
 
-    /// The bytes with which they began.
-    pub fn bytes(&self) -> &[u8]
-        ensures { result.now ≡ self.now.bytes }
-    {
-        self.bytes.as_slice()
-    }
-
     /// How many guards are out.
     pub fn guards(&self) -> u32
         ensures guards { result ≡ guards_in self.now.section }

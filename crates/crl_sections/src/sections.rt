@@ -5,7 +5,7 @@ ghost use Rattle.crl_table.specs.Tables.{table_of, has_place, HasPlace, weight, 
 ghost use Rattle.crl_protocol.specs.Home.{is_reading};
 ghost use Rattle.crl_protocol.specs.Sections.{no_sections, section_begins, section_ends, section_at, bytes_at, is_writing};
 ghost use Rattle.crl_sections.specs.OpenSections.{guards_of};
-ghost use Rattle.crl_sections.specs.SectionsState.{sections_of, guards, HasSections, IsAbsentIfClosed, MayBegin, fits_reading, fits_writing};
+ghost use Rattle.crl_sections.specs.SectionsState.{sections_of, guards, HasSections, IsAbsentIfClosed, CanBegin, fits_reading, fits_writing};
 
 use crate::open::Open;
 use crl_guard::{Reading, Writing};
@@ -81,16 +81,6 @@ impl Sections {
         }
     }
 
-    /// The bytes with which the sections of the region that are open began, or no bytes if none is open.
-    pub fn bytes(&self, name: Name) -> &[u8]
-        ensures { result.now ≡ bytes_at name (sections_of self.now) }
-    {
-        match self.table.get(&name) {
-            Some(open) => open.bytes(),
-            None => &[],
-        }
-    }
-
     /// The last number that a section was given, or 0.
     pub fn last_number(&self) -> u64
         ensures { result ≡ self.now.last }
@@ -112,7 +102,7 @@ impl Sections {
         requires last { self.old.last + 1 < 2 ^ 64 }
         requires few { guards self.old + 1 < 2 ^ 64 }
         requires paper { length bytes ≤ paper }
-        requires may { MayBegin write name bytes (sections_of self.old) }
+        requires may { CanBegin write bytes (table_of self.old.rows name) }
         ensures sections { sections_of self.new ≡ (section_begins write name bytes (sections_of self.old)).sections }
         ensures number { result ≡ (section_begins write name bytes (sections_of self.old)).number }
         ensures guards { guards self.new ≡ guards self.old + 1 }
@@ -197,7 +187,6 @@ impl Sections {
         ensures gone { HasSections name None self.old self.new }
         ensures absent { table_of self.new.rows name ≡ None }
         ensures place { IfSome result (λ row. HasPlace name self.new.rows) }
-        ensures some { IfSome result (λ row. 0 < guards_of row) }
         ensures few { guards self.old < 2 ^ 64 }
         ensures guards { guards self.new + weight_of guards_of result ≡ guards self.old }
     {

@@ -1,8 +1,7 @@
 -- The lifetimes by serial, where a row is added, read or written.
-use Rattle.std.proofs.Common.{◌≡◌, ◌≢◌, ℕ, zero, suc, ◌+◌, ◌-◌, ◌<◌, ◌≤◌, Bool, true, false, ◌==◌, List, [], ◌∷◌, ◌++◌, refl, sym, ap, ◌∙◌, arith, length, slice_index_or, slice_set, if◌then◌else◌}
-use Rattle.std.specs.Prelude.{All}
-use Rattle.std.proofs.lemmas.List.Elements.{All-append, All-set, All-get_or}
-use Rattle.std.proofs.lemmas.Bool.{cond-true, cond-false, eqb-true, eqb-false, ne_eqb}
+use Rattle.std.proofs.Common.{◌≡◌, ◌≢◌, ℕ, zero, suc, ◌+◌, ◌-◌, ◌<◌, ◌≤◌, Bool, true, false, ◌==◌, List, [], ◌∷◌, ◌++◌, refl, sym, ap, ◌∙◌, arith, length, slice_index_or, slice_set}
+use Rattle.std.proofs.lemmas.List.Elements.{All-push, All-set, All-get_or}
+use Rattle.std.proofs.lemmas.Bool.{cond-true, cond-false, eqb-false, ne_eqb}
 use Rattle.crl_model.specs.Names.{at_node}
 use Rattle.crl_protocol.specs.Lifetimes.{Lifetime, no_lifetime, lifetime_with_asker}
 use Rattle.crl_stages.specs.declared.row.Row.{Row}
@@ -80,13 +79,9 @@ pub unknown_asked : (f : ℕ → Lifetime) (serial from : ℕ) → f serial ≡ 
 unfolding lifetime_with_asker
 unknown_asked f serial from e = sym (as_it_was f serial (lifetime_with_asker from (f serial)) (e ∙ sym (ap (lifetime_with_asker from) e)))
 
-one_fits : (nodes : ℕ) (row : Row) → RowFits nodes row → All (RowFits nodes) (row ∷ [])
-one_fits nodes row h zero d l = h
-one_fits nodes row h (suc k) d l = absurd (omega arith)
-
 -- what is true of the rows stays true
 pub rows_push : (nodes : ℕ) (rows : List Row) (row : Row) → AreRows nodes rows → RowFits nodes row → AreRows nodes (rows ++ row ∷ [])
-rows_push nodes rows row h fits = record { few = h.few; fit = All-append (RowFits nodes) rows (row ∷ []) h.fit (one_fits nodes row fits) }
+rows_push nodes rows row h fits = record { few = h.few; fit = All-push (RowFits nodes) rows row h.fit fits }
 
 pub rows_set : (nodes n : ℕ) (rows : List Row) (row : Row) → AreRows nodes rows → RowFits nodes row → AreRows nodes (slice_set rows n row)
 rows_set nodes n rows row h fits = record { few = h.few; fit = All-set (RowFits nodes) rows n row fits h.fit }

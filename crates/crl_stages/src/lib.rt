@@ -5,6 +5,8 @@
 mod node_set;
 mod row;
 mod stages;
+#[cfg(test)]
+mod tests;
 
 pub use node_set::NodeSet;
 pub use row::Row;

@@ -1,19 +1,18 @@
 use Rattle.std.proofs.Common.{◌≡◌, sym, ap, Some, None}
 use Rattle.crl_table.specs.Tables.{table_of}
-use Rattle.crl_sections.proofs.Begins.{reads_inside, begins_inside, begins_first}
+use Rattle.crl_sections.specs.SectionsState.{CanBegin}
+use Rattle.crl_sections.proofs.Begins.{begins_inside, begins_first}
 use Rattle.crl_sections.proofs.sections.Sections.begin.Goals as goal
 
 pub returns-in-Some-clause-sections : goal.returns-in-Some-clause-sections
 returns-in-Some-clause-sections c =
     let v : table_of c.args.self.now.rows c.args.name ≡ Some c.in-Some.outer = sym c.in-Some.ensures.row in
-    let w = reads_inside c.args.write _ c.in-Some.outer _ c.in-Some.ensures.some (rw v at c.requires.may) in
-    ap (λ s. s.sections) (begins_inside c.args.name c.args.write c.args.bytes c.args.self.now c.take.new.self c.put.new.self c.in-Some.outer v w c.take.ensures.gone (rw c.begin_inside.ensures at c.put.ensures.row))
+    ap (λ s. s.sections) (begins_inside c.args.name c.args.write c.args.bytes c.args.self.now c.take.new.self c.put.new.self c.in-Some.outer v (rw v at c.requires.may) c.take.ensures.gone (rw c.begin_inside.ensures at c.put.ensures.row))
 
 pub returns-in-Some-clause-number : goal.returns-in-Some-clause-number
 returns-in-Some-clause-number c =
     let v : table_of c.args.self.now.rows c.args.name ≡ Some c.in-Some.outer = sym c.in-Some.ensures.row in
-    let w = reads_inside c.args.write _ c.in-Some.outer _ c.in-Some.ensures.some (rw v at c.requires.may) in
-    rw c.number-number.ensures (ap (λ s. s.number) (begins_inside c.args.name c.args.write c.args.bytes c.args.self.now c.take.new.self c.put.new.self c.in-Some.outer v w c.take.ensures.gone (rw c.begin_inside.ensures at c.put.ensures.row)))
+    rw c.number-number.ensures (ap (λ s. s.number) (begins_inside c.args.name c.args.write c.args.bytes c.args.self.now c.take.new.self c.put.new.self c.in-Some.outer v (rw v at c.requires.may) c.take.ensures.gone (rw c.begin_inside.ensures at c.put.ensures.row)))
 
 pub returns-in-None-clause-sections : goal.returns-in-None-clause-sections
 returns-in-None-clause-sections c =
