@@ -1,0 +1,5 @@
+mod Grants
+mod Homes
+mod Queues
+mod Recalls
+mod Served
