@@ -43,3 +43,9 @@ pub record RefuseIsReady (c : Call) (d : Desk) : Type 0 where
 pub record MapIsReady (name : Name) (d : Desk) : Type 0 where
   pub place : HasPlace name d.maps
   pub room : HasRoom 1 1 1 d
+
+-- for the answer to a map of the name
+pub record InfoIsReady (name : Name) (d : Desk) : Type 0 where
+  pub map_place : HasPlace name d.maps
+  pub remote_place : HasPlace name d.remotes.rows
+  pub room : HasRoom 0 0 1 d

@@ -4,11 +4,13 @@
 
 mod creating;
 mod forgetting;
+mod informing;
 mod mapping;
 mod refusing;
 mod unmapping;
 
 pub use creating::{create, ready_create};
+pub use informing::{ready_info, ready_info_ask, take_info, take_info_ask};
 pub use mapping::{map, ready_map};
 pub use refusing::{place_of, ready_refuse, refuse, word_of};
 pub use unmapping::{ready_unmap, unmap};

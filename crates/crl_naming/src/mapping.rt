@@ -56,9 +56,11 @@ pub(crate) fn mapping_of(desk: &Desk, name: Name) -> Option<Mapping>
 
 /// The size of the node's own region with this name, 0 if there is none.
 pub(crate) fn own_size(desk: &Desk, name: Name) -> u32
-    requires mine { name.home ≡ desk.now.me }
     ensures { result ≡ size_of (node.home_of (state desk.now) name) }
 {
+    if name.home != desk.me {
+        return 0;
+    }
     match desk.homes.size(name) {
         Some(size) => size,
         None => 0,
@@ -96,7 +98,6 @@ fn ask_home(desk: &mut Desk, at: u64, name: Name) -> Answer<Reading, Writing>
     ensures answer { result ≡ node.Wait }
     ensures room { HasRoom 0 0 1 desk.new }
 {
-    let _at = at;
     desk.standing.wait(Awaited::ForMap {
         name,
         purged: false,
