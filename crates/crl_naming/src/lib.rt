@@ -1,0 +1,16 @@
+//! The acts of a node about names: creates, refusals, maps, unmaps and deletes, and what comes of them from other nodes. Each
+//! changes a desk as the protocol says, and takes no memory; what an act uses up is readied by a call of its own.
+#![tactic(auto)]
+
+mod creating;
+mod forgetting;
+mod informing;
+mod mapping;
+mod refusing;
+mod unmapping;
+
+pub use creating::{create, ready_create};
+pub use informing::{ready_info, ready_info_ask, take_info, take_info_ask};
+pub use mapping::{map, ready_map};
+pub use refusing::{place_of, ready_refuse, refuse, word_of};
+pub use unmapping::{ready_unmap, unmap};
