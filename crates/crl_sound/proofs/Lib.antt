@@ -1,5 +1,6 @@
 pub mod Laws
 mod Nodes
+mod Owns
 mod Pieces
 mod Queues
 mod Senders
