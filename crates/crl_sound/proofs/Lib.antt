@@ -1,6 +1,5 @@
 pub mod Laws
 mod Nodes
-mod Owns
 mod Pieces
 mod Queues
 mod Senders

@@ -14,6 +14,7 @@ use Rattle.crl_bound.proofs.Laws.{counters_fit}
 use Rattle.crl_coherence.specs.Coherent.{IsCoherent}
 use Rattle.crl_coherence.proofs.Laws.{asks_once}
 use Rattle.crl_deeds.specs.Counts.{Counted}
+use Rattle.crl_deeds.proofs.Laws.{fits_in_runs, here_if}
 use Rattle.crl_flight.specs.Flight.{messages_of}
 use Rattle.crl_regions.specs.MailFits.{HasSize}
 use Rattle.crl_regions.specs.View.{side, sight, table_of, table_or_blank, array_of}
@@ -21,7 +22,6 @@ use Rattle.crl_regions.proofs.Laws.{regions_in_runs, sections_are_tables, sizes_
 use Rattle.crl_safety.specs.Safety.{HomeIsSafe, RemoteIsSafe, BytesAreSafe}
 use Rattle.crl_sound.specs.Sound.{AfterAnyRun, AfterEachRun, NodesKnowTheirNumber, NodesAreSafe}
 use Rattle.crl_sound.proofs.Tables.{TableFits, counted_in_runs, tables_in_runs}
-use Rattle.crl_sound.proofs.Owns.{own_in_runs}
 use Rattle.crl_sound.proofs.Queues.{asks_differ, has_room, not_queued}
 
 pub numbers_known : AfterAnyRun NodesKnowTheirNumber
@@ -127,7 +127,7 @@ nodes_safe count capacity run r i few =
     record {
       home = λ name h e. home_safe count capacity run r i few name h e;
       remote = λ name x other e. remote_safe count capacity run r.enabled i name x other e;
-      own = λ name mine. own_in_runs count capacity run r.enabled i name mine;
+      own = λ name mine. (here_if i ((world_of count capacity run).nodes i) name mine (fits_in_runs count capacity run r i)).nothing;
       bytes = λ name s e. bytes_safe count capacity run r.enabled i name s e;
       section_numbers = let s = c.sections in omega arith;
       rounds = let s = c.rounds in omega arith;
