@@ -12,13 +12,13 @@ use Rattle.crl_model.specs.Names.{at_node}
 use Rattle.crl_model.specs.declared.message.Kind.TheVariants as kind
 use Rattle.crl_model.specs.declared.message.DeleteTold.TheVariants as delete_told
 use Rattle.crl_model.specs.declared.entry.Entry.{Entry}
-use Rattle.crl_protocol.specs.Lifetimes.{Lifetime, no_lifetime, lifetime_begins_delete}
+use Rattle.crl_protocol.specs.Lifetimes.{Lifetime, no_lifetime, lifetime_begins_delete, lifetime_takes_purged}
 use Rattle.crl_protocol.specs.Node.{Node, Activity, Waiting, ForDelete, is_mine, lifetime_of, with_lifetime, message_to}
 use Rattle.crl_protocol.specs.Calls.{is_gone, purges, delete_entries, deletes_own}
 use Rattle.crl_protocol.specs.Handlers.{begins_delete}
 use Rattle.crl_protocol.specs.Verdict.{verdict, by_stage}
 use Rattle.crl_desk.specs.Desks.{acted}
-use Rattle.crl_naming.specs.Lives.{begun, recorded_one, posted_these, deleting_by, deleted_by}
+use Rattle.crl_naming.specs.Lives.{begun, ended, recorded_one, posted_these, deleting_by, deleted_by}
 
 live_by : (b : Bool) (l : Lifetime) → (if b then l else no_lifetime).stage ≡ Live → b ≡ true
 live_by true l e = refl
@@ -33,6 +33,19 @@ pub begun_here : (n : Node) (name : Name) (deleter nodes : ℕ) (lifetimes : ℕ
     → lifetimes ≡ at_node n.lifetimes name.serial (lifetime_begins_delete nodes deleter (n.lifetimes name.serial))
     → lifetime_of (record n { lifetimes = lifetimes }) name ≡ begun deleter name n
 begun_here n name deleter nodes lifetimes k m e = rw (e, k, m, eq-eqb name.serial name.serial refl) refl
+
+-- the same of the lifetime once a node parted with the region
+missing_by : (b : Bool) (l : Lifetime) (from : ℕ) → (if b then l else no_lifetime).missing from ≡ true → b ≡ true
+missing_by true l from e = refl
+missing_by false l from e = cc
+
+pub missing_is_mine : (n : Node) (name : Name) (from : ℕ) → (lifetime_of n name).missing from ≡ true → is_mine n name ≡ true
+missing_is_mine n name from e = missing_by (is_mine n name) (n.lifetimes name.serial) from e
+
+pub ended_here : (n : Node) (name : Name) (from nodes : ℕ) (lifetimes : ℕ → Lifetime) → nodes ≡ n.nodes → is_mine n name ≡ true
+    → lifetimes ≡ at_node n.lifetimes name.serial (lifetime_takes_purged nodes from (n.lifetimes name.serial))
+    → lifetime_of (record n { lifetimes = lifetimes }) name ≡ ended from name n
+ended_here n name from nodes lifetimes k m e = rw (e, k, m, eq-eqb name.serial name.serial refl) refl
 
 -- of a delete that isn't refused the home has a live region
 by_live : (s : Stage) → by_stage s ≡ None → s ≡ Live

@@ -9,7 +9,7 @@ use Rattle.crl_model.specs.declared.entry.What.TheVariants as what
 use Rattle.crl_model.specs.declared.message.Message.{Message}
 use Rattle.crl_model.specs.declared.message.Kind.TheVariants as kind
 use Rattle.crl_protocol.specs.Parcels.{pieces_in}
-use Rattle.crl_protocol.specs.Lifetimes.{members, Lifetime, lifetime_with_asker, lifetime_begins_delete}
+use Rattle.crl_protocol.specs.Lifetimes.{members, Lifetime, lifetime_with_asker, lifetime_begins_delete, lifetime_takes_purged}
 use Rattle.crl_protocol.specs.Node.{Node, is_mine, lifetime_of, with_lifetime, entry_of}
 
 -- the node knows that this one asked for the region, if it is the region's home
@@ -23,6 +23,10 @@ refused_entry from word name why = entry_of from (what.Refused word (Region name
 -- the lifetime of the region once its delete has begun
 abbrev pub begun : ℕ → Name → Node → Lifetime
 begun deleter name n = lifetime_begins_delete n.nodes deleter (lifetime_of n name)
+
+-- the lifetime of the region once this node parted with it
+abbrev pub ended : ℕ → Name → Node → Lifetime
+ended from name n = lifetime_takes_purged n.nodes from (lifetime_of n name)
 
 -- what a node is told whose region is purged
 abbrev pub purge_to : ℕ → Name → ℕ → Message
