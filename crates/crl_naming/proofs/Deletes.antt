@@ -1,19 +1,16 @@
 -- A delete begins at the home.
-use Rattle.std.proofs.Common.{◌≡◌, ◌==◌, ℕ, Bool, true, false, refl, sym, ap, ◌∙◌, List, [], ◌∷◌, ◌++◌, append-nil, append_assoc, if◌then◌else◌}
+use Rattle.std.proofs.Common.{◌≡◌, ℕ, Bool, true, false, refl, [], ◌∷◌, if◌then◌else◌}
 use Rattle.std.proofs.lemmas.Bool.{eq-eqb}
 use Rattle.std.specs.declared.option.Option.{Option}
-use Rattle.std.specs.declared.option.Option.TheVariants.{None, Some}
+use Rattle.std.specs.declared.option.Option.TheVariants.{None}
 use Rattle.crl_model.specs.declared.name.Name.{Name}
 use Rattle.crl_model.specs.declared.stage.Stage.{Stage}
 use Rattle.crl_model.specs.declared.stage.Stage.TheVariants.{Unknown, Live, Going, Gone}
 use Rattle.crl_model.specs.declared.call.Call.TheVariants as call
 use Rattle.crl_model.specs.declared.call.Refusal.{Refusal}
 use Rattle.crl_model.specs.Names.{at_node}
-use Rattle.crl_model.specs.declared.message.Kind.TheVariants as kind
-use Rattle.crl_model.specs.declared.message.DeleteTold.TheVariants as delete_told
-use Rattle.crl_model.specs.declared.entry.Entry.{Entry}
 use Rattle.crl_protocol.specs.Lifetimes.{Lifetime, no_lifetime, lifetime_begins_delete, lifetime_takes_purged}
-use Rattle.crl_protocol.specs.Node.{Node, Activity, Waiting, ForDelete, is_mine, lifetime_of, with_lifetime, message_to}
+use Rattle.crl_protocol.specs.Node.{Node, Activity, Waiting, ForDelete, is_mine, lifetime_of, with_lifetime}
 use Rattle.crl_protocol.specs.Calls.{is_gone, purges, delete_entries, deletes_own}
 use Rattle.crl_protocol.specs.Handlers.{begins_delete}
 use Rattle.crl_protocol.specs.Verdict.{verdict, by_stage}

@@ -1,10 +1,9 @@
 -- The purges of a delete, posted one after the other.
-use Rattle.std.proofs.Common.{◌≡◌, ◌==◌, ℕ, zero, suc, ◌+◌, ◌<◌, ◌≤◌, Bool, true, false, refl, sym, ap, ◌∙◌, List, [], ◌∷◌, ◌++◌, append-nil, append_assoc, map, arith, if◌then◌else◌}
+use Rattle.std.proofs.Common.{◌≡◌, ℕ, suc, ◌+◌, Bool, true, false, refl, sym, ap, ◌∙◌, List, ◌∷◌, ◌++◌, append-nil, append_assoc, map, arith, if◌then◌else◌}
 use Rattle.crl_model.specs.declared.name.Name.{Name}
 use Rattle.crl_model.specs.declared.piece.Piece.{Piece}
-use Rattle.crl_model.specs.declared.message.Message.{Message}
 use Rattle.crl_protocol.specs.Parcels.{pieces_of, pieces_in}
-use Rattle.crl_protocol.specs.Lifetimes.{members_from, members}
+use Rattle.crl_protocol.specs.Lifetimes.{members_from}
 use Rattle.crl_naming.specs.Lives.{purge_to, purge_if, purges_for}
 
 -- the purges from node m on, of k nodes

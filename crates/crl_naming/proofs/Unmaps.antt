@@ -13,7 +13,7 @@ use Rattle.crl_protocol.specs.Remote.{Remote}
 use Rattle.crl_protocol.specs.Lifetimes.{Mapping, CacheStep, cache_with, cache_without, cached_size}
 use Rattle.crl_protocol.specs.Node.{Node, Outcome, Done, is_mine, with_mapping, entry_of, only}
 use Rattle.crl_protocol.specs.Sectioning.{forgets, forgets_over, with_entry_first}
-use Rattle.crl_protocol.specs.Calls.{forgets_evicted, parts_with, unmaps, unmaps_over}
+use Rattle.crl_protocol.specs.Calls.{forgets_evicted, parts_with, unmaps_over}
 use Rattle.crl_protocol.specs.Handlers.{purge_over, purge_over_cache, with_post_last}
 use Rattle.crl_desk.specs.Desks.{acted}
 use Rattle.crl_naming.specs.Forgetting.{with_posts}
@@ -52,7 +52,7 @@ pub unmaps_quiet : (name : Name) (m : Option Mapping) (n : Node) → IsQuiet (un
 unmaps_quiet name None n = record { entries = refl; answer = refl }
 unmaps_quiet name (Some m) n =
     count_by (m.count == 1) _ (only (with_mapping name (Some (record m { count = m.count - 1 })) n) Done)
-      (parts_quiet name m (with_mapping name None n)) (record { entries = refl; answer = refl })
+    (parts_quiet name m (with_mapping name None n)) (record { entries = refl; answer = refl })
 
 -- the entry is the only one
 pub entry_law : (at : ℕ) (w : What) (mid : Node) (o : Outcome) (records : List Recorded) (notes : List Note)

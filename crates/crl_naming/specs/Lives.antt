@@ -10,6 +10,7 @@ use Rattle.crl_model.specs.declared.message.Message.{Message}
 use Rattle.crl_model.specs.declared.message.Kind.TheVariants as kind
 use Rattle.crl_protocol.specs.Parcels.{pieces_in}
 use Rattle.crl_protocol.specs.Lifetimes.{members, Lifetime, lifetime_with_asker, lifetime_begins_delete, lifetime_takes_purged}
+use Rattle.crl_protocol.specs.Calls.{purges}
 use Rattle.crl_protocol.specs.Node.{Node, is_mine, lifetime_of, with_lifetime, entry_of}
 
 -- the node knows that this one asked for the region, if it is the region's home
@@ -53,3 +54,7 @@ deleting_by deleter name = entry_of deleter (what.Deleting name)
 
 abbrev pub deleted_by : ℕ → Name → Entry
 deleted_by deleter name = entry_of deleter (what.Deleted name)
+
+-- a delete began at the home, which tells the nodes that asked for the region
+abbrev pub askers_told : ℕ → ℕ → Name → Node → Node
+askers_told position deleter name n = posted_these (purges n name (lifetime_of n name)) (recorded_one position (deleting_by deleter name) n)

@@ -5,13 +5,13 @@ ghost use Rattle.crl_model.specs.declared.message.Kind.TheVariants as kind;
 ghost use Rattle.crl_model.specs.declared.stage.Stage.TheVariants.{Live};
 ghost use Rattle.crl_protocol.specs.Parcels.{pieces_in};
 ghost use Rattle.crl_protocol.specs.Node as node;
-ghost use Rattle.crl_protocol.specs.Calls.{purges, deletes, deletes_own};
-ghost use Rattle.crl_protocol.specs.Calls as gone;
+ghost use Rattle.crl_protocol.specs.Calls.{deletes, deletes_own};
+ghost use Rattle.crl_protocol.specs.Calls as calls;
 ghost use Rattle.crl_protocol.specs.Handlers as handlers;
 ghost use Rattle.crl_protocol.specs.Verdict.{verdict};
 ghost use Rattle.crl_stages.specs.StagesState.{lifetimes_of};
 ghost use Rattle.crl_desk.specs.Desks.{state, acted, HasRoom};
-ghost use Rattle.crl_naming.specs.Lives.{begun, purge_if, purges_for, recorded_one, posted_these, deleting_by, deleted_by};
+ghost use Rattle.crl_naming.specs.Lives.{begun, purge_if, purges_for, recorded_one, posted_these, deleting_by, deleted_by, askers_told};
 
 use crate::informing::stage_of;
 use crl_desk::Desk;
@@ -108,7 +108,7 @@ fn finish_at_once(desk: &mut Desk, at: u64, deleter: NodeNo, name: Name)
 fn tell_askers(desk: &mut Desk, at: u64, deleter: NodeNo, name: Name)
     requires mine { node.is_mine (state desk.old) name ≡ true }
     requires room { HasRoom 64 2 1 desk.old }
-    ensures state { state desk.new ≡ posted_these (purges (state desk.old) name (node.lifetime_of (state desk.old) name)) (recorded_one at (deleting_by deleter name) (state desk.old)) }
+    ensures state { state desk.new ≡ askers_told at deleter name (state desk.old) }
     ensures room { HasRoom 0 1 1 desk.new }
 {
     post_purges(desk.me, desk.nodes, name, &desk.stages, &mut desk.outbox);
@@ -123,7 +123,7 @@ fn tell_askers(desk: &mut Desk, at: u64, deleter: NodeNo, name: Name)
 
 /// Whether a delete is done.
 pub(crate) fn is_gone(stage: Stage) -> bool
-    ensures { result ≡ gone.is_gone stage }
+    ensures { result ≡ calls.is_gone stage }
 {
     matches!(stage, Stage::Gone)
 }
@@ -238,9 +238,23 @@ pub fn take_delete_ask(desk: &mut Desk, at: u64, from: NodeNo, name: Name)
     ensures room { HasRoom 0 0 1 desk.new }
 {
     match stage_of(desk, name) {
-        Stage::Unknown => refuse_delete(desk, at, from, name, Refusal::Unknown, DeleteTold::Unknown),
+        Stage::Unknown => refuse_delete(
+            desk,
+            at,
+            from,
+            name,
+            Refusal::Unknown,
+            DeleteTold::Unknown,
+        ),
         Stage::Live => delete_for(desk, at, from, name),
-        Stage::Going(_) | Stage::Gone => refuse_delete(desk, at, from, name, Refusal::Deleted, DeleteTold::Deleted),
+        Stage::Going(_) | Stage::Gone => refuse_delete(
+            desk,
+            at,
+            from,
+            name,
+            Refusal::Deleted,
+            DeleteTold::Deleted,
+        ),
     }
 }
 

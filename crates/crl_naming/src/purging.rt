@@ -8,7 +8,7 @@ ghost use Rattle.crl_protocol.specs.Lifetimes.{cached_size};
 ghost use Rattle.crl_protocol.specs.Node as node;
 ghost use Rattle.crl_protocol.specs.Handlers as handlers;
 ghost use Rattle.crl_desk.specs.Desks.{state, acted, HasRoom};
-ghost use Rattle.crl_naming.specs.Forgetting.{with_posts, name_if, purged_name, ForgetIsReady};
+ghost use Rattle.crl_naming.specs.Forgetting.{with_posts, name_if, purged_name, ForgetIsReady, PurgeIsReady};
 ghost use Rattle.crl_naming.specs.Lives.{ended, posted_these};
 
 use crate::deleting::is_gone;
@@ -47,7 +47,7 @@ pub fn ready_purge(desk: &mut Desk, name: Name) -> Result<Sheets, OutOfMemory>
     requires room { HasRoom 0 0 0 desk.old }
     ensures state { state desk.new ≡ state desk.old }
     ensures room { HasRoom 0 0 0 desk.new }
-    ensures ready { IfOk result (λ sheets. ForgetIsReady (purged_name name (table_of desk.new.maps name) (state desk.new)) sheets desk.new) }
+    ensures ready { IfOk result (λ sheets. PurgeIsReady name sheets desk.new) }
 {
     let size = size_of_forgotten(desk, purged(desk, name));
     let sheets = Sheets::new(desk.alloc, size)?;
@@ -72,10 +72,12 @@ fn mark_map(desk: &mut Desk, name: Name)
     ensures state { state desk.new ≡ record (state desk.old) { activity = handlers.purges_waiting name desk.old.standing } }
     ensures room { HasRoom 1 1 1 desk.new }
 {
-    if let Some(Awaited::ForMap {
-        name: waited,
-        purged,
-    }) = desk.standing.awaited()
+    if let Some(
+        Awaited::ForMap {
+            name: waited,
+            purged,
+        },
+    ) = desk.standing.awaited()
     {
         desk.standing.wait(Awaited::ForMap {
             name: waited,
@@ -101,7 +103,7 @@ fn purge_unmapped(desk: &mut Desk, name: Name, sheets: Sheets)
 /// The region is dealt with as one whose delete began.
 #[tactic(auto, using(crl_table::proofs::Laws::row_has_place))]
 fn purge(desk: &mut Desk, name: Name, sheets: Sheets)
-    requires ready { ForgetIsReady (purged_name name (table_of desk.old.maps name) (state desk.old)) sheets desk.old }
+    requires ready { PurgeIsReady name sheets desk.old }
     ensures state { state desk.new ≡ with_posts (handlers.purge_over name (table_of desk.old.maps name) (state desk.old)) }
     ensures room { HasRoom 1 1 1 desk.new }
 {
@@ -113,7 +115,7 @@ fn purge(desk: &mut Desk, name: Name, sheets: Sheets)
 
 /// The home of the region deletes it, and is answered.
 pub fn take_purge(desk: &mut Desk, at: u64, from: NodeNo, name: Name, sheets: Sheets)
-    requires ready { ForgetIsReady (purged_name name (table_of desk.old.maps name) (state desk.old)) sheets desk.old }
+    requires ready { PurgeIsReady name sheets desk.old }
     ensures state { state desk.new ≡ acted at (handlers.takes_purge from name (state desk.old)) }
     ensures room { HasRoom 0 0 1 desk.new }
 {

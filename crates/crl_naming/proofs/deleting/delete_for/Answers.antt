@@ -12,4 +12,4 @@ returns-else-is_gone-clause-state c =
     let n = state c.args.desk.now in
     let staged = c.stage_of.ensures ∙ ap (λ (l : Lifetime). l.stage) c.begin.ensures.lifetime in
     asked_waits c.args.at c.args.from c.args.name (begun c.args.from c.args.name n) n (state c.begin.new.desk) (state c.tell_askers.new.desk)
-      (sym (c.is_gone.ensures ∙ ap (λ (s : Stage). is_gone s) staged) ∙ c.if-is_gone.false) c.begin.ensures.state c.begin.ensures.lifetime c.tell_askers.ensures.state
+    (sym (c.is_gone.ensures ∙ ap (λ (s : Stage). is_gone s) staged) ∙ c.if-is_gone.false) c.begin.ensures.state c.begin.ensures.lifetime c.tell_askers.ensures.state

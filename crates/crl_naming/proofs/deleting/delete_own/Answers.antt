@@ -12,5 +12,5 @@ returns-clause-state c =
     let n = state c.args.desk.now in
     let staged = c.stage_of.ensures ∙ ap (λ (l : Lifetime). l.stage) c.begin.ensures.lifetime in
     own_waits c.args.at c.args.name (begun c.args.desk.now.me c.args.name n) n (state c.begin.new.desk) (state c.tell_askers.new.desk) _
-      (sym (c.is_gone.ensures ∙ ap (λ (s : Stage). is_gone s) staged) ∙ c.if-is_gone.false) c.begin.ensures.state c.begin.ensures.lifetime c.tell_askers.ensures.state
-      c.wait.ensures
+    (sym (c.is_gone.ensures ∙ ap (λ (s : Stage). is_gone s) staged) ∙ c.if-is_gone.false) c.begin.ensures.state c.begin.ensures.lifetime c.tell_askers.ensures.state
+    c.wait.ensures

@@ -1,4 +1,4 @@
-use Rattle.std.proofs.Common.{◌≡◌, ◌+◌, ◌++◌, ◌≤◌, ℕ}
+use Rattle.std.proofs.Common.{◌+◌, ◌≤◌}
 use Rattle.crl_stages.specs.StagesState.{lifetimes_of}
 use Rattle.crl_naming.proofs.Purges.{is_told}
 use Rattle.crl_naming.proofs.deleting.post_purges.Given as goal

@@ -10,4 +10,4 @@ returns-clause-state c =
     let n = state c.args.desk.now in
     let name = c.args.name in
     answer_law c.args.at (message_to n c.args.from (kind.Purged name)) (state c.purge.new.desk) (purge_over name (n.maps name) n) _ (purge_quiet name (n.maps name) n)
-      c.purge.ensures.state c.post.ensures.list
+    c.purge.ensures.state c.post.ensures.list
