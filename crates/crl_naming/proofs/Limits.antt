@@ -1,5 +1,5 @@
 -- What a call that isn't refused counts has room for one more.
-use Rattle.std.proofs.Common.{◌≡◌, ℕ, ◌+◌, ◌<◌, ◌^◌, ◌==◌, Bool, true, false, length, refl, sym, ◌∙◌, ap, arith, if◌then◌else◌}
+use Rattle.std.proofs.Common.{◌≡◌, ℕ, ◌+◌, ◌<◌, ◌^◌, ◌==◌, Bool, true, false, length, refl, arith, if◌then◌else◌}
 use Rattle.std.proofs.lemmas.Bool.Decides.{nat_tests}
 use Rattle.std.specs.declared.option.Option.{Option}
 use Rattle.std.specs.declared.option.Option.TheVariants.{None, Some}
@@ -7,10 +7,10 @@ use Rattle.crl_model.specs.declared.name.Name.{Name}
 use Rattle.crl_model.specs.declared.stage.Stage.{Stage}
 use Rattle.crl_model.specs.declared.call.Call.TheVariants as call
 use Rattle.crl_model.specs.declared.call.Refusal.{Refusal}
-use Rattle.crl_model.specs.declared.call.Refusal.TheVariants.{BadSize, NamesSpent, TooMany, Deleted, NotMapped}
+use Rattle.crl_model.specs.declared.call.Refusal.TheVariants.{NamesSpent, TooMany, Deleted, NotMapped}
 use Rattle.crl_protocol.specs.Lifetimes.{Mapping}
 use Rattle.crl_protocol.specs.Sections.{section_at}
-use Rattle.crl_protocol.specs.Node.{Node, COUNT_LIMIT, is_mine, lifetime_of, map_count}
+use Rattle.crl_protocol.specs.Node.{Node, COUNT_LIMIT, is_mine, lifetime_of}
 use Rattle.crl_protocol.specs.Verdict.{verdict, else_if, refuse_if, by_stage, of_more, of_mapped, of_open}
 
 -- the second of two reasons isn't there

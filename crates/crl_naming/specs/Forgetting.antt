@@ -4,6 +4,7 @@ use Rattle.std.specs.declared.option.Option.{Option}
 use Rattle.std.specs.declared.option.Option.TheVariants.{None, Some}
 use Rattle.crl_model.specs.declared.name.Name.{Name}
 use Rattle.crl_pieces.specs.Pieces.{count}
+use Rattle.crl_table.specs.Tables.{table_of}
 use Rattle.crl_protocol.specs.Parcels.{pieces_in}
 use Rattle.crl_protocol.specs.Lifetimes.{Mapping, cached_size, cache_with}
 use Rattle.crl_protocol.specs.Node.{Node, Outcome, is_mine}
@@ -45,3 +46,10 @@ forgotten_size (Some name) n = (row_or (n.remotes name)).size
 pub record ForgetIsReady (forgotten : Option Name) (paper : ℕ) (d : Desk) : Type 0 where
   pub sized : paper ≡ forgotten_size forgotten (state d)
   pub room : HasRoom (count paper + 1) 1 1 d
+
+-- for an unmap of the name, and for a purge of it
+abbrev pub UnmapIsReady : Name → ℕ → Desk → Type 0
+UnmapIsReady name paper d = ForgetIsReady (unmapped_name name (table_of d.maps name) (state d)) paper d
+
+abbrev pub PurgeIsReady : Name → ℕ → Desk → Type 0
+PurgeIsReady name paper d = ForgetIsReady (purged_name name (table_of d.maps name) (state d)) paper d

@@ -157,10 +157,12 @@ pub fn take_info(desk: &mut Desk, at: u64, name: Name, told: Told)
     ensures state { state desk.new ≡ acted at (handlers.takes_info name told desk.old.standing (state desk.old)) }
     ensures room { HasRoom 0 0 1 desk.new }
 {
-    if let Some(Awaited::ForMap {
-        name: waited,
-        purged,
-    }) = desk.standing.awaited()
+    if let Some(
+        Awaited::ForMap {
+            name: waited,
+            purged,
+        },
+    ) = desk.standing.awaited()
     {
         if waited == name {
             end_map(desk, name, told, purged);

@@ -5,7 +5,7 @@ ghost use Rattle.crl_table.specs.Tables.{table_of};
 ghost use Rattle.crl_protocol.specs.Calls.{parts_with, unmaps, unmaps_over};
 ghost use Rattle.crl_protocol.specs.Verdict.{verdict};
 ghost use Rattle.crl_desk.specs.Desks.{state, acted, HasRoom};
-ghost use Rattle.crl_naming.specs.Forgetting.{with_posts, parted_name, unmapped_name, ForgetIsReady};
+ghost use Rattle.crl_naming.specs.Forgetting.{with_posts, parted_name, unmapped_name, ForgetIsReady, UnmapIsReady};
 
 use crate::forgetting::{forget, forget_evicted, size_of_forgotten};
 use crate::mapping::mapping_of;
@@ -55,7 +55,7 @@ pub fn ready_unmap(desk: &mut Desk, name: Name) -> Result<Sheets, OutOfMemory>
     requires room { HasRoom 0 0 0 desk.old }
     ensures state { state desk.new ≡ state desk.old }
     ensures room { HasRoom 0 0 0 desk.new }
-    ensures ready { IfOk result (λ sheets. ForgetIsReady (unmapped_name name (table_of desk.new.maps name) (state desk.new)) sheets desk.new) }
+    ensures ready { IfOk result (λ sheets. UnmapIsReady name sheets desk.new) }
 {
     let size = size_of_forgotten(desk, unmapped(desk, name));
     let sheets = Sheets::new(desk.alloc, size)?;
@@ -114,7 +114,7 @@ fn undo_map(desk: &mut Desk, name: Name, mapping: Mapping, sheets: Sheets)
 
 /// One map of the name, if it is mapped, is undone.
 fn undo(desk: &mut Desk, name: Name, sheets: Sheets)
-    requires ready { ForgetIsReady (unmapped_name name (table_of desk.old.maps name) (state desk.old)) sheets desk.old }
+    requires ready { UnmapIsReady name sheets desk.old }
     requires verdict { verdict (state desk.old) (Unmap name) ≡ None }
     ensures state { state desk.new ≡ with_posts (unmaps_over name (table_of desk.old.maps name) (state desk.old)) }
     ensures room { HasRoom 1 1 1 desk.new }
@@ -127,7 +127,7 @@ fn undo(desk: &mut Desk, name: Name, sheets: Sheets)
 
 /// An unmap that isn't refused, with paper for the region that it may forget.
 pub fn unmap(desk: &mut Desk, at: u64, name: Name, sheets: Sheets) -> Answer<Reading, Writing>
-    requires ready { ForgetIsReady (unmapped_name name (table_of desk.old.maps name) (state desk.old)) sheets desk.old }
+    requires ready { UnmapIsReady name sheets desk.old }
     requires verdict { verdict (state desk.old) (Unmap name) ≡ None }
     ensures state { state desk.new ≡ acted at (unmaps name (state desk.old)) }
     ensures answer { result ≡ (unmaps name (state desk.old)).answer }

@@ -1,4 +1,3 @@
-use Rattle.crl_table.specs.Tables.{table_of}
 use Rattle.crl_model.specs.declared.entry.What.TheVariants as what
 use Rattle.crl_protocol.specs.Calls.{unmaps_over}
 use Rattle.crl_desk.specs.Desks.{state}
