@@ -1,7 +1,9 @@
 pub mod Carried
 pub mod Doing
 pub mod Events
+pub mod Fresh
 pub mod Guarded
 pub mod Halves
 pub mod Keeping
 pub mod Nodes
+pub mod RowSums

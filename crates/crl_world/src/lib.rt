@@ -3,8 +3,11 @@
 #![tactic(auto)]
 
 mod carrying;
+mod choosing;
 mod ends;
 mod faults;
+mod rows;
+mod starting;
 mod steps;
 mod world;
 
