@@ -4,11 +4,15 @@
 
 mod carrying;
 mod choosing;
+mod ending;
 mod ends;
 mod faults;
+mod regions;
 mod rows;
 mod starting;
 mod steps;
+mod stuck;
+pub mod theorems;
 mod world;
 
 pub use faults::{CallFault, EndFault, StartFault, StepFault};
