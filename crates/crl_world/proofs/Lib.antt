@@ -1,7 +1,12 @@
-pub mod Carried
-pub mod Doing
-pub mod Events
-pub mod Guarded
-pub mod Halves
-pub mod Keeping
-pub mod Nodes
+pub mod Laws
+mod Carried
+mod Doing
+mod Events
+mod Fresh
+mod Guarded
+mod Halves
+mod Keeping
+mod Nodes
+mod RowSums
+mod Totals
+mod Turning

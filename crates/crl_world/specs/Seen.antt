@@ -1,5 +1,5 @@
 -- The protocol's world of what is seen.
-use Rattle.std.specs.Prelude.{◌≡◌, ℕ, ◌<◌, ◌≤◌, ◌^◌, List, length, map, slice_index_or}
+use Rattle.std.specs.Prelude.{◌≡◌, ℕ, zero, suc, ◌+◌, ◌<◌, ◌≤◌, ◌^◌, List, [], ◌∷◌, length, map, slice_index_or}
 use Rattle.crl_protocol.specs.Node.{Node, new_node}
 use Rattle.crl_protocol.specs.World.{World}
 use Rattle.crl_safety.specs.Safety.{IsSafe}
@@ -26,6 +26,11 @@ pub record IsKept (w : World) : Type 0 where
   pub few : w.count ≤ 64
   pub events : w.events ≤ 2 ^ 62
   pub numbered : (i : ℕ) → (w.nodes i).me ≡ i
+
+-- so many nodes to which nothing happened, from this number on
+abbrev pub first_nodes : ℕ → ℕ → ℕ → ℕ → List Node
+first_nodes count capacity i zero = []
+first_nodes count capacity i (suc k) = new_node count capacity i ∷ first_nodes count capacity (i + 1) k
 
 -- each node of the world is safe
 pub record NodesAreSafe (w : World) : Type 0 where

@@ -3,9 +3,16 @@
 #![tactic(auto)]
 
 mod carrying;
+mod choosing;
+mod ending;
 mod ends;
 mod faults;
+mod regions;
+mod rows;
+mod starting;
 mod steps;
+mod stuck;
+pub mod theorems;
 mod world;
 
 pub use faults::{CallFault, EndFault, StartFault, StepFault};
