@@ -1,0 +1,5 @@
+mod Ends
+pub mod Laws
+mod Numbers
+mod Regions
+mod Runs

@@ -1,0 +1,63 @@
+-- What is said of the pieces in the boxes of every run: the numbers that stand in their frames.
+use Rattle.std.specs.Prelude.{◌≡◌, ◌≢◌, ℕ, ◌<◌, ◌≤◌, ◌^◌, true, false, List}
+use Rattle.std.specs.List.{AllByRecursion}
+use Rattle.crl_model.specs.declared.TheConstants.{NODE_LIMIT}
+use Rattle.crl_model.specs.declared.event.Event.{Event}
+use Rattle.crl_model.specs.declared.message.Message.{Message}
+use Rattle.crl_model.specs.declared.message.Kind.{Kind}
+use Rattle.crl_model.specs.declared.message.Kind.TheVariants as kind
+use Rattle.crl_protocol.specs.Parcels.{Piece}
+use Rattle.crl_protocol.specs.World.{World, world_of, pieces_in_boxes, IsRun}
+
+-- a version or the number of a round: from 1, and within a word
+abbrev pub FitsWord : ℕ → Type 0
+FitsWord number = (1 ≤ number) × (number < 2 ^ 64)
+
+-- An ask to read names no version, and one to write any that fits a word. Each other version, and each round, is from 1.
+abbrev pub FitsNumber : Kind → Type 0
+FitsNumber (kind.Ask name true have) = have < 2 ^ 64
+FitsNumber (kind.Ask name false have) = have ≡ 0
+FitsNumber (kind.Grant name version granted) = FitsWord version
+FitsNumber (kind.Recall name version) = FitsWord version
+FitsNumber (kind.Yield name version) = FitsWord version
+FitsNumber (kind.Return name version bytes) = FitsWord version
+FitsNumber (kind.Release name version bytes) = FitsWord version
+FitsNumber (kind.Come round part) = FitsWord round
+FitsNumber (kind.Result round fold) = FitsWord round
+FitsNumber _ = Unit {0}
+
+-- two nodes that differ
+pub record FitsEnds (m : Message) : Type 0 where
+  pub sender : m.sender < NODE_LIMIT
+  pub addressee : m.addressee < NODE_LIMIT
+  pub other : m.sender ≢ m.addressee
+
+-- the home of the name is the end that the kind says, and the parts of rounds go to node 0
+abbrev pub FitsHome : ℕ → ℕ → Kind → Type 0
+FitsHome from to (kind.InfoAsk name) = name.home ≡ to
+FitsHome from to (kind.InfoIs name told) = name.home ≡ from
+FitsHome from to (kind.Ask name write have) = name.home ≡ to
+FitsHome from to (kind.Grant name version granted) = name.home ≡ from
+FitsHome from to (kind.Recall name version) = name.home ≡ from
+FitsHome from to (kind.Yield name version) = name.home ≡ from
+FitsHome from to (kind.Return name version bytes) = name.home ≡ to
+FitsHome from to (kind.Release name version bytes) = name.home ≡ to
+FitsHome from to (kind.DeleteAsk name) = name.home ≡ to
+FitsHome from to (kind.DeleteIs name told) = name.home ≡ from
+FitsHome from to (kind.Purge name) = name.home ≡ from
+FitsHome from to (kind.Purged name) = name.home ≡ to
+FitsHome from to (kind.Come round part) = to ≡ 0
+FitsHome from to (kind.Result round fold) = Unit {0}
+
+-- The statements, of each piece in a box after a run of so many nodes.
+abbrev pub InEachBox : (Message → Type 0) → Type 0
+InEachBox Holds = (count capacity : ℕ) (run : List Event) → IsRun count capacity run → AllByRecursion (λ (p : Piece). Holds p.message) (pieces_in_boxes (world_of count capacity run))
+
+abbrev pub InBoxesOfFew : (Message → Type 0) → Type 0
+InBoxesOfFew Holds = (count capacity : ℕ) (run : List Event) → count ≤ NODE_LIMIT → IsRun count capacity run → AllByRecursion (λ (p : Piece). Holds p.message) (pieces_in_boxes (world_of count capacity run))
+
+abbrev pub NumberFits : Message → Type 0
+NumberFits m = FitsNumber m.kind
+
+abbrev pub HomeIsAnEnd : Message → Type 0
+HomeIsAnEnd m = FitsHome m.sender m.addressee m.kind

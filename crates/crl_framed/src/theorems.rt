@@ -1,0 +1,12 @@
+//! The theorems, of each piece in a box of any node after any run of at most 2^62 events.
+ghost use Rattle.crl_framed.specs.Framed.{InEachBox, InBoxesOfFew, FitsEnds, HomeIsAnEnd};
+
+/// Among at most 64 nodes, the piece goes from a node to another one, and both numbers are below 64.
+pub fn ends_fit()
+    ensures { InBoxesOfFew FitsEnds }
+{}
+
+/// The home of the name is the end that the kind of message says, and a part of a round goes to node 0.
+pub fn homes_are_ends()
+    ensures { InEachBox HomeIsAnEnd }
+{}
