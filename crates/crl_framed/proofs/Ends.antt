@@ -46,7 +46,7 @@ pub each_took : {A : Type 0} (P : A → Type 0) (xs : List A) → ((x : A) (rest
 each_took P [] h = tt
 each_took P (x ∷ xs) h = (h x xs here, each_took P xs (λ y rest t. h y (x ∷ rest) (there t)))
 
-both : {A : Type 0} (P Q R : A → Type 0) → ((x : A) → P x → Q x → R x) → (xs : List A) → AllByRecursion P xs → AllByRecursion Q xs → AllByRecursion R xs
+pub both : {A : Type 0} (P Q R : A → Type 0) → ((x : A) → P x → Q x → R x) → (xs : List A) → AllByRecursion P xs → AllByRecursion Q xs → AllByRecursion R xs
 both P Q R f [] p q = tt
 both P Q R f (x ∷ xs) p q = (f x p.0 q.0, both P Q R f xs p.1 q.1)
 

@@ -3,3 +3,4 @@ pub mod Laws
 mod Numbers
 mod Regions
 mod Runs
+mod Words

@@ -1,5 +1,5 @@
 //! The theorems, of each piece in a box of any node after any run of at most 2^62 events.
-ghost use Rattle.crl_framed.specs.Framed.{InEachBox, InBoxesOfFew, FitsEnds, HomeIsAnEnd};
+ghost use Rattle.crl_framed.specs.Framed.{InEachBox, InBoxesOfFew, FitsEnds, HomeIsAnEnd, NumberFits};
 
 /// Among at most 64 nodes, the piece goes from a node to another one, and both numbers are below 64.
 pub fn ends_fit()
@@ -9,4 +9,10 @@ pub fn ends_fit()
 /// The home of the name is the end that the kind of message says, and a part of a round goes to node 0.
 pub fn homes_are_ends()
     ensures { InEachBox HomeIsAnEnd }
+{}
+
+/// The version that the piece names, and the number of a round, are from 1 and fit a word. An ask to read names no version,
+/// and one to write any that fits a word.
+pub fn numbers_fit()
+    ensures { InEachBox NumberFits }
 {}
