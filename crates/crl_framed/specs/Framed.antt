@@ -1,12 +1,14 @@
 -- What is said of the pieces in the boxes of every run: the numbers that stand in their frames.
-use Rattle.std.specs.Prelude.{◌≡◌, ◌≢◌, ℕ, ◌<◌, ◌≤◌, ◌^◌, true, false, List}
+use Rattle.std.specs.Prelude.{◌≡◌, ◌≢◌, ℕ, ◌<◌, ◌≤◌, ◌^◌, true, false, List, length}
 use Rattle.std.specs.List.{AllByRecursion}
 use Rattle.crl_model.specs.declared.TheConstants.{NODE_LIMIT}
 use Rattle.crl_model.specs.declared.event.Event.{Event}
 use Rattle.crl_model.specs.declared.message.Message.{Message}
 use Rattle.crl_model.specs.declared.message.Kind.{Kind}
 use Rattle.crl_model.specs.declared.message.Kind.TheVariants as kind
-use Rattle.crl_protocol.specs.Parcels.{Piece}
+use Rattle.std.specs.declared.option.Option.TheVariants.{None}
+use Rattle.crl_pieces.specs.Pieces.{count, piece_size}
+use Rattle.crl_protocol.specs.Parcels.{Piece, load_of, key_of}
 use Rattle.crl_protocol.specs.World.{World, world_of, pieces_in_boxes, IsRun}
 
 -- a version or the number of a round: from 1, and within a word
@@ -61,3 +63,18 @@ NumberFits m = FitsNumber m.kind
 
 abbrev pub HomeIsAnEnd : Message → Type 0
 HomeIsAnEnd m = FitsHome m.sender m.addressee m.kind
+
+-- The piece is one of those into which a message with so many bytes is cut.
+pub record IsPieceOf (size : ℕ) (p : Piece) : Type 0 where
+  pub pieces : p.pieces ≡ count size
+  pub index : p.index < p.pieces
+  pub bytes : length (load_of p.message.kind) ≡ piece_size size p.index
+
+-- the size is that of the message's bytes, 0 where it has none that travel in pieces
+pub record PieceIsPlaced (p : Piece) : Type 0 where
+  pub size : ℕ
+  pub is : IsPieceOf size p
+  pub none : key_of p.message ≡ None → size ≡ 0
+
+abbrev pub PiecesInEachBox : (Piece → Type 0) → Type 0
+PiecesInEachBox Holds = (count capacity : ℕ) (run : List Event) → IsRun count capacity run → AllByRecursion Holds (pieces_in_boxes (world_of count capacity run))

@@ -1,5 +1,5 @@
 //! The theorems, of each piece in a box of any node after any run of at most 2^62 events.
-ghost use Rattle.crl_framed.specs.Framed.{InEachBox, InBoxesOfFew, FitsEnds, HomeIsAnEnd, NumberFits};
+ghost use Rattle.crl_framed.specs.Framed.{InEachBox, InBoxesOfFew, FitsEnds, HomeIsAnEnd, NumberFits, PiecesInEachBox, PieceIsPlaced};
 
 /// Among at most 64 nodes, the piece goes from a node to another one, and both numbers are below 64.
 pub fn ends_fit()
@@ -15,4 +15,10 @@ pub fn homes_are_ends()
 /// and one to write any that fits a word.
 pub fn numbers_fit()
     ensures { InEachBox NumberFits }
+{}
+
+/// The piece is one of those into which its message is cut: their number is that of the message's bytes, its index is below
+/// it, and it has the bytes of its place. A message without bytes is one piece.
+pub fn pieces_are_cut()
+    ensures { PiecesInEachBox PieceIsPlaced }
 {}
