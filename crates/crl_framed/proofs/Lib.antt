@@ -1,5 +1,6 @@
 mod Ends
 pub mod Laws
+mod Homes
 mod Numbers
 mod Placed
 mod Regions
