@@ -1,14 +1,15 @@
 -- What is said of the pieces in the boxes of every run: the numbers that stand in their frames.
 use Rattle.std.specs.Prelude.{◌≡◌, ◌≢◌, ℕ, ◌<◌, ◌≤◌, ◌^◌, true, false, List, length}
 use Rattle.std.specs.List.{AllByRecursion}
-use Rattle.crl_model.specs.declared.TheConstants.{NODE_LIMIT}
+use Rattle.crl_model.specs.declared.TheConstants.{NODE_LIMIT, REGION_LIMIT}
 use Rattle.crl_model.specs.declared.event.Event.{Event}
+use Rattle.crl_model.specs.declared.message.Told.TheVariants as told
 use Rattle.crl_model.specs.declared.message.Message.{Message}
 use Rattle.crl_model.specs.declared.message.Kind.{Kind}
 use Rattle.crl_model.specs.declared.message.Kind.TheVariants as kind
-use Rattle.std.specs.declared.option.Option.TheVariants.{None}
+use Rattle.std.specs.declared.option.Option.TheVariants.{None, Some}
 use Rattle.crl_pieces.specs.Pieces.{count, piece_size}
-use Rattle.crl_protocol.specs.Parcels.{Piece, load_of, key_of}
+use Rattle.crl_protocol.specs.Parcels.{Piece, Key, load_of, key_of}
 use Rattle.crl_protocol.specs.World.{World, world_of, pieces_in_boxes, IsRun}
 
 -- a version or the number of a round: from 1, and within a word
@@ -64,17 +65,30 @@ NumberFits m = FitsNumber m.kind
 abbrev pub HomeIsAnEnd : Message → Type 0
 HomeIsAnEnd m = FitsHome m.sender m.addressee m.kind
 
+-- a region has so many bytes
+abbrev pub IsRegionSize : ℕ → Type 0
+IsRegionSize size = (1 ≤ size) × (size ≤ REGION_LIMIT)
+
+-- a size that is told is that of a region
+abbrev pub FitsSize : Kind → Type 0
+FitsSize (kind.InfoIs name (told.Live size)) = IsRegionSize size
+FitsSize _ = Unit {0}
+
+abbrev pub SizeFits : Message → Type 0
+SizeFits m = FitsSize m.kind
+
 -- The piece is one of those into which a message with so many bytes is cut.
 pub record IsPieceOf (size : ℕ) (p : Piece) : Type 0 where
   pub pieces : p.pieces ≡ count size
   pub index : p.index < p.pieces
   pub bytes : length (load_of p.message.kind) ≡ piece_size size p.index
 
--- the size is that of the message's bytes, 0 where it has none that travel in pieces
+-- the size is that of the message's bytes: of a region, or 0 where it has none that travel in pieces
 pub record PieceIsPlaced (p : Piece) : Type 0 where
   pub size : ℕ
   pub is : IsPieceOf size p
   pub none : key_of p.message ≡ None → size ≡ 0
+  pub some : (key : Key) → key_of p.message ≡ Some key → IsRegionSize size
 
 abbrev pub PiecesInEachBox : (Piece → Type 0) → Type 0
 PiecesInEachBox Holds = (count capacity : ℕ) (run : List Event) → IsRun count capacity run → AllByRecursion Holds (pieces_in_boxes (world_of count capacity run))

@@ -1,5 +1,5 @@
 //! The theorems, of each piece in a box of any node after any run of at most 2^62 events.
-ghost use Rattle.crl_framed.specs.Framed.{InEachBox, InBoxesOfFew, FitsEnds, HomeIsAnEnd, NumberFits, PiecesInEachBox, PieceIsPlaced};
+ghost use Rattle.crl_framed.specs.Framed.{InEachBox, InBoxesOfFew, FitsEnds, HomeIsAnEnd, NumberFits, SizeFits, PiecesInEachBox, PieceIsPlaced};
 
 /// Among at most 64 nodes, the piece goes from a node to another one, and both numbers are below 64.
 pub fn ends_fit()
@@ -18,7 +18,13 @@ pub fn numbers_fit()
 {}
 
 /// The piece is one of those into which its message is cut: their number is that of the message's bytes, its index is below
-/// it, and it has the bytes of its place. A message without bytes is one piece.
+/// it, and it has the bytes of its place. A message without bytes is
+/// one piece, and one with bytes has those of a region.
 pub fn pieces_are_cut()
     ensures { PiecesInEachBox PieceIsPlaced }
+{}
+
+/// A size that is told is that of a region: from 1, and within the limit.
+pub fn sizes_fit()
+    ensures { InEachBox SizeFits }
 {}
