@@ -5,4 +5,5 @@ mod Numbers
 mod Placed
 mod Regions
 mod Runs
+mod Typed
 mod Words

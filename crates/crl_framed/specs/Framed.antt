@@ -1,8 +1,12 @@
 -- What is said of the pieces in the boxes of every run: the numbers that stand in their frames.
-use Rattle.std.specs.Prelude.{◌≡◌, ◌≢◌, ℕ, ◌<◌, ◌≤◌, ◌^◌, true, false, List, length}
+use Rattle.std.specs.Prelude.{◌≡◌, ◌≢◌, ℕ, ◌<◌, ◌≤◌, ◌^◌, true, false, List, [], ◌∷◌, length}
 use Rattle.std.specs.List.{AllByRecursion}
 use Rattle.crl_model.specs.declared.TheConstants.{NODE_LIMIT, REGION_LIMIT}
+use Rattle.crl_model.specs.declared.name.Name.{Name}
+use Rattle.crl_model.specs.declared.call.Call.{Call}
+use Rattle.crl_model.specs.declared.call.Call.TheVariants as call
 use Rattle.crl_model.specs.declared.event.Event.{Event}
+use Rattle.crl_model.specs.declared.event.Event.TheVariants as event
 use Rattle.crl_model.specs.declared.message.Told.TheVariants as told
 use Rattle.crl_model.specs.declared.message.Message.{Message}
 use Rattle.crl_model.specs.declared.message.Kind.{Kind}
@@ -92,3 +96,52 @@ pub record PieceIsPlaced (p : Piece) : Type 0 where
 
 abbrev pub PiecesInEachBox : (Piece → Type 0) → Type 0
 PiecesInEachBox Holds = (count capacity : ℕ) (run : List Event) → IsRun count capacity run → AllByRecursion Holds (pieces_in_boxes (world_of count capacity run))
+
+-- Calls as their types have them: serials and sizes within 32 bits.
+abbrev pub IsTypedName : Name → Type 0
+IsTypedName name = name.serial < 2 ^ 32
+
+abbrev pub IsTypedCall : Call → Type 0
+IsTypedCall (call.Create size) = size < 2 ^ 32
+IsTypedCall (call.Delete name) = IsTypedName name
+IsTypedCall (call.Map name) = IsTypedName name
+IsTypedCall (call.Unmap name) = IsTypedName name
+IsTypedCall (call.StartRead name) = IsTypedName name
+IsTypedCall (call.EndRead name) = IsTypedName name
+IsTypedCall (call.StartWrite name) = IsTypedName name
+IsTypedCall (call.EndWrite name after) = IsTypedName name
+IsTypedCall (call.Put name offset len) = IsTypedName name × (offset < 2 ^ 32) × (len < 2 ^ 32)
+IsTypedCall (call.Add name offset) = IsTypedName name × (offset < 2 ^ 32)
+IsTypedCall (call.Flush name) = IsTypedName name
+IsTypedCall (call.Come part) = Unit {0}
+
+abbrev pub AreTyped : List Event → Type 0
+AreTyped [] = Unit {0}
+AreTyped (event.Call i c ∷ es) = IsTypedCall c × AreTyped es
+AreTyped (_ ∷ es) = AreTyped es
+
+-- the serial of a name, from 1
+abbrev pub IsSerial : ℕ → Type 0
+IsSerial serial = (1 ≤ serial) × (serial < 2 ^ 32)
+
+abbrev pub FitsSerial : Kind → Type 0
+FitsSerial (kind.InfoAsk name) = IsSerial name.serial
+FitsSerial (kind.InfoIs name told) = IsSerial name.serial
+FitsSerial (kind.Ask name write have) = IsSerial name.serial
+FitsSerial (kind.Grant name version granted) = IsSerial name.serial
+FitsSerial (kind.Recall name version) = IsSerial name.serial
+FitsSerial (kind.Yield name version) = IsSerial name.serial
+FitsSerial (kind.Return name version bytes) = IsSerial name.serial
+FitsSerial (kind.Release name version bytes) = IsSerial name.serial
+FitsSerial (kind.DeleteAsk name) = IsSerial name.serial
+FitsSerial (kind.DeleteIs name told) = IsSerial name.serial
+FitsSerial (kind.Purge name) = IsSerial name.serial
+FitsSerial (kind.Purged name) = IsSerial name.serial
+FitsSerial (kind.Come round part) = Unit {0}
+FitsSerial (kind.Result round fold) = Unit {0}
+
+abbrev pub SerialFits : Message → Type 0
+SerialFits m = FitsSerial m.kind
+
+abbrev pub InBoxesOfTypedRuns : (Message → Type 0) → Type 0
+InBoxesOfTypedRuns Holds = (count capacity : ℕ) (run : List Event) → IsRun count capacity run → AreTyped run → AllByRecursion (λ (p : Piece). Holds p.message) (pieces_in_boxes (world_of count capacity run))
