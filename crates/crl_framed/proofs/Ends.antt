@@ -1,5 +1,5 @@
 -- The ends of a piece in a box, and the home of its name.
-use Rattle.std.proofs.Common.{◌≡◌, ℕ, ◌+◌, ◌≤◌, ◌<◌, List, [], ◌∷◌, ◌++◌, refl, sym, subst, arith}
+use Rattle.std.proofs.Common.{ℕ, ◌+◌, ◌≤◌, List, [], ◌∷◌, sym, subst, arith}
 use Rattle.std.specs.List.{AllByRecursion}
 use Rattle.std.proofs.lemmas.List.Elements.{recursion_from_All}
 use Rattle.crl_model.specs.declared.event.Event.{Event}
@@ -9,7 +9,7 @@ use Rattle.crl_model.specs.declared.message.Kind.TheVariants as kind
 use Rattle.crl_pieces.specs.Pieces.{Cell, left_from}
 use Rattle.crl_protocol.specs.Parcels.{Piece, piece_of, with_load}
 use Rattle.crl_protocol.specs.Places.{Took, here, there}
-use Rattle.crl_protocol.specs.World.{World, new_world, world_of, pieces_in_boxes, IsRunFrom, IsRun}
+use Rattle.crl_protocol.specs.World.{World, new_world, world_of, pieces_in_boxes, IsRunFrom}
 use Rattle.crl_machine.specs.SingleMachine.{State}
 use Rattle.crl_deeds.specs.Turns.{Parts}
 use Rattle.crl_deeds.proofs.Laws.{all_append}
@@ -17,7 +17,7 @@ use Rattle.crl_flight.specs.Flight.{Under, left_of, lefts, messages_of}
 use Rattle.crl_lifetime.specs.Lifetime.{TalkFits, MessageFits}
 use Rattle.crl_lifetime.proofs.Laws.{messages_in_runs}
 use Rattle.crl_regions.specs.Addresses.{GoesToOther}
-use Rattle.crl_regions.specs.MailFits.{Tables, FitsTables, MailFits}
+use Rattle.crl_regions.specs.MailFits.{Tables, FitsTables}
 use Rattle.crl_regions.specs.View.{tables_of}
 use Rattle.crl_regions.proofs.Laws.{pieces_to_others, count_in_run}
 use Rattle.crl_rounds.specs.Standing.{RoundMailFits, IsRoundMail, machine_of}
@@ -58,7 +58,7 @@ ends_fit count capacity run small r =
     (λ p g. record { sender = (let s = g.sender in omega arith); addressee = (let s = g.addressee in omega arith); other = g.other }) (pieces_in_boxes w) (pieces_to_others count capacity run r.enabled)
 
 -- The home.
-abbrev MailOf : Tables → Message → Type 0
+abbrev pub MailOf : Tables → Message → Type 0
 MailOf tables m = FitsTables tables m.sender m.addressee m.kind
 
 told_parts : (tables : Tables) (from to : ℕ) (k : Kind) (part : List ℕ) → FitsTables tables from to k → FitsTables tables from to (with_load part k)
@@ -83,14 +83,21 @@ home_of_kind w s from to (kind.Purged name) t f m = sym f.0
 home_of_kind w s from to (kind.Come round part) t f m = m.to_first
 home_of_kind w s from to (kind.Result round fold) t f m = tt
 
+pub mail_boxed : (count capacity : ℕ) (run : List Event) → IsRunFrom (new_world count capacity) run → let w = world_of count capacity run in AllByRecursion (λ (p : Piece). MailOf (tables_of w) p.message) (pieces_in_boxes w)
+mail_boxed count capacity run r =
+    let w = world_of count capacity run in
+    let x = reached count capacity run r in all_boxed (MailOf (tables_of w)) (λ m part h. told_parts (tables_of w) m.sender m.addressee m.kind part h) w x x.hold.mail
+
+pub talk_boxed : (count capacity : ℕ) (run : List Event) → IsRunFrom (new_world count capacity) run → let w = world_of count capacity run in AllByRecursion (λ (p : Piece). MessageFits w p.message) (pieces_in_boxes w)
+talk_boxed count capacity run r =
+    let w = world_of count capacity run in each_took (λ (p : Piece). MessageFits w p.message) (pieces_in_boxes w) (λ p rest took. messages_in_runs count capacity run p rest r took)
+
 pub homes_fit : InEachBox HomeIsAnEnd
 homes_fit count capacity run r =
     let w = world_of count capacity run in
     let s = machine_of count capacity run in
-    let x = reached count capacity run r.enabled in
-    let mail = all_boxed (MailOf (tables_of w)) (λ m part h. told_parts (tables_of w) m.sender m.addressee m.kind part h) w x x.hold.mail in
-    let talk = each_took (λ (p : Piece). MessageFits w p.message) (pieces_in_boxes w) (λ p rest took. messages_in_runs count capacity run p rest r.enabled took) in
     let rounds = recursion_from_All (RoundMailFits w s) (pieces_in_boxes w) (mail_in_runs count capacity run r.enabled) in
     both (λ (p : Piece). MailOf (tables_of w) p.message × MessageFits w p.message) (RoundMailFits w s) (λ (p : Piece). HomeIsAnEnd p.message)
     (λ p k m. home_of_kind w s p.message.sender p.message.addressee p.message.kind k.0 k.1 m) (pieces_in_boxes w)
-    (both (λ (p : Piece). MailOf (tables_of w) p.message) (λ (p : Piece). MessageFits w p.message) (λ (p : Piece). MailOf (tables_of w) p.message × MessageFits w p.message) (λ p a b. (a, b)) (pieces_in_boxes w) mail talk) rounds
+    (both (λ (p : Piece). MailOf (tables_of w) p.message) (λ (p : Piece). MessageFits w p.message) (λ (p : Piece). MailOf (tables_of w) p.message × MessageFits w p.message) (λ p a b. (a, b)) (pieces_in_boxes w)
+    (mail_boxed count capacity run r.enabled) (talk_boxed count capacity run r.enabled)) rounds

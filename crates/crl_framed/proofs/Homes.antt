@@ -1,7 +1,6 @@
 -- In every run each table is of a region within the limit, under a serial that fits its field.
-use Rattle.std.proofs.Common.{◌≡◌, ℕ, zero, suc, ◌+◌, ◌-◌, ◌≤◌, ◌<◌, ◌==◌, Bool, true, false, ◌&&◌, not, None, Some, Option, List, [], ◌∷◌, ◌++◌, length, if◌then◌else◌, refl, ap, sym, ◌∙◌, subst, arith}
-use Rattle.std.specs.List.{AllByRecursion}
-use Rattle.std.proofs.lemmas.Bool.{cond_both, eqb-true, eqb-false}
+use Rattle.std.proofs.Common.{◌≡◌, ℕ, zero, suc, ◌+◌, ◌-◌, ◌≤◌, ◌<◌, ◌==◌, Bool, true, false, ◌&&◌, not, None, Some, Option, List, [], ◌∷◌, ◌++◌, length, if◌then◌else◌, refl, sym, ◌∙◌, subst, arith}
+use Rattle.std.proofs.lemmas.Bool.{cond_both, eqb-false}
 use Rattle.crl_model.specs.declared.TheConstants.{REGION_LIMIT}
 use Rattle.crl_model.specs.declared.name.Name.{Name}
 use Rattle.crl_model.specs.declared.call.Call.{Call}
@@ -14,12 +13,12 @@ use Rattle.crl_model.specs.Names.{name_eq}
 use Rattle.crl_protocol.specs.Places.{at, put}
 use Rattle.crl_protocol.specs.Home.{Home, HomeStep, new_home, is_servable, is_empty, is_reading, is_to_lower, own_ask, open_own, grant_next, grant_for, posts_first, opens_own_section, with_marks, recalls_and_yields, serve, home_takes_ask, home_takes_return, home_takes_release, bytes_after, shared_listing, home_starts, home_ends_read, home_ends_write, one_section_less}
 use Rattle.crl_protocol.specs.Remote.{Remote, RemoteStep}
-use Rattle.crl_protocol.specs.Node.{Node, new_node, Outcome, COUNT_LIMIT, serials_used, is_mine, at_serial, home_of, with_home, next_name}
+use Rattle.crl_protocol.specs.Node.{Node, new_node, Outcome, COUNT_LIMIT, serials_used, is_mine, home_of, with_home, next_name}
 use Rattle.crl_protocol.specs.Calls.{creates}
 use Rattle.crl_protocol.specs.World.{new_world, world_of, IsRunFrom}
 use Rattle.crl_deeds.specs.Counts.{Counted, Plain}
 use Rattle.crl_deeds.specs.Deeds.{Cause, EndsCall, a_read, a_write, Serves, ask_comes, copy_returns, copy_lowers, Copies, home_opens, home_waits, home_ends, home_serves, home_serves_own, Lives, made, used_up, Rounds, comes_away, Notes, flushes_own, Deed, copies, lives, rounds, notes}
-use Rattle.crl_deeds.specs.Turns.{Came, Local, Held}
+use Rattle.crl_deeds.specs.Turns.{Local, Held}
 use Rattle.crl_deeds.proofs.Laws.{by_name, home_put, home_end, home_none, create_fits, held_run, counted_local, counted_start}
 
 pub record TableInRange (q : Name) (h : Home) : Type 0 where

@@ -2,3 +2,4 @@
 pub use Rattle.crl_framed.proofs.Ends.{ends_fit, homes_fit}
 pub use Rattle.crl_framed.proofs.Words.{numbers_fit}
 pub use Rattle.crl_framed.proofs.Placed.{pieces_placed, sizes_fit}
+pub use Rattle.crl_framed.proofs.Serials.{serials_fit}

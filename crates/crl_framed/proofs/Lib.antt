@@ -5,5 +5,6 @@ mod Numbers
 mod Placed
 mod Regions
 mod Runs
+mod Serials
 mod Typed
 mod Words

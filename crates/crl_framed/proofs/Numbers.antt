@@ -1,6 +1,6 @@
 -- The versions of a region's copies, and of its mail under way, go from 1 to the last that was granted; and an ask to read
 -- names none.
-use Rattle.std.proofs.Common.{◌≡◌, ℕ, zero, suc, ◌+◌, ◌≤◌, ◌==◌, nat_lt, Bool, true, false, not, ◌&&◌, None, Some, Option, List, [], ◌∷◌, ◌++◌, map, replicate, if◌then◌else◌, refl, ap, sym, subst, arith}
+use Rattle.std.proofs.Common.{◌≡◌, ℕ, zero, suc, ◌+◌, ◌≤◌, ◌==◌, nat_lt, Bool, true, false, not, ◌&&◌, None, Some, Option, List, [], ◌∷◌, ◌++◌, if◌then◌else◌, refl, sym, subst, arith}
 use Rattle.std.specs.List.{AllByRecursion}
 use Rattle.std.proofs.lemmas.Bool.{cond_both}
 use Rattle.crl_model.specs.declared.directory.Section.{Section}
@@ -11,7 +11,7 @@ use Rattle.crl_model.specs.declared.message.Granted.{Granted}
 use Rattle.crl_model.specs.declared.message.Granted.TheVariants.{Shared, Exclusive, Upgrade}
 use Rattle.crl_protocol.specs.Places.{at, put}
 use Rattle.crl_protocol.specs.Mail.{Mail, Ask, Grant, Recall, Yield, Return, Release, Letter}
-use Rattle.crl_protocol.specs.Home.{Home, HomeStep, is_servable, is_to_mark, recall_or_yield, with_marks, recalls_and_yields, open_own, grant_next, grant_for, posts_first, opens_own_section, serve, home_takes_ask, home_takes_return, home_takes_release, is_to_lower, bytes_after, shared_listing, own_ask, is_empty, is_reading, home_starts, one_section_less, home_ends_read, home_ends_write}
+use Rattle.crl_protocol.specs.Home.{Home, HomeStep, is_servable, is_to_mark, with_marks, recalls_and_yields, open_own, grant_next, grant_for, posts_first, opens_own_section, serve, home_takes_ask, home_takes_return, home_takes_release, is_to_lower, bytes_after, shared_listing, own_ask, is_empty, is_reading, home_starts, one_section_less, home_ends_read, home_ends_write}
 use Rattle.crl_protocol.specs.Remote.{Copy, Remote, RemoteStep, sends_nothing, is_closed, gives_back, lowers, starts_over, remote_starts, copy_after_grant, remote_takes_grant, recall_in, recall_over, remote_takes_recall, yield_in, yield_over, remote_takes_yield, leaves_over, lowers_over, remote_ends_read, with_written, remote_ends_write, flushes_over, remote_flushes, overtakes, notes_due, with_due, is_newer}
 
 abbrev pub IsVersion : ℕ → ℕ → Type 0

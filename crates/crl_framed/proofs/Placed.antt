@@ -1,5 +1,5 @@
 -- A piece in a box is one of those that its message is cut into.
-use Rattle.std.proofs.Common.{◌≡◌, ℕ, ◌+◌, ◌-◌, ◌*◌, ◌≤◌, ◌<◌, Bool, true, false, None, Some, Option, List, [], ◌∷◌, ◌++◌, length, min, refl, ap, sym, ◌∙◌, subst, arith}
+use Rattle.std.proofs.Common.{◌≡◌, ℕ, ◌+◌, None, Some, Option, List, [], ◌∷◌, length, refl, ap, sym, ◌∙◌, subst, arith}
 use Rattle.std.specs.List.{AllByRecursion}
 use Rattle.std.proofs.lemmas.Bool.{cond_both, and_parts, eqb-true}
 use Rattle.crl_model.specs.declared.name.Name.{Name}
@@ -9,20 +9,20 @@ use Rattle.crl_model.specs.declared.message.Granted.TheVariants.{Shared, Exclusi
 use Rattle.crl_model.specs.declared.message.Message.{Message}
 use Rattle.crl_model.specs.declared.message.Kind.{Kind}
 use Rattle.crl_model.specs.declared.message.Kind.TheVariants as kind
-use Rattle.crl_pieces.specs.Pieces.{count, piece_size, cut, Cell, parts_of, left_from}
+use Rattle.crl_pieces.specs.Pieces.{count, piece_size, Cell, parts_of, left_from}
 use Rattle.crl_pieces.proofs.Laws.{HaveSizes, cut_sizes, length_cut, length_cells}
-use Rattle.crl_protocol.specs.Parcels.{Piece, Key, load_of, with_load, piece_of, key_in, key_of}
+use Rattle.crl_protocol.specs.Parcels.{Key, load_of, with_load, piece_of, key_in}
 use Rattle.crl_protocol.specs.Home.{Home}
 use Rattle.crl_protocol.specs.Remote.{Remote}
 use Rattle.crl_protocol.specs.Node.{Node, home_of}
-use Rattle.crl_protocol.specs.World.{World, new_world, world_of, pieces_in_boxes, IsRunFrom, IsRun}
+use Rattle.crl_protocol.specs.World.{new_world, world_of, IsRunFrom}
 use Rattle.crl_deeds.proofs.Laws.{all_append}
 use Rattle.crl_flight.specs.Flight.{Under, IsUnder, left_of, lefts, messages_of}
 use Rattle.crl_safety.specs.Tests.{MeetsTest}
 use Rattle.crl_regions.specs.MailFits.{Tables, HasSize, FitsTables, MailFits}
 use Rattle.crl_regions.specs.View.{table_of, tables_of}
 use Rattle.crl_regions.proofs.Laws.{messages_meet, sizes_known}
-use Rattle.crl_framed.specs.Framed.{InEachBox, IsRegionSize, FitsSize, SizeFits, PieceIsPlaced, IsPieceOf, PiecesInEachBox}
+use Rattle.crl_framed.specs.Framed.{InEachBox, IsRegionSize, FitsSize, SizeFits, PieceIsPlaced, PiecesInEachBox}
 use Rattle.crl_framed.proofs.Ends.{each_took, all_boxed}
 use Rattle.crl_framed.proofs.Homes.{ranges_in_runs}
 use Rattle.crl_framed.proofs.Numbers.{all_up}
@@ -73,12 +73,15 @@ cells_placed m size n k [] f e c l h = tt
 cells_placed m size n k (x ∷ cells) f e c l h =
     let rest = cells_placed m size n (k + 1) cells f e c (omega arith) h.1 in
     cond_both x.came _ _ (AllByRecursion PieceIsPlaced) (λ w. rest)
-    (λ w. (record {
-      size = size;
-      is = record { pieces = c; index = omega arith; bytes = part_length m.kind x.part size k e h.0 };
-      none = λ y. e ∙ no_load m.sender m.kind x.part y;
-      some = λ key y. subst IsRegionSize (sym e) (load_range m.sender m.kind x.part key y f);
-    }, rest))
+    (λ w. (
+      record {
+        size = size;
+        is = record { pieces = c; index = omega arith; bytes = part_length m.kind x.part size k e h.0 };
+        none = λ y. e ∙ no_load m.sender m.kind x.part y;
+        some = λ key y. subst IsRegionSize (sym e) (load_range m.sender m.kind x.part key y f);
+      },
+      rest,
+    ))
 
 under_placed : (u : Under) → LoadFits u.message.kind → IsUnder u → AllByRecursion PieceIsPlaced (left_of u)
 under_placed u f k =

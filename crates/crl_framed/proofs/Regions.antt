@@ -1,5 +1,5 @@
 -- Each event of a region keeps its numbers: of all that is listed, kept or under way.
-use Rattle.std.proofs.Common.{◌≡◌, ℕ, zero, suc, ◌≤◌, ◌==◌, true, None, Some, List, [], ◌∷◌, ◌++◌, map, replicate, if◌then◌else◌, refl, sym, subst, arith}
+use Rattle.std.proofs.Common.{ℕ, zero, suc, ◌==◌, true, None, List, [], ◌∷◌, replicate, subst}
 use Rattle.std.specs.List.{AllByRecursion}
 use Rattle.std.proofs.lemmas.Bool.{cond_both}
 use Rattle.crl_model.specs.Names.{at_node}

@@ -6,7 +6,7 @@ use Rattle.crl_protocol.specs.Home.{Home}
 use Rattle.crl_protocol.specs.World.{World, new_world, world_of, world_after, step, is_enabled, IsRunFrom}
 use Rattle.crl_flight.specs.Flight.{Under, messages_of}
 use Rattle.crl_regions.specs.Steps.{RegionsHold, RegionsStep}
-use Rattle.crl_regions.specs.View.{table_of, view, array_after}
+use Rattle.crl_regions.specs.View.{table_of, view}
 use Rattle.crl_regions.proofs.Laws.{regions_start, regions_step}
 use Rattle.crl_framed.proofs.Regions.{RegionNumbered, goes_on_numbered, created_numbered}
 

@@ -1,20 +1,19 @@
 -- What a node waits for has a serial that fits its field, where calls are typed.
-use Rattle.std.proofs.Common.{◌≡◌, ℕ, ◌+◌, ◌≤◌, ◌<◌, ◌^◌, ◌==◌, Bool, true, false, not, ◌&&◌, None, Some, Option, List, [], ◌∷◌, length, refl, sym, ◌∙◌, subst, arith}
+use Rattle.std.proofs.Common.{◌≡◌, ℕ, ◌≤◌, ◌<◌, ◌^◌, ◌==◌, Bool, true, false, not, ◌&&◌, None, Some, Option, List, [], ◌∷◌, refl, arith}
 use Rattle.std.proofs.lemmas.Bool.{cond_both, and_parts, eqb-false}
 use Rattle.crl_model.specs.declared.name.Name.{Name}
 use Rattle.crl_model.specs.declared.call.Call.{Call}
 use Rattle.crl_model.specs.declared.entry.What.{What}
 use Rattle.crl_model.specs.declared.event.Event.{Event}
 use Rattle.crl_model.specs.declared.event.Event.TheVariants as event
-use Rattle.crl_model.specs.declared.message.Kind.{Kind}
 use Rattle.crl_model.specs.Names.{at_node}
 use Rattle.crl_pieces.specs.Pieces.{is_missing, is_complete, joined}
 use Rattle.crl_protocol.specs.Parcels.{Piece, with_load, Key, key_of, slots_or, at_key, fits_size}
 use Rattle.crl_protocol.specs.Places.{Taken, take_out}
 use Rattle.crl_protocol.specs.Receiving.{size_for, slots_with, gathers_piece, receives_part, receives_as, receives}
-use Rattle.crl_protocol.specs.Handlers.{purges_waiting, node_handles}
+use Rattle.crl_protocol.specs.Handlers.{purges_waiting}
 use Rattle.crl_protocol.specs.Node.{Node, Activity, Free, Waiting, Ready, ForMap, ForDelete, Outcome, is_real}
-use Rattle.crl_protocol.specs.World.{World, new_world, world_of, world_after, step, handles_at, carries, collects, is_enabled, IsRunFrom}
+use Rattle.crl_protocol.specs.World.{World, new_world, world_of, world_after, step, handles_at, carries, collects}
 use Rattle.crl_deeds.specs.Deeds.{Cause, Calls, Hears, Copies, Lives, Rounds, Notes, Deed}
 use Rattle.crl_deeds.specs.Deeds as deed
 use Rattle.crl_deeds.proofs.Laws.{call_deed, message_deed, each_at}

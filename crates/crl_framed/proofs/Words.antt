@@ -1,5 +1,5 @@
 -- The version or round of a piece in a box fits a word.
-use Rattle.std.proofs.Common.{◌≡◌, ℕ, ◌+◌, ◌≤◌, ◌<◌, ◌^◌, ◌==◌, Bool, true, false, None, Some, Option, List, [], ◌∷◌, length, if◌then◌else◌, refl, ap, sym, ◌∙◌, subst, arith}
+use Rattle.std.proofs.Common.{◌≡◌, ℕ, ◌≤◌, ◌<◌, ◌^◌, true, false, None, Some, Option, List, ◌∷◌, length, if◌then◌else◌, ap, sym, subst, arith}
 use Rattle.std.specs.List.{AllByRecursion}
 use Rattle.std.proofs.lemmas.Bool.{cond-true}
 use Rattle.std.proofs.lemmas.List.Elements.{recursion_from_All}
@@ -13,24 +13,22 @@ use Rattle.crl_protocol.specs.Mail.{Mail, Ask, Grant, Recall, Yield, Return, Rel
 use Rattle.crl_protocol.specs.Parcels.{Piece, with_load}
 use Rattle.crl_protocol.specs.Places.{find_all, Took, here, there}
 use Rattle.crl_protocol.specs.Home.{Home}
-use Rattle.crl_protocol.specs.World.{World, new_world, world_of, pieces_in_boxes, IsRunFrom, IsRun}
+use Rattle.crl_protocol.specs.World.{world_of, pieces_in_boxes, IsRun}
 use Rattle.crl_machine.specs.SingleMachine.{State}
 use Rattle.crl_bound.specs.Counters.{CountersFit}
 use Rattle.crl_bound.proofs.Laws.{counters_fit}
 use Rattle.crl_deeds.proofs.Laws.{name_self}
-use Rattle.crl_flight.specs.Flight.{Under, messages_of}
-use Rattle.crl_safety.specs.Tests.{HasTable}
+use Rattle.crl_flight.specs.Flight.{messages_of}
 use Rattle.crl_coherence.specs.Region.{Flying}
 use Rattle.crl_regions.specs.Addresses.{GoesToOther}
 use Rattle.crl_regions.specs.MailFits.{Tables, FitsTables, MailFits}
-use Rattle.crl_regions.specs.View.{table_of, tables_of, table_or_blank, view, mail_in, other_end, flown, flying}
-use Rattle.crl_regions.proofs.Laws.{messages_to_others, count_in_run}
-use Rattle.crl_rounds.specs.Standing.{RoundMailFits, IsRoundMail, RoundCall, StandsIn, round_awaited, current_round, machine_of}
+use Rattle.crl_regions.specs.View.{table_of, tables_of, table_or_blank, mail_in, other_end, flown, flying}
+use Rattle.crl_regions.proofs.Laws.{messages_to_others}
+use Rattle.crl_rounds.specs.Standing.{RoundMailFits, IsRoundMail, RoundCall, StandsIn, current_round, machine_of}
 use Rattle.crl_rounds.proofs.Laws.{mail_in_runs, rounds_in_runs}
 use Rattle.crl_framed.specs.Framed.{InEachBox, FitsWord, FitsNumber, NumberFits}
 use Rattle.crl_framed.proofs.Ends.{all_boxed, each_took, both}
-use Rattle.crl_framed.proofs.Numbers.{IsVersion, Numbered, all_up}
-use Rattle.crl_framed.proofs.Regions.{RegionNumbered}
+use Rattle.crl_framed.proofs.Numbers.{IsVersion, Numbered}
 use Rattle.crl_framed.proofs.Runs.{Reached, reached}
 
 -- What holds of all mail of a region under way holds of each message's.

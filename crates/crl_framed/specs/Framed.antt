@@ -1,4 +1,4 @@
--- What is said of the pieces in the boxes of every run: the numbers that stand in their frames.
+-- What is said of the pieces in the boxes of every run: that what stands in their frames fits its field.
 use Rattle.std.specs.Prelude.{◌≡◌, ◌≢◌, ℕ, ◌<◌, ◌≤◌, ◌^◌, true, false, List, [], ◌∷◌, length}
 use Rattle.std.specs.List.{AllByRecursion}
 use Rattle.crl_model.specs.declared.TheConstants.{NODE_LIMIT, REGION_LIMIT}
@@ -14,7 +14,7 @@ use Rattle.crl_model.specs.declared.message.Kind.TheVariants as kind
 use Rattle.std.specs.declared.option.Option.TheVariants.{None, Some}
 use Rattle.crl_pieces.specs.Pieces.{count, piece_size}
 use Rattle.crl_protocol.specs.Parcels.{Piece, Key, load_of, key_of}
-use Rattle.crl_protocol.specs.World.{World, world_of, pieces_in_boxes, IsRun}
+use Rattle.crl_protocol.specs.World.{world_of, pieces_in_boxes, IsRun}
 
 -- a version or the number of a round: from 1, and within a word
 abbrev pub FitsWord : ℕ → Type 0

@@ -1,4 +1,5 @@
-//! Every piece in a box of every run has a frame. There is no code here but empty functions, whose contracts are the theorems.
+//! What stands in the frames of the pieces in boxes fits its field, in every run. There is no code here but empty functions,
+//! whose contracts are the theorems.
 #![tactic(auto)]
 
 pub mod theorems;

@@ -1,5 +1,5 @@
 //! The theorems, of each piece in a box of any node after any run of at most 2^62 events.
-ghost use Rattle.crl_framed.specs.Framed.{InEachBox, InBoxesOfFew, FitsEnds, HomeIsAnEnd, NumberFits, SizeFits, PiecesInEachBox, PieceIsPlaced};
+ghost use Rattle.crl_framed.specs.Framed.{InEachBox, InBoxesOfFew, FitsEnds, HomeIsAnEnd, InBoxesOfTypedRuns, NumberFits, SerialFits, SizeFits, PiecesInEachBox, PieceIsPlaced};
 
 /// Among at most 64 nodes, the piece goes from a node to another one, and both numbers are below 64.
 pub fn ends_fit()
@@ -27,4 +27,9 @@ pub fn pieces_are_cut()
 /// A size that is told is that of a region: from 1, and within the limit.
 pub fn sizes_fit()
     ensures { InEachBox SizeFits }
+{}
+
+/// After a run whose calls are typed, the serial of a name is from 1 and fits 32 bits.
+pub fn serials_fit()
+    ensures { InBoxesOfTypedRuns SerialFits }
 {}
