@@ -1,0 +1,10 @@
+mod Ends
+pub mod Laws
+mod Homes
+mod Numbers
+mod Placed
+mod Regions
+mod Runs
+mod Serials
+mod Typed
+mod Words
