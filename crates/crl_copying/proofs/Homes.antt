@@ -18,7 +18,7 @@ use Rattle.crl_outbox.specs.MailboxState.{MailboxState}
 use Rattle.crl_safety.specs.Safety.{IsSafe}
 use Rattle.crl_desk.specs.declared.desk.Desk.{Desk}
 use Rattle.crl_desk.specs.declared.kit.SectionKit.{SectionKit}
-use Rattle.crl_desk.specs.Desks.{HasRoom, size_in, size_or}
+use Rattle.crl_desk.specs.Desks.{HasRoom, region_size, size_or}
 use Rattle.crl_desk.specs.Kits.{HasPapers}
 use Rattle.crl_copying.specs.Serving.{AreFor}
 use Rattle.crl_copying.proofs.Queues.{not_queued}
@@ -47,7 +47,7 @@ some_is_some (Some g) h e = grind arith
 pub home_is_some : (n : Node) (name : Name) (h : Home) → home_of n name ≡ Some h → IsSome (at_serial name.serial n.homes)
 home_is_some n name h e = some_is_some (at_serial name.serial n.homes) h (home_is_there n name h e)
 
-pub home_has_size : (n : Node) (name : Name) (h : Home) → home_of n name ≡ Some h → size_in name n ≡ h.size
+pub home_has_size : (n : Node) (name : Name) (h : Home) → home_of n name ≡ Some h → region_size name n ≡ h.size
 home_has_size n name h e = rw (home_is_mine n name h e) (ap (λ o. size_or (size_or_none o)) (home_is_there n name h e))
 
 -- the table stands where it was put
@@ -119,7 +119,7 @@ pub finds_place : (n : Node) (name : Name) (h : Home) (from nodes : ℕ) → IsS
 finds_place n name h from nodes safe there nodes_are below none =
     rw nodes_are (rw (home_is_table n name h there) ((safe.home name h there).room from below (not_queued from name.serial n.homes h (home_is_there n name h there) none)))
 
-pub table_has_size : (n : Node) (name : Name) (h : Home) → home_of n name ≡ Some h → (table_at name n.homes).size ≡ size_in name n
+pub table_has_size : (n : Node) (name : Name) (h : Home) → home_of n name ≡ Some h → (table_at name n.homes).size ≡ region_size name n
 table_has_size n name h there = ap (λ (t : Home). t.size) (home_is_table n name h there) ∙ sym (home_has_size n name h there)
 
 -- what an ask may post
