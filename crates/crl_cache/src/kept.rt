@@ -78,6 +78,20 @@ impl Cache {
         Some(oldest.name)
     }
 
+    /// The name that `keep` gives up for this region.
+    #[tactic(auto, unfolding(crl_protocol::specs::Lifetimes::cache_with))]
+    pub fn evicted_by(&self, region: Cached) -> Option<Name>
+        ensures { result ≡ (cache_with self.now.capacity region self.now.list).evicted }
+    {
+        if self.list.len() < self.capacity as usize {
+            return None;
+        }
+        if self.list.is_empty() {
+            return Some(region.name);
+        }
+        Some(self.list[0].name)
+    }
+
     /// Takes the region out, and answers its size. None exactly if it isn't kept.
     pub fn take_back(&mut self, name: Name) -> Option<u32>
         ensures list { self.new ≡ record self.old { list = cache_without name self.old.list } }

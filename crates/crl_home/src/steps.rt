@@ -27,6 +27,7 @@ impl Homes {
         ensures copies { length (table_at name self.old.homes).listed ≡ self.old.nodes }
         ensures place { name.serial - 1 < length self.new.homes }
         ensures gone { at (name.serial - 1) self.new.homes ≡ None }
+        ensures serials { length self.new.homes ≡ length self.old.homes }
     {
         let place = (name.serial as usize).saturating_sub(1);
         let home = take_at(&mut self.regions, place, self.nodes);
@@ -42,6 +43,7 @@ impl Homes {
         requires fits { owed_in self.old.homes + owed home < 2 ^ 64 }
         ensures homes { self.new ≡ with_table name home self.old }
         ensures owes { owed_in self.new.homes ≡ owed_in self.old.homes + owed home }
+        ensures serials { length self.new.homes ≡ length self.old.homes }
     {
         let place = (name.serial as usize).saturating_sub(1);
         self.owed += home.owed();
@@ -58,6 +60,7 @@ impl Homes {
         requires room { owed_in self.old.homes + ask_debt (table_at name self.old.homes).size ≤ out.old.room }
         requires versions { (table_at name self.old.homes).last + length (table_at name self.old.homes).queue + 1 < 2 ^ 64 }
         ensures homes { self.new ≡ with_table name (homes.ask_step name asked self.old).home self.old }
+        ensures serials { length self.new.homes ≡ length self.old.homes }
         ensures posts { out.new.list ≡ out.old.list ++ letter_pieces self.old.me name (homes.ask_step name asked self.old).posts }
         ensures opened { result ≡ (homes.ask_step name asked self.old).opened }
         ensures places { length out.new.list + out.new.room ≡ length out.old.list + out.old.room }
@@ -89,6 +92,7 @@ impl Homes {
         requires room { owed_in self.old.homes ≤ out.old.room }
         requires versions { (table_at name self.old.homes).last + length (table_at name self.old.homes).queue < 2 ^ 64 }
         ensures homes { self.new ≡ with_table name (homes.return_step name from bytes self.old).home self.old }
+        ensures serials { length self.new.homes ≡ length self.old.homes }
         ensures posts { out.new.list ≡ out.old.list ++ letter_pieces self.old.me name (homes.return_step name from bytes self.old).posts }
         ensures opened { result ≡ (homes.return_step name from bytes self.old).opened }
         ensures places { length out.new.list + out.new.room ≡ length out.old.list + out.old.room }
@@ -122,6 +126,7 @@ impl Homes {
         requires room { owed_in self.old.homes + 2 ≤ out.old.room }
         requires versions { (table_at name self.old.homes).last + length (table_at name self.old.homes).queue < 2 ^ 64 }
         ensures homes { self.new ≡ with_table name (homes.release_step name from version bytes self.old).home self.old }
+        ensures serials { length self.new.homes ≡ length self.old.homes }
         ensures posts { out.new.list ≡ out.old.list ++ letter_pieces self.old.me name (homes.release_step name from version bytes self.old).posts }
         ensures opened { result ≡ (homes.release_step name from version bytes self.old).opened }
         ensures places { length out.new.list + out.new.room ≡ length out.old.list + out.old.room }
@@ -149,6 +154,7 @@ impl Homes {
         requires room { owed_in self.old.homes + ask_debt (table_at name self.old.homes).size ≤ out.old.room }
         requires versions { (table_at name self.old.homes).last + length (table_at name self.old.homes).queue + 1 < 2 ^ 64 }
         ensures homes { self.new ≡ with_table name (homes.start_step name write self.old).home self.old }
+        ensures serials { length self.new.homes ≡ length self.old.homes }
         ensures posts { out.new.list ≡ out.old.list ++ letter_pieces self.old.me name (homes.start_step name write self.old).posts }
         ensures opened { result ≡ (homes.start_step name write self.old).opened }
         ensures places { length out.new.list + out.new.room ≡ length out.old.list + out.old.room }
@@ -172,6 +178,7 @@ impl Homes {
         requires room { owed_in self.old.homes ≤ out.old.room }
         requires versions { (table_at name self.old.homes).last + length (table_at name self.old.homes).queue < 2 ^ 64 }
         ensures homes { self.new ≡ with_table name (homes.end_read_step name self.old).home self.old }
+        ensures serials { length self.new.homes ≡ length self.old.homes }
         ensures posts { out.new.list ≡ out.old.list ++ letter_pieces self.old.me name (homes.end_read_step name self.old).posts }
         ensures places { length out.new.list + out.new.room ≡ length out.old.list + out.old.room }
         ensures owes { owed_in self.new.homes + length out.new.list ≤ owed_in self.old.homes + length out.old.list }
@@ -191,6 +198,7 @@ impl Homes {
         requires room { owed_in self.old.homes ≤ out.old.room }
         requires versions { (table_at name self.old.homes).last + length (table_at name self.old.homes).queue < 2 ^ 64 }
         ensures homes { self.new ≡ with_table name (homes.end_write_step name bytes self.old).home self.old }
+        ensures serials { length self.new.homes ≡ length self.old.homes }
         ensures posts { out.new.list ≡ out.old.list ++ letter_pieces self.old.me name (homes.end_write_step name bytes self.old).posts }
         ensures places { length out.new.list + out.new.room ≡ length out.old.list + out.old.room }
         ensures owes { owed_in self.new.homes + length out.new.list ≤ owed_in self.old.homes + length out.old.list }

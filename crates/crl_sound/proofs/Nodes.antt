@@ -14,6 +14,7 @@ use Rattle.crl_bound.proofs.Laws.{counters_fit}
 use Rattle.crl_coherence.specs.Coherent.{IsCoherent}
 use Rattle.crl_coherence.proofs.Laws.{asks_once}
 use Rattle.crl_deeds.specs.Counts.{Counted}
+use Rattle.crl_deeds.proofs.Laws.{fits_in_runs, here_if}
 use Rattle.crl_flight.specs.Flight.{messages_of}
 use Rattle.crl_regions.specs.MailFits.{HasSize}
 use Rattle.crl_regions.specs.View.{side, sight, table_of, table_or_blank, array_of}
@@ -126,6 +127,7 @@ nodes_safe count capacity run r i few =
     record {
       home = λ name h e. home_safe count capacity run r i few name h e;
       remote = λ name x other e. remote_safe count capacity run r.enabled i name x other e;
+      own = λ name mine. (here_if i ((world_of count capacity run).nodes i) name mine (fits_in_runs count capacity run r i)).nothing;
       bytes = λ name s e. bytes_safe count capacity run r.enabled i name s e;
       section_numbers = let s = c.sections in omega arith;
       rounds = let s = c.rounds in omega arith;

@@ -1,0 +1,4 @@
+mod Deletes
+mod Limits
+mod Purges
+mod Unmaps

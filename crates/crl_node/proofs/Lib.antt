@@ -1,0 +1,3 @@
+mod Concludes
+mod Keeping
+mod Taking

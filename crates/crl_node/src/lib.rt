@@ -1,0 +1,9 @@
+//! A node in code: a member of a world, each of whose events is the protocol's.
+#![tactic(auto)]
+
+mod carriage;
+mod concluding;
+mod node;
+mod showing;
+
+pub use node::Node;
