@@ -21,7 +21,7 @@ take_ask-opened-requires-clause-versions c = versions_fit (state c.args.desk.now
 
 pub open_if_served-requires-clause-room : goal.open_if_served-requires-clause-room
 open_if_served-requires-clause-room c =
-    room_after c.args.desk.now c.args.name _ _ _ (count (size_at c.args.name c.args.desk.now) + 2) c.requires.ready.room (home_is_some (state c.args.desk.now) c.args.name c.requires.meets.0.0 c.requires.meets.0.1) c.take_ask-opened.ensures.homes c.take_ask-opened.ensures.places
+    room_after c.args.desk.now c.args.name _ _ _ (count (size_at c.args.name c.args.desk.now) + 2) c.requires.ready.room c.take_ask-opened.ensures.homes c.take_ask-opened.ensures.serials c.take_ask-opened.ensures.places
     (omega (arith, c.take_ask-opened.ensures.owes, ask_debt_of _ _ (table_has_size (state c.args.desk.now) c.args.name c.requires.meets.0.0 c.requires.meets.0.1)))
 
 pub open_if_served-requires-clause-there : goal.open_if_served-requires-clause-there

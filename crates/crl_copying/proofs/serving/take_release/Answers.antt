@@ -13,7 +13,7 @@ take_release-opened-requires-clause-versions c = omega (arith, versions_fit (sta
 
 pub open_if_served-requires-clause-room : goal.open_if_served-requires-clause-room
 open_if_served-requires-clause-room c =
-    room_after c.args.desk.now c.args.name _ _ _ (count (size_at c.args.name c.args.desk.now) + 2) c.requires.ready.room (home_is_some (state c.args.desk.now) c.args.name c.requires.meets.0 c.requires.meets.1) c.take_release-opened.ensures.homes c.take_release-opened.ensures.places
+    room_after c.args.desk.now c.args.name _ _ _ (count (size_at c.args.name c.args.desk.now) + 2) c.requires.ready.room c.take_release-opened.ensures.homes c.take_release-opened.ensures.serials c.take_release-opened.ensures.places
     (omega (arith, c.take_release-opened.ensures.owes))
 
 pub open_if_served-requires-clause-there : goal.open_if_served-requires-clause-there
