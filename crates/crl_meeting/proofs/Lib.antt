@@ -1,0 +1,4 @@
+mod Rooms
+mod ToldFrom
+mod Comes
+mod Tells
