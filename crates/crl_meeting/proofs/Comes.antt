@@ -19,8 +19,8 @@ use Rattle.crl_protocol.specs.Sectioning.{waits, with_entry_first}
 use Rattle.crl_protocol.specs.Calls.{comes, comes_to, after_own_part, result_of, answer_of}
 use Rattle.crl_protocol.specs.World.{records_of}
 use Rattle.crl_desk.specs.Desks.{acted}
-use Rattle.crl_meeting.specs.Meetings.{told_from, once_entered, once_waiting, once_gathered}
-use Rattle.crl_meeting.proofs.ToldFrom.{told_is}
+use Rattle.crl_meeting.specs.Meetings.{result_messages, once_entered, once_waiting, once_gathered}
+use Rattle.crl_meeting.proofs.Messages.{told_is}
 
 -- the same over what was gathered
 abbrev comes_by : Bool → Option Fold → Gathering → ℕ → Part → Node → Outcome
@@ -78,7 +78,7 @@ later_answer part n later = rw later refl
 
 -- all nodes are told, and the node itself
 pub told_all : (at round : ℕ) (kind : CallKind) (fold : Fold) (n : Node) (out : List Piece) (records : List Recorded) (notes : List Note)
-    → out ≡ n.outbox ++ pieces_in (told_from n.me 1 (n.nodes - 1) round fold)
+    → out ≡ n.outbox ++ pieces_in (result_messages n.me 1 (n.nodes - 1) round fold)
     → records ≡ n.records ++ records_of at (entry_of n.me (result_of round kind fold) ∷ [])
     → notes ≡ n.notes
     → record n { outbox = out; records = records; notes = notes } ≡ acted at (after_own_part round kind (Some fold) n)

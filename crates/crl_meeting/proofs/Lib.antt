@@ -1,4 +1,4 @@
 mod Rooms
-mod ToldFrom
+mod Messages
 mod Comes
 mod Tells

@@ -12,9 +12,9 @@ use Rattle.crl_protocol.specs.Parcels.{pieces_in}
 use Rattle.crl_protocol.specs.Calls.{result_of, answer_of}
 use Rattle.crl_protocol.specs.Handlers.{becomes_ready, own_result, after_part_of, takes_part, takes_result}
 use Rattle.crl_desk.specs.Desks.{acted}
-use Rattle.crl_meeting.specs.Meetings.{told_from, once_told, once_gathered, round_waited, kind_waiting}
+use Rattle.crl_meeting.specs.Meetings.{result_messages, once_told, once_gathered, round_waited, kind_waiting}
 use Rattle.crl_meeting.specs.declared.waiting.RoundWaited.{RoundWaited}
-use Rattle.crl_meeting.proofs.ToldFrom.{told_is}
+use Rattle.crl_meeting.proofs.Messages.{told_is}
 
 -- the same over the round in which the node waits, and over its call
 abbrev told_by : ℕ → Fold → Option CallKind → Node → Outcome
@@ -84,10 +84,10 @@ posted_first at fold posts (Waiting (ForMap name purged)) n = rw (append-nil (n.
 posted_first at fold posts (Waiting (ForDelete name)) n = rw (append-nil (n.outbox ++ pieces_in posts)) refl
 posted_first at fold posts (Waiting (ForRound round kind)) n = rw (append-nil (n.outbox ++ pieces_in posts)) refl
 
-pub others_told : (at round : ℕ) (fold : Fold) (n mid new : Node) → mid ≡ record n { outbox = n.outbox ++ pieces_in (told_from n.me 1 (n.nodes - 1) round fold) }
+pub others_told : (at round : ℕ) (fold : Fold) (n mid new : Node) → mid ≡ record n { outbox = n.outbox ++ pieces_in (result_messages n.me 1 (n.nodes - 1) round fold) }
     → new ≡ acted at (own_result fold mid.activity mid) → new ≡ acted at (after_part_of round (Some fold) n)
 others_told at round fold n mid new mid_is new_is =
-    new_is ∙ ap (λ (m : Node). acted at (own_result fold m.activity m)) mid_is ∙ posted_first at fold (told_from n.me 1 (n.nodes - 1) round fold) n.activity n
+    new_is ∙ ap (λ (m : Node). acted at (own_result fold m.activity m)) mid_is ∙ posted_first at fold (result_messages n.me 1 (n.nodes - 1) round fold) n.activity n
     ∙ ap (λ posts. acted at (record (own_result fold n.activity n) { posts = posts })) (sym (told_is n 1 (n.nodes - 1) round fold))
 
 module _ (at from : ℕ) (part : Part) (n mid : Node) where

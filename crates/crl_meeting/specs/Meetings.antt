@@ -53,9 +53,9 @@ pub record IsResultReady (fold : Fold) (paper : ℕ) (d : Desk) : Type 0 where
 abbrev pub result_message : ℕ → ℕ → ℕ → Fold → Message
 result_message sender node round fold = record { sender = sender; addressee = node; kind = kind.Result round fold }
 
-abbrev pub told_from : ℕ → ℕ → ℕ → ℕ → Fold → List Message
-told_from sender node zero round fold = []
-told_from sender node (suc k) round fold = result_message sender node round fold ∷ told_from sender (node + 1) k round fold
+abbrev pub result_messages : ℕ → ℕ → ℕ → ℕ → Fold → List Message
+result_messages sender node zero round fold = []
+result_messages sender node (suc k) round fold = result_message sender node round fold ∷ result_messages sender (node + 1) k round fold
 
 -- the node once it has entered its next round, waits in a round, has gathered a part, or was told a result
 abbrev pub once_entered : ℕ → Part → Node → Node

@@ -1,5 +1,5 @@
 //! A node comes to its next round.
-ghost use Rattle.std.specs.Prelude.{◌≡◌, ◌≢◌, ◌+◌, ◌<◌, ◌^◌, IfSome, Some, true, false};
+ghost use Rattle.std.specs.Prelude.{◌≡◌, ◌≢◌, ◌+◌, ◌<◌, ◌^◌, IfSome, Some};
 ghost use Rattle.crl_protocol.specs.Calls.{comes, comes_to, after_own_part, answer_of};
 ghost use Rattle.crl_protocol.specs.Gathering.{gathers};
 ghost use Rattle.crl_protocol.specs.Node.{Wait};

@@ -6,7 +6,7 @@ ghost use Rattle.crl_protocol.specs.Parcels.{pieces_in};
 ghost use Rattle.crl_protocol.specs.World.{records_of};
 ghost use Rattle.crl_gathering.specs.Lengths.{fold_bytes};
 ghost use Rattle.crl_meeting.specs.PapersState.{HasFoldPapers};
-ghost use Rattle.crl_meeting.specs.Meetings.{told_from};
+ghost use Rattle.crl_meeting.specs.Meetings.{result_messages};
 
 use crate::papers::Papers;
 use crl_gathering::copy_fold;
@@ -32,7 +32,7 @@ pub(crate) fn post_results(
     requires nodes { 0 < nodes }
     requires room { nodes ≤ outbox.old.room }
     requires papers { HasFoldPapers (fold_bytes fold.now) nodes papers.old }
-    ensures list { outbox.new.list ≡ outbox.old.list ++ pieces_in (told_from me 1 (nodes - 1) round fold.now) }
+    ensures list { outbox.new.list ≡ outbox.old.list ++ pieces_in (result_messages me 1 (nodes - 1) round fold.now) }
     ensures room { outbox.new.room + nodes ≡ outbox.old.room + 1 }
     ensures places { length outbox.new.list + outbox.new.room ≡ length outbox.old.list + outbox.old.room }
     ensures papers { HasFoldPapers (fold_bytes fold.now) 1 papers.new }

@@ -1,7 +1,7 @@
 use Rattle.std.proofs.Common.{◌≡◌, ◌<◌, ◌-◌, ◌++◌, arith, sym, ap, ◌∙◌, append_assoc, append-nil}
 use Rattle.crl_protocol.specs.Parcels.{pieces_in}
-use Rattle.crl_meeting.specs.Meetings.{told_from}
-use Rattle.crl_meeting.proofs.ToldFrom.{told_next}
+use Rattle.crl_meeting.specs.Meetings.{result_messages}
+use Rattle.crl_meeting.proofs.Messages.{told_next}
 use Rattle.crl_meeting.proofs.results.post_results.Goals as goal
 
 pub loop-node-preserved : goal.loop-node-preserved
@@ -20,4 +20,4 @@ pub returns-clause-list : goal.returns-clause-list
 returns-clause-list c =
     let at = c.loop-node in let h = at.invariant in
     let none : 0 ≡ c.args.nodes - at.node = omega (arith, c.loop-node-test.false) in
-    sym (append-nil at.outbox.list) ∙ ap (λ k. at.outbox.list ++ pieces_in (told_from c.args.me at.node k c.args.round c.args.fold.now)) none ∙ h.posts
+    sym (append-nil at.outbox.list) ∙ ap (λ k. at.outbox.list ++ pieces_in (result_messages c.args.me at.node k c.args.round c.args.fold.now)) none ∙ h.posts
