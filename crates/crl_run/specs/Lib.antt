@@ -1,0 +1,5 @@
+pub mod Acting
+pub mod Holders
+pub mod Holding
+pub mod PlayerState
+pub mod Players

@@ -1,0 +1,12 @@
+//! The run of a script under an order of its steps.
+#![tactic(auto)]
+
+mod act;
+mod guards;
+mod held;
+mod player;
+
+pub use act::Act;
+pub use guards::{Reading, Writing};
+pub use held::Held;
+pub use player::Player;
