@@ -12,22 +12,22 @@ abbrev pub generator_of_seed : ℕ → Lcg
 generator_of_seed seed = pcg32_of_seed (pcg32_seed 16 seed)
 
 -- the next word of a generator, and the generator after it
-abbrev pub word_of : Lcg → ℕ
-word_of g = (pcg32 g).0
+abbrev pub word_given : Lcg → ℕ
+word_given g = (pcg32 g).0
 
-abbrev pub after_word : Lcg → Lcg
-after_word g = (pcg32 g).1
+abbrev pub generator_after : Lcg → Lcg
+generator_after g = (pcg32 g).1
 
 -- the p-th word that a generator gives, from 1
 abbrev pub words_from : Lcg → ℕ → ℕ
 words_from g zero = 0
-words_from g (suc p) = word_of (advance 64 multiplier_64 p g)
+words_from g (suc p) = word_given (advance 64 multiplier_64 p g)
 
 abbrev pub words_of_seed : ℕ → ℕ → ℕ
 words_of_seed seed = words_from (generator_of_seed seed)
 
 -- the p-th word to come of an order, from 1
-abbrev pub words_of : Order → ℕ → ℕ
-words_of First = always_first
-words_of (Picks values) = pick_at values
-words_of (Seed g) = words_from g
+abbrev pub words_to_come : Order → ℕ → ℕ
+words_to_come First = always_first
+words_to_come (Picks values) = pick_at values
+words_to_come (Seed g) = words_from g

@@ -1,6 +1,6 @@
 //! Words of a seed.
 ghost use Rattle.std.specs.Prelude.{◌≡◌};
-ghost use Rattle.crl_order.specs.Words.{generator_of_seed, word_of, after_word};
+ghost use Rattle.crl_order.specs.Words.{generator_of_seed, word_given, generator_after};
 
 use rand_core::SeedableRng;
 use rand_core::utils::NextWord;
@@ -33,8 +33,8 @@ impl Seeded {
 
     /// The next word.
     pub fn next_word(&mut self) -> u32
-        ensures word { result ≡ word_of self.old }
-        ensures rest { self.new ≡ after_word self.old }
+        ensures word { result ≡ word_given self.old }
+        ensures rest { self.new ≡ generator_after self.old }
     {
         self.generator.next_word()
     }

@@ -1,12 +1,12 @@
 -- The newest guard of a region is looked for, place by place.
-use Rattle.std.proofs.Common.{◌≡◌, ◌∙◌, sym, ap, refl, Bool, true, false, Some, None, slice_index_or, slice_set, ℕ, zero, suc, ◌<◌, ◌≤◌, List, [], ◌∷◌, ◌++◌, length, take, drop, map, arith, leb}
+use Rattle.std.proofs.Common.{◌≡◌, ◌∙◌, sym, ap, refl, Bool, true, false, slice_index_or, slice_set, ℕ, zero, suc, ◌<◌, List, [], ◌∷◌, length, drop, map, arith, leb}
 use Rattle.crl_model.specs.declared.name.Name.{Name}
 use Rattle.crl_model.specs.Names.{name_eq}
 use Rattle.crl_protocol.specs.Home.{is_empty}
 use Rattle.crl_run.specs.declared.held.Held.{Held}
 use Rattle.crl_run.specs.Holding.{given, guard_in, with_bytes_in}
-use Rattle.crl_run.specs.Players.{newest, without_newest, with_newest}
-use Rattle.crl_run.specs.Holders.{StandsAt, StandsNowhere}
+use Rattle.crl_run.specs.Players.{guards_with}
+use Rattle.crl_run.specs.Holders.{GuardStandsAt, GuardStandsNowhere}
 
 pub is_over : {X : Type 0} (xs : List X) (place : ℕ) → leb (length xs) place ≡ is_empty (drop place xs)
 is_over [] zero = refl
@@ -27,7 +27,7 @@ NoneBefore name guards n = (j : ℕ) (d : Held) → j < n → j < length guards 
 shifted : (name : Name) (x : Held) (xs : List Held) (n : ℕ) → NoneBefore name (x ∷ xs) (suc n) → NoneBefore name xs n
 shifted name x xs n none = λ j d before within. none (suc j) d (omega arith) (omega arith)
 
-pub stands_here : (name : Name) (guards : List Held) (place : ℕ) (any : Held) → NoneBefore name guards place → place < length guards → is_of name (slice_index_or guards place any) ≡ true → StandsAt name guards place
+pub stands_here : (name : Name) (guards : List Held) (place : ℕ) (any : Held) → NoneBefore name guards place → place < length guards → is_of name (slice_index_or guards place any) ≡ true → GuardStandsAt name guards place
 stands_here name [] place any none within same = absurd (omega arith)
 stands_here name (x ∷ xs) zero any none within same = record {
   within = within;
@@ -45,7 +45,7 @@ stands_here name (x ∷ xs) (suc place) any none within same =
       change = λ f d new e. rw other (ap (λ gs. given x ∷ gs) (h.change f d new e));
     }
 
-pub stands_nowhere : (name : Name) (guards : List Held) → NoneBefore name guards (length guards) → StandsNowhere name guards
+pub stands_nowhere : (name : Name) (guards : List Held) → NoneBefore name guards (length guards) → GuardStandsNowhere name guards
 stands_nowhere name [] none = record { it = refl; rest = refl }
 stands_nowhere name (x ∷ xs) none =
     let other : is_of name x ≡ false = none 0 x (omega arith) (omega arith) in
@@ -53,8 +53,8 @@ stands_nowhere name (x ∷ xs) none =
     record { it = rw other h.it; rest = rw other (ap (λ gs. given x ∷ gs) h.rest) }
 
 -- other bytes are written where the newest guard stands
-pub written : (name : Name) (guards seen : List Held) (place : ℕ) (f : List ℕ → List ℕ) (old new : Held) → StandsAt name seen place → seen ≡ guards → old ≡ slice_index_or guards place old
-    → given new ≡ with_bytes_in (given old) (f (guard_in old).bytes) → map given (slice_set guards place new) ≡ with_newest name f (map given guards)
+pub written : (name : Name) (guards seen : List Held) (place : ℕ) (f : List ℕ → List ℕ) (old new : Held) → GuardStandsAt name seen place → seen ≡ guards → old ≡ slice_index_or guards place old
+    → given new ≡ with_bytes_in (given old) (f (guard_in old).bytes) → map given (slice_set guards place new) ≡ guards_with name f (map given guards)
 written name guards seen place f old new at same there e =
-    let h : StandsAt name guards place = rw same at at in
+    let h : GuardStandsAt name guards place = rw same at at in
     sym (h.change f old new (e ∙ ap (λ o. with_bytes_in (given o) (f (guard_in o).bytes)) there))

@@ -1,5 +1,5 @@
 -- What a node does for a statement, and the guards that it holds after it.
-use Rattle.std.specs.Prelude.{◌≡◌, ℕ, ◌+◌, ◌<◌, ◌^◌, true, false, List, [], length}
+use Rattle.std.specs.Prelude.{◌≡◌, ◌+◌, ◌<◌, ◌^◌, true, false, List, [], length}
 use Rattle.std.specs.declared.option.Option.{Option}
 use Rattle.std.specs.declared.option.Option.TheVariants.{None, Some}
 use Rattle.crl_model.specs.declared.call.Call as calls
@@ -12,7 +12,7 @@ use Rattle.crl_protocol.specs.Chosen.{with_sum}
 use Rattle.crl_talk.specs.Guards.{Given}
 use Rattle.crl_run.specs.declared.act.Act.{Act}
 use Rattle.crl_run.specs.declared.act.Act.TheVariants as act
-use Rattle.crl_run.specs.Players.{newest, without_newest, with_newest, IsOfKind, CanChange}
+use Rattle.crl_run.specs.Players.{newest, guards_without, guards_with, IsOfKind, CanChange}
 
 -- The call of a statement that is refused, or that isn't the end of a section. An end of a write section that is
 -- refused brings no bytes.
@@ -48,8 +48,8 @@ guard_spent act.Inside = None
 -- newest guard, a change is made on the guard's bytes, and anything else is a call.
 abbrev pub Acts : Option Refusal → Statement → List Given → Act → List Given → Type 0
 Acts (Some why) s old a new = (a ≡ act.Call (plain_call s)) × (new ≡ old)
-Acts None (statement.Call (call.EndRead name)) old a new = (guard_spent a ≡ newest name old) × (new ≡ without_newest name old)
-Acts None (statement.Call (call.EndWrite name after)) old a new = (guard_spent a ≡ newest name old) × (new ≡ without_newest name old)
+Acts None (statement.Call (call.EndRead name)) old a new = (guard_spent a ≡ newest name old) × (new ≡ guards_without name old)
+Acts None (statement.Call (call.EndWrite name after)) old a new = (guard_spent a ≡ newest name old) × (new ≡ guards_without name old)
 Acts None (statement.Call c) old a new = (a ≡ act.Call c) × (new ≡ old)
-Acts None (statement.Put name offset bytes) old a new = (a ≡ act.Inside) × (new ≡ with_newest name (put_at offset bytes) old)
-Acts None (statement.Add name offset number) old a new = (a ≡ act.Inside) × (new ≡ with_newest name (with_sum offset number) old)
+Acts None (statement.Put name offset bytes) old a new = (a ≡ act.Inside) × (new ≡ guards_with name (put_at offset bytes) old)
+Acts None (statement.Add name offset number) old a new = (a ≡ act.Inside) × (new ≡ guards_with name (with_sum offset number) old)

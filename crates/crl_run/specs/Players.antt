@@ -1,5 +1,5 @@
 -- The guards that a node holds, the newest first.
-use Rattle.std.specs.Prelude.{◌≡◌, ℕ, ◌+◌, ◌≤◌, Bool, true, false, if◌then◌else◌, List, [], ◌∷◌, length}
+use Rattle.std.specs.Prelude.{◌≡◌, ℕ, ◌≤◌, Bool, true, false, if◌then◌else◌, List, [], ◌∷◌, length}
 use Rattle.std.specs.declared.option.Option.{Option}
 use Rattle.std.specs.declared.option.Option.TheVariants.{None, Some}
 use Rattle.crl_model.specs.declared.name.Name.{Name}
@@ -20,14 +20,14 @@ newest q [] = None
 newest q (g ∷ gs) = if name_eq g.guard.name q then Some g else newest q gs
 
 -- the guards without it
-abbrev pub without_newest : Name → List Given → List Given
-without_newest q [] = []
-without_newest q (g ∷ gs) = if name_eq g.guard.name q then gs else g ∷ without_newest q gs
+abbrev pub guards_without : Name → List Given → List Given
+guards_without q [] = []
+guards_without q (g ∷ gs) = if name_eq g.guard.name q then gs else g ∷ guards_without q gs
 
 -- the guards with other bytes in it
-abbrev pub with_newest : Name → (List ℕ → List ℕ) → List Given → List Given
-with_newest q f [] = []
-with_newest q f (g ∷ gs) = if name_eq g.guard.name q then with_bytes_in g (f g.guard.bytes) ∷ gs else g ∷ with_newest q f gs
+abbrev pub guards_with : Name → (List ℕ → List ℕ) → List Given → List Given
+guards_with q f [] = []
+guards_with q f (g ∷ gs) = if name_eq g.guard.name q then with_bytes_in g (f g.guard.bytes) ∷ gs else g ∷ guards_with q f gs
 
 -- there is such a guard, of a write section or of a read section
 abbrev pub IsOfKind : Bool → Option Given → Type 0

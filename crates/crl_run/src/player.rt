@@ -5,9 +5,9 @@ ghost use Rattle.crl_model.specs.Patches.{put_at};
 ghost use Rattle.crl_protocol.specs.Chosen.{with_sum};
 ghost use Rattle.crl_protocol.specs.Home.{is_empty};
 ghost use Rattle.crl_run.specs.Holding.{given};
-ghost use Rattle.crl_run.specs.Players.{guards_given, newest, without_newest, with_newest, IsOfKind, CanChange};
+ghost use Rattle.crl_run.specs.Players.{guards_given, newest, guards_without, guards_with, IsOfKind, CanChange};
 ghost use Rattle.crl_run.specs.Acting.{IsShort, CanAct, Acts};
-ghost use Rattle.crl_run.specs.Holders.{StandsAt, StandsNowhere};
+ghost use Rattle.crl_run.specs.Holders.{GuardStandsAt, GuardStandsNowhere};
 
 use crate::act::{Act, plain_call};
 use crate::guards::{Reading, Writing};
@@ -101,7 +101,7 @@ impl Player {
         requires { IsOfKind false (newest name self.old.guards) }
         ensures place { self.new.place ≡ self.old.place }
         ensures taken { newest name self.old.guards ≡ Some (record { write = false; guard = result }) }
-        ensures guards { self.new.guards ≡ without_newest name self.old.guards }
+        ensures guards { self.new.guards ≡ guards_without name self.old.guards }
     {
         match self.take(name) {
             Some(held) => held.into_reading(),
@@ -114,7 +114,7 @@ impl Player {
         requires { IsOfKind true (newest name self.old.guards) }
         ensures place { self.new.place ≡ self.old.place }
         ensures taken { newest name self.old.guards ≡ Some (record { write = true; guard = result }) }
-        ensures guards { self.new.guards ≡ without_newest name self.old.guards }
+        ensures guards { self.new.guards ≡ guards_without name self.old.guards }
     {
         match self.take(name) {
             Some(held) => held.into_writing(),
@@ -126,7 +126,7 @@ impl Player {
     fn take(&mut self, name: Name) -> Option<Held>
         ensures place { self.new.place ≡ self.old.place }
         ensures taken { option_map given result ≡ newest name self.old.guards }
-        ensures guards { self.new.guards ≡ without_newest name self.old.guards }
+        ensures guards { self.new.guards ≡ guards_without name self.old.guards }
     {
         match place_of(self.guards.as_slice(), name) {
             Some(place) => Some(self.guards.remove(place)),
@@ -138,7 +138,7 @@ impl Player {
     pub fn put(&mut self, name: Name, offset: usize, bytes: &[u8])
         requires { CanChange (offset + length bytes.now) (newest name self.old.guards) }
         ensures place { self.new.place ≡ self.old.place }
-        ensures guards { self.new.guards ≡ with_newest name (put_at offset bytes.now) self.old.guards }
+        ensures guards { self.new.guards ≡ guards_with name (put_at offset bytes.now) self.old.guards }
     {
         match place_of(self.guards.as_slice(), name) {
             Some(place) => self.guards[place].put(offset, bytes),
@@ -150,7 +150,7 @@ impl Player {
     pub fn add(&mut self, name: Name, offset: usize, number: u64)
         requires { CanChange (offset + 8) (newest name self.old.guards) }
         ensures place { self.new.place ≡ self.old.place }
-        ensures guards { self.new.guards ≡ with_newest name (with_sum offset number) self.old.guards }
+        ensures guards { self.new.guards ≡ guards_with name (with_sum offset number) self.old.guards }
     {
         match place_of(self.guards.as_slice(), name) {
             Some(place) => self.guards[place].add(offset, number),
@@ -233,7 +233,7 @@ impl Player {
 
 /// The place of the newest guard of the region, if there is one.
 fn place_of(guards: &[Held], name: Name) -> Option<usize>
-    ensures { MatchOption result (StandsNowhere name guards.now) (StandsAt name guards.now) }
+    ensures { MatchOption result (GuardStandsNowhere name guards.now) (GuardStandsAt name guards.now) }
 {
     for place in 0..guards.len() {
         if guards[place].name() == name {
