@@ -1,1 +1,2 @@
+mod ActorLemmas
 mod Holding

@@ -1,4 +1,5 @@
 pub mod Acting
+pub mod Actors
 pub mod Holders
 pub mod Holding
 pub mod PlayerState

@@ -2,6 +2,7 @@
 #![tactic(auto)]
 
 mod act;
+pub mod actors;
 mod guards;
 mod held;
 mod player;
