@@ -164,7 +164,12 @@ impl Player {
     /// # Errors
     ///
     /// `OutOfMemory`.
-    pub fn act(&mut self, alloc: Global, statement: &Statement, refusal: Option<Refusal>) -> Result<Act, OutOfMemory>
+    pub fn act(
+        &mut self,
+        alloc: Global,
+        statement: &Statement,
+        refusal: Option<Refusal>,
+    ) -> Result<Act, OutOfMemory>
         requires place { self.old.place + 1 < 2 ^ 64 }
         requires short { IsShort statement.now }
         requires can { CanAct refusal statement.now self.old.guards }
