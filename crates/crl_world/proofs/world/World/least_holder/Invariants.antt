@@ -1,0 +1,9 @@
+use Rattle.std.proofs.Common.{◌≡◌, ◌-◌}
+use Rattle.crl_protocol.specs.Ends.{least_node, least_node_from, holds_open}
+use Rattle.crl_world.specs.Seen.{world_seen}
+use Rattle.crl_world.proofs.world.World.least_holder.Given as goal
+
+abbrev pub invariant-loop-m : goal.invariant-loop-m
+invariant-loop-m g l =
+    let w = world_seen g.N.Member.state l.self in
+    least_node_from (holds_open l.i l.name) l.m (w.count - l.m) w.nodes ≡ least_node (holds_open l.i l.name) w

@@ -1,0 +1,108 @@
+//! The choices of a turn. They take a few steps for each node, and no memory.
+ghost use Rattle.std.specs.Prelude.{◌≡◌, ◌<◌, ◌≤◌, ◌*◌, ◌^◌, length, Some, slice_get};
+ghost use Rattle.crl_world.specs.Seen.{world_seen};
+ghost use Rattle.crl_world.specs.Choosing.{choices_in, row_of, choices_by, left_in, Finds};
+
+use crate::rows::Rows;
+use crate::world::World;
+use crl_member::Member;
+use crl_model::NodeNo;
+use crl_model::choice::Choice;
+
+impl<N: Member> World<N> {
+    /// The number of the node's choices in these rows.
+    fn count_at(&self, rows: Rows, left: &[bool], i: NodeNo) -> usize
+        requires node { (i < length self.now.nodes) × (length left.now ≡ length self.now.nodes) }
+        ensures { result ≡ length (choices_in rows (left_in left.now) (world_seen N.state self.now) i) }
+    {
+        match rows {
+            Rows::Nexts => {
+                if self.is_ready(i) || (self.is_free(i) && left[i as usize]) {
+                    1
+                } else {
+                    0
+                }
+            }
+            Rows::Inboxes => self.node(i).inbox_len(),
+            Rows::Outboxes => self.node(i).outbox_len(),
+        }
+    }
+
+    /// The node's choice at this place of these rows.
+    fn choice_at(&self, rows: Rows, left: &[bool], i: NodeNo, place: usize) -> Choice
+        requires node { (i < length self.now.nodes) × (length left.now ≡ length self.now.nodes) }
+        requires there { place < length (choices_in rows (left_in left.now) (world_seen N.state self.now) i) }
+        ensures { slice_get (choices_in rows (left_in left.now) (world_seen N.state self.now) i) place ≡ Some result }
+    {
+        match rows {
+            Rows::Nexts => {
+                if self.is_ready(i) {
+                    Choice::Collect(i)
+                } else {
+                    Choice::Statement(i)
+                }
+            }
+            Rows::Inboxes => Choice::Handle(i, place),
+            Rows::Outboxes => Choice::Carry(i, place),
+        }
+    }
+
+    /// The number of choices in these rows.
+    fn count_in(&self, rows: Rows, left: &[bool]) -> u128
+        requires { length left.now ≡ length self.now.nodes }
+        ensures count { result ≡ length (row_of rows (left_in left.now) (world_seen N.state self.now)) }
+        ensures few { result ≤ 2 ^ 80 }
+    {
+        let mut sum: u128 = 0;
+        for i in 0..self.count() {
+            sum += self.count_at(rows, left, i) as u128;
+        }
+        sum
+    }
+
+    /// The choice at this place of these rows, or else how far the place is past their end.
+    fn find_in(&self, rows: Rows, left: &[bool], k: u128) -> Result<Choice, u128>
+        requires { length left.now ≡ length self.now.nodes }
+        ensures { Finds (row_of rows (left_in left.now) (world_seen N.state self.now)) k result }
+    {
+        let mut rest = k;
+        for i in 0..self.count() {
+            let here = self.count_at(rows, left, i);
+            if rest < here as u128 {
+                return Ok(self.choice_at(rows, left, i, rest as usize));
+            }
+            rest -= here as u128;
+        }
+        Err(rest)
+    }
+
+    /// The number of choices, where `left` says of each node whether it has a statement left.
+    pub fn choice_count(&self, left: &[bool]) -> u128
+        requires { length left.now ≡ length self.now.nodes }
+        ensures { result ≡ length (choices_by (left_in left.now) (world_seen N.state self.now)) }
+    {
+        self.count_in(Rows::Nexts, left)
+            + self.count_in(Rows::Inboxes, left)
+            + self.count_in(Rows::Outboxes, left)
+    }
+
+    /// The choice at this place, from 0.
+    pub fn choice(&self, left: &[bool], k: u128) -> Choice
+        requires nodes { length left.now ≡ length self.now.nodes }
+        requires there { k < length (choices_by (left_in left.now) (world_seen N.state self.now)) }
+        ensures { slice_get (choices_by (left_in left.now) (world_seen N.state self.now)) k ≡ Some result }
+    {
+        let rest = match self.find_in(Rows::Nexts, left, k) {
+            Ok(choice) => return choice,
+            Err(rest) => rest,
+        };
+        let rest = match self.find_in(Rows::Inboxes, left, rest) {
+            Ok(choice) => return choice,
+            Err(rest) => rest,
+        };
+        match self.find_in(Rows::Outboxes, left, rest) {
+            Ok(choice) => choice,
+            Err(_) => unreachable!(),
+        }
+    }
+}

@@ -1,0 +1,57 @@
+//! What is read of a world at the end: its account, and how many messages there were.
+ghost use Rattle.std.specs.Prelude.{◌≡◌, ◌<◌, ◌^◌, List, IfOk};
+ghost use Rattle.crl_protocol.specs.World.{messages_sent};
+ghost use Rattle.crl_journal.specs.Merging.{merged_account, all_now};
+ghost use Rattle.crl_journal.specs.Told.{EventEntries, entries_told, AreRecordsOf};
+ghost use Rattle.crl_world.specs.Seen.{world_seen};
+ghost use Rattle.crl_world.specs.Records.{records_by_node};
+
+use crate::world::World;
+use crl_journal::account;
+use crl_member::Member;
+use crl_model::OutOfMemory;
+use crl_model::entry::Entry;
+use crl_model::journal::Recorded;
+use std::alloc::Global;
+
+impl<N: Member> World<N> {
+    /// What each node recorded, by node.
+    fn records(&self, alloc: Global) -> Result<Vec<&[Recorded]>, OutOfMemory>
+        ensures { IfOk result (λ lists. all_now lists.items ≡ records_by_node (world_seen N.state self.now)) }
+    {
+        let mut lists = Vec::with_capacity(alloc, self.nodes.len())?;
+        for i in 0..self.count() {
+            lists.push(self.node(i).records())?;
+        }
+        Ok(lists)
+    }
+
+    /// The entries of all nodes, by the positions of their events.
+    ///
+    /// # Errors
+    ///
+    /// `OutOfMemory`.
+    pub fn account(&self, alloc: Global) -> Result<Vec<Entry>, OutOfMemory>
+        ensures merged { IfOk result (λ entries. entries.items ≡ merged_account (records_by_node (world_seen N.state self.now))) }
+        // If that is what a run recorded, they are what the run told.
+        ensures told {
+            let lists = records_by_node (world_seen N.state self.now) in
+            IfOk result (λ entries. (run : List EventEntries) → AreRecordsOf run lists → entries.items ≡ entries_told run)
+        }
+    {
+        let lists = self.records(alloc)?;
+        account(alloc, &lists)
+    }
+
+    /// The number of messages that were sent.
+    pub fn messages(&self) -> u128
+        requires { messages_sent (world_seen N.state self.now) < 2 ^ 128 }
+        ensures { result ≡ messages_sent (world_seen N.state self.now) }
+    {
+        let mut sum: u128 = 0;
+        for i in 0..self.count() {
+            sum += self.node(i).posted();
+        }
+        sum
+    }
+}
