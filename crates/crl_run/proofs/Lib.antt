@@ -1,2 +1,4 @@
 mod ActorLemmas
 mod Holding
+mod Likeness
+mod Shown

@@ -1,5 +1,6 @@
 pub mod Acting
 pub mod Actors
+pub mod Hearing
 pub mod Holders
 pub mod Holding
 pub mod PlayerState

@@ -1,3 +1,5 @@
+use Rattle.crl_run.proofs.Shown.{shown_then}
+use Rattle.crl_run.proofs.Likeness.{held_more, with_of, without_of, newest_first, like_chain}
 use Rattle.crl_run.proofs.ActorLemmas.{begins, takes, keeps}
 use Rattle.crl_run.proofs.actors.players_are_actors.Goals as goal
 
