@@ -90,7 +90,7 @@ module _ (name : Name) where
       go true e h more = first_reads gs d h
       go false e h more = rw e (more h)
 
-newest_named : (name : Name) (gs : List Given) (g : Given) → newest name gs ≡ Some g → g.guard.name ≡ name
+pub newest_named : (name : Name) (gs : List Given) (g : Given) → newest name gs ≡ Some g → g.guard.name ≡ name
 newest_named name [] g e = cc
 newest_named name (x ∷ xs) g e = go (name_eq x.guard.name name) refl e (newest_named name xs g)
   where

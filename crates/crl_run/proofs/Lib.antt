@@ -1,4 +1,5 @@
 mod ActorLemmas
+mod Heard
 mod Holding
 mod Likeness
 mod Shown
