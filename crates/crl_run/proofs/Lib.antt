@@ -1,4 +1,5 @@
 mod ActorLemmas
+mod Fitting
 mod Heard
 mod Holding
 mod Likeness
