@@ -9,7 +9,7 @@ use Rattle.crl_protocol.specs.Places.{Took, here, there}
 use Rattle.crl_flight.specs.Flight.{Moves, still, moved, Under, left_of, lefts, IsUnder, IsFlight, messages_of}
 use Rattle.crl_flight.proofs.Laws.{none_boxed}
 use Rattle.crl_regions.specs.Addresses.{GoesToOther}
-use Rattle.crl_regions.specs.Reached.{AfterRuns, PiecesGoToOthers, MessagesGoToOthers, EmptyBoxesAreQuiet}
+use Rattle.crl_regions.specs.Reached.{AfterRuns, PiecesGoToOthers, MessagesGoToOthers, BoxesGoToOthers, EmptyBoxesAreQuiet}
 use Rattle.crl_regions.proofs.Addressed.{PlainSent, Addressed}
 use Rattle.crl_regions.proofs.Runs.{nodes_hold}
 use Rattle.crl_deeds.proofs.Laws.{all_append, all_took}
@@ -61,6 +61,12 @@ under_all count (u ∷ us) h p =
 
 pub pieces_to_others : AfterRuns PiecesGoToOthers
 pieces_to_others count capacity run r = let w = world_of count capacity run in boxes_all w (nodes_hold count capacity run r).whole.addressed 0 w.count
+
+pub boxes_to_others : AfterRuns BoxesGoToOthers
+boxes_to_others count capacity run r = let w = world_of count capacity run in let a = (nodes_hold count capacity run r).whole.addressed in record {
+  inbox = λ i p rest took. (let x = (all_took (HeldIn (PlainSent w.count) i) took (a i).inbox).0 in (x.0.1.0, x.1));
+  outbox = λ i p rest took. (all_took (HeldOut (PlainSent w.count)) took (a i).outbox).0.1.0;
+}
 
 pub messages_to_others : AfterRuns MessagesGoToOthers
 messages_to_others count capacity run r us flies =

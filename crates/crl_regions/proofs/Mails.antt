@@ -25,7 +25,8 @@ use Rattle.crl_regions.proofs.NodesExist.{OfHome, ToOther, NodesExist, NodesExis
 use Rattle.crl_regions.proofs.Acts.{home_is}
 use Rattle.crl_model.specs.declared.entry.What.{What}
 use Rattle.crl_deeds.specs.Deeds.{Cause, Calls, Hears, parting, EndsCall, a_read, a_write, Serves, ask_comes, copy_returns, copy_lowers, CallsBack, wholly, to_share, Copies, Lives, Rounds, Deed, copies, lives, rounds, Unfit, never, home_opens, home_waits, side_opens, side_waits, home_ends, side_ends, side_flushes, home_serves, home_serves_own, grant_comes, side_called, map_asks, map_told, map_refused, unmaps_doomed, unmaps_evicting, deletes_own, delete_asks, deletes_alone_for, deletes_for, delete_refused, dooms, drops, warns, ends_for, comes_away, comes_last, part_last, part_last_idle}
-use Rattle.crl_regions.specs.MailFits.{Tables, HasTable, ToldFits, FitsTables, MailFits, AllMailFits}
+use Rattle.crl_safety.specs.Tests.{HasTable}
+use Rattle.crl_regions.specs.MailFits.{Tables, ToldFits, FitsTables, MailFits, AllMailFits}
 use Rattle.crl_deeds.specs.NodeFacts.{LiveFits}
 use Rattle.crl_deeds.proofs.Laws.{all_append}
 

@@ -9,21 +9,22 @@ use Rattle.crl_model.specs.declared.message.Message.{Message}
 use Rattle.crl_model.specs.Names.{at_node}
 use Rattle.crl_model.specs.declared.message.Kind.{Kind}
 use Rattle.crl_model.specs.declared.message.Kind.TheVariants as kind
-use Rattle.crl_pieces.specs.Pieces.{is_missing}
+use Rattle.crl_pieces.specs.Pieces.{is_missing, is_complete, joined}
 use Rattle.crl_protocol.specs.Places.{Took}
 use Rattle.crl_protocol.specs.Home.{Home}
 use Rattle.crl_protocol.specs.Remote.{Remote, grant_fits}
 use Rattle.crl_protocol.specs.Node.{Node, Activity, Waiting, ForSection, is_mine, home_of}
 use Rattle.crl_protocol.specs.Handlers.{is_queued}
-use Rattle.crl_protocol.specs.Parcels.{Piece, Key, key_of, load_of, slots_or}
+use Rattle.crl_protocol.specs.Parcels.{Piece, Key, key_of, load_of, with_load, slots_or}
+use Rattle.crl_protocol.specs.Receiving.{slots_with}
 use Rattle.crl_protocol.specs.World.{World, boxes_from, pieces_in_boxes, new_world, world_of, IsRunFrom}
 use Rattle.crl_flight.specs.Flight.{Under, messages_of}
 use Rattle.crl_flight.specs.Coming.{PieceComes, plain, last, gathers, IsNext}
 use Rattle.crl_flight.proofs.Laws.{comes}
 use Rattle.crl_coherence.proofs.Laws.{writer_alone}
 use Rattle.crl_regions.specs.MailFits.{FitsTables, MailFits}
-use Rattle.crl_regions.specs.Reached.{AfterRuns, SectionsAreTheTables, WriteSectionsAreAlone, SizesAreKnown, AskersWait, WaitersAsk, MessagesMeetTests, PiecesAreTakenIn}
-use Rattle.crl_regions.specs.Tests.{MeetsTest, PieceFits}
+use Rattle.crl_regions.specs.Reached.{AfterRuns, SectionsAreTheTables, WriteSectionsAreAlone, SizesAreKnown, AskersWait, WaitersAsk, MessagesMeetTests, PiecesAreTakenIn, MakesFitting, WholeMessagesMeetTests}
+use Rattle.crl_safety.specs.Tests.{MeetsTest, PieceFits}
 use Rattle.crl_regions.specs.View.{side, table_of, tables_of, table_or_blank, view, array_of}
 use Rattle.crl_regions.proofs.Noted.{section_noted, open_table}
 use Rattle.crl_regions.proofs.Addressed.{PlainSent}
@@ -31,7 +32,7 @@ use Rattle.crl_regions.proofs.Asking.{AsksFor, asks_at}
 use Rattle.crl_regions.proofs.AllNodesHold.{AllNodesHold, passes}
 use Rattle.crl_regions.proofs.Events.{key_passes, box_took}
 use Rattle.crl_regions.proofs.Messages.{Passes, no_grant}
-use Rattle.crl_regions.proofs.Single.{alone_in}
+use Rattle.crl_regions.proofs.Single.{alone_in, took_message}
 use Rattle.crl_regions.proofs.Runs.{nodes_hold, with_regions, regions_in_runs}
 use Rattle.crl_deeds.specs.NodeFacts.{NoOwn, QueueFits, AskingFits}
 use Rattle.crl_deeds.specs.Turns.{HeldIn}
@@ -183,3 +184,43 @@ piece_in w arrays us i p rest key k few took e =
 
 pub pieces_meet : AfterRuns PiecesAreTakenIn
 pieces_meet count capacity run r i p rest key few took e = piece_in _ _ _ i p rest key (nodes_hold count capacity run r).whole few took e
+
+-- And the message that it makes whole meets its test.
+makes : (w : World) (arrays : Name → List ℕ) (us : List Under) (i : ℕ) (p : Piece) (rest : List Piece) → AllNodesHold w arrays us → i < w.count → Took p (w.nodes i).inbox rest → MakesFitting (w.nodes i) p
+makes w arrays us i p rest k few took =
+    go (comes us (pieces_in_boxes w) _ (λ j. (w.nodes j).parcels) p k.flies (alone_in w.nodes (tables_of w) arrays us k.mail k.coherent) (box_took w i p rest few took))
+  where
+    n : Node
+    n = w.nodes i
+
+    to : p.message.addressee ≡ i
+    to = (all_took (HeldIn (PlainSent w.count) i) took (k.addressed i).inbox).0.1
+
+    joins : Key → Kind
+    joins key = with_load (joined (slots_with p (n.parcels key))) p.message.kind
+
+    meets_as : (u : Under) (others : List Under) (x : Kind) → Took u us others → u.message.addressee ≡ i → p.message.sender ≡ u.message.sender → u.message.kind ≡ x → MeetsTest n p.message.sender x
+    meets_as u others x t a s e =
+        subst (λ y. MeetsTest n p.message.sender y) e
+        (subst (λ y. MeetsTest n y u.message.kind) (sym s) (subst (λ j. MeetsTest (w.nodes j) u.message.sender u.message.kind) a (meets w arrays us u.message (messages_of others) k (took_message t))))
+
+    same_key : (l key : Key) → key_of p.message ≡ Some l → key_of p.message ≡ Some key → l ≡ key
+    same_key l key e f = let both : Some l ≡ Some key = sym e ∙ f in cc
+
+    go : PieceComes us (boxes_from 0 w.count (at_node w.nodes i (record (w.nodes i) { inbox = rest }))) (λ j. (w.nodes j).parcels) p → MakesFitting n p
+    go (plain u others x none same f) = record {
+      whole = λ e. meets_as u others p.message.kind x (ap (λ (m : Message). m.addressee) (sym same) ∙ to) (ap (λ (m : Message). m.sender) same) (ap (λ (m : Message). m.kind) (sym same));
+      last = λ key e full. absurd (cc);
+    }
+    go (last l u others x full whole f) = record {
+      whole = λ e. absurd (let of_key = x.of_key in cc);
+      last = λ key e done. subst (λ y. MeetsTest n p.message.sender (joins y)) (same_key l key x.of_key e)
+          (meets_as u others (joins l) x.took (sym x.addressee ∙ to) x.sender (sym (subst (λ a. with_load (joined (slots_with p ((w.nodes a).parcels l))) p.message.kind ≡ u.message.kind) to whole)));
+    }
+    go (gathers l u others left x less same f) = record {
+      whole = λ e. absurd (let of_key = x.of_key in cc);
+      last = λ key e done. absurd (let not_done = subst (λ a. is_complete (slots_with p ((w.nodes a).parcels l)) ≡ false) to less in let is_done = subst (λ y. is_complete (slots_with p (n.parcels y)) ≡ true) (sym (same_key l key x.of_key e)) done in cc);
+    }
+
+pub whole_meet : AfterRuns WholeMessagesMeetTests
+whole_meet count capacity run r i p rest few took = makes _ _ _ i p rest (nodes_hold count capacity run r).whole few took

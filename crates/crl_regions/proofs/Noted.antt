@@ -12,7 +12,7 @@ use Rattle.crl_protocol.specs.Node.{Node, is_mine, home_of}
 use Rattle.crl_protocol.specs.World.{World}
 use Rattle.crl_flight.specs.Flight.{Under}
 use Rattle.crl_coherence.specs.Coherent.{node_section, bytes_at_node}
-use Rattle.crl_regions.specs.MailFits.{HasTable}
+use Rattle.crl_safety.specs.Tests.{HasTable}
 use Rattle.crl_regions.specs.View.{side, table_of, table_or_blank, view}
 use Rattle.crl_regions.proofs.Acts.{expected}
 use Rattle.crl_regions.proofs.AllNodesHold.{AllNodesHold, table_at}

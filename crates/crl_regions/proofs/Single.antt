@@ -25,7 +25,8 @@ use Rattle.crl_coherence.specs.Coherent.{IsCoherent}
 use Rattle.crl_coherence.proofs.Laws.{NoTwo, took_some, took_all, took_nothing}
 use Rattle.crl_regions.specs.View.{mail_in, other_end, flown, flying, side, sight}
 use Rattle.crl_regions.proofs.Acts.{about_here}
-use Rattle.crl_regions.specs.MailFits.{Tables, HasTable, FitsTables, MailFits, AllMailFits}
+use Rattle.crl_safety.specs.Tests.{HasTable}
+use Rattle.crl_regions.specs.MailFits.{Tables, FitsTables, MailFits, AllMailFits}
 use Rattle.crl_regions.proofs.Messages.{Passes}
 use Rattle.crl_deeds.proofs.Laws.{all_took}
 

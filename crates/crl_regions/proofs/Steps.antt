@@ -30,7 +30,8 @@ use Rattle.crl_regions.proofs.Acts.{expected, Comes, Acts, nothing, home_acts, s
 use Rattle.crl_regions.proofs.Sections.{away}
 use Rattle.crl_regions.proofs.MappedOrCached.{IsMappedOrCached}
 use Rattle.crl_regions.proofs.Addressed.{Addressed, NodesExistIf}
-use Rattle.crl_regions.specs.MailFits.{Tables, HasTable, ToldFits, FitsTables, MailFits, AllMailFits}
+use Rattle.crl_safety.specs.Tests.{HasTable}
+use Rattle.crl_regions.specs.MailFits.{Tables, ToldFits, FitsTables, MailFits, AllMailFits}
 use Rattle.crl_regions.proofs.Asking.{WaitsAsking}
 use Rattle.crl_regions.proofs.Sizes.{SizesFit}
 use Rattle.crl_protocol.specs.Lifetimes.{Mapping}

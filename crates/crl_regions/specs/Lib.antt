@@ -2,5 +2,4 @@ pub mod Addresses
 pub mod MailFits
 pub mod Reached
 pub mod Steps
-pub mod Tests
 pub mod View

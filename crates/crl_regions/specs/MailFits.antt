@@ -11,13 +11,11 @@ use Rattle.crl_model.specs.declared.message.Message.{Message}
 use Rattle.crl_model.specs.declared.message.Kind.{Kind}
 use Rattle.crl_model.specs.declared.message.Kind.TheVariants as kind
 use Rattle.crl_protocol.specs.Home.{Home}
+use Rattle.crl_safety.specs.Tests.{HasTable}
 
 -- the tables of all regions that are there, by name
 abbrev pub Tables : Type 0
 Tables = Name → Option Home
-
-abbrev pub HasTable : Option Home → Type 0
-HasTable o = (h : Home) × (o ≡ Some h)
 
 abbrev pub HasSize : ℕ → Option Home → Type 0
 HasSize size o = (h : Home) × (o ≡ Some h) × (h.size ≡ size)

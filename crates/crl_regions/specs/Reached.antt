@@ -7,19 +7,21 @@ use Rattle.crl_model.specs.declared.event.Event.{Event}
 use Rattle.crl_model.specs.declared.directory.Section.TheVariants.{Closed, Writing}
 use Rattle.crl_model.specs.declared.message.Message.{Message}
 use Rattle.crl_protocol.specs.Places.{Took}
-use Rattle.crl_protocol.specs.Parcels.{Piece, Key, key_of}
+use Rattle.crl_pieces.specs.Pieces.{is_complete, joined}
+use Rattle.crl_protocol.specs.Parcels.{Piece, Key, key_of, with_load}
+use Rattle.crl_protocol.specs.Receiving.{slots_with}
 use Rattle.crl_protocol.specs.Remote.{Remote}
 use Rattle.crl_protocol.specs.Lifetimes.{Mapping, cached_size}
-use Rattle.crl_protocol.specs.Node.{Waiting, ForSection}
+use Rattle.crl_protocol.specs.Node.{Node, Waiting, ForSection}
 use Rattle.crl_protocol.specs.Sections.{section_at}
 use Rattle.crl_protocol.specs.Handlers.{is_queued}
 use Rattle.crl_protocol.specs.World.{World, new_world, world_of, step, is_enabled, pieces_in_boxes, IsRunFrom}
+use Rattle.crl_safety.specs.Tests.{MeetsTest, PieceFits}
 use Rattle.crl_flight.specs.Flight.{Under, messages_of}
 use Rattle.crl_coherence.specs.Coherent as region
 use Rattle.crl_regions.specs.Addresses.{GoesToOther}
 use Rattle.crl_regions.specs.MailFits.{HasSize}
 use Rattle.crl_regions.specs.Steps.{RegionsHold, RegionsStep}
-use Rattle.crl_regions.specs.Tests.{MeetsTest, PieceFits}
 use Rattle.crl_regions.specs.View.{UnderWay, table_of, view, array_after}
 
 -- it holds of the world after any run of any number of nodes
@@ -32,6 +34,11 @@ PiecesGoToOthers w = AllByRecursion (λ (p : Piece). GoesToOther w.count p.messa
 
 abbrev pub MessagesGoToOthers : World → Type 0
 MessagesGoToOthers w = (us : List Under) → UnderWay w us → AllByRecursion (GoesToOther w.count) (messages_of us)
+
+-- so does each piece in the box of a node, and one in an inbox is for that node
+pub record BoxesGoToOthers (w : World) : Type 0 where
+  pub inbox : (i : ℕ) (p : Piece) (rest : List Piece) → Took p (w.nodes i).inbox rest → GoesToOther w.count p.message × (p.message.addressee ≡ i)
+  pub outbox : (i : ℕ) (p : Piece) (rest : List Piece) → Took p (w.nodes i).outbox rest → GoesToOther w.count p.message
 
 -- where no piece is in a box, nothing is under way
 abbrev pub EmptyBoxesAreQuiet : World → Type 0
@@ -74,3 +81,12 @@ MessagesMeetTests w = (us : List Under) (arrays : Name → List ℕ) → Regions
 
 abbrev pub PiecesAreTakenIn : World → Type 0
 PiecesAreTakenIn w = (i : ℕ) (p : Piece) (rest : List Piece) (key : Key) → i < w.count → Took p (w.nodes i).inbox rest → key_of p.message ≡ Some key → PieceFits (w.nodes i) p key
+
+-- A piece in an inbox, whose message is whole with it: that message meets the test of its handler.
+pub record MakesFitting (n : Node) (p : Piece) : Type 0 where
+  pub whole : key_of p.message ≡ None → MeetsTest n p.message.sender p.message.kind
+  pub last : (key : Key) → key_of p.message ≡ Some key → is_complete (slots_with p (n.parcels key)) ≡ true
+      → MeetsTest n p.message.sender (with_load (joined (slots_with p (n.parcels key))) p.message.kind)
+
+abbrev pub WholeMessagesMeetTests : World → Type 0
+WholeMessagesMeetTests w = (i : ℕ) (p : Piece) (rest : List Piece) → i < w.count → Took p (w.nodes i).inbox rest → MakesFitting (w.nodes i) p

@@ -8,14 +8,16 @@ ghost use Rattle.crl_model.specs.declared.event.Event.{Event};
 ghost use Rattle.crl_machine.specs.SingleMachine.{start, after_all};
 ghost use Rattle.crl_protocol.specs.World.{new_world, world_of, account, IsRunFrom};
 ghost use Rattle.crl_flight.specs.Flight.{Under};
-ghost use Rattle.crl_regions.specs.Reached.{AfterRuns, PiecesGoToOthers, MessagesGoToOthers, EmptyBoxesAreQuiet, EventsKeepRegions, SectionsAreTheTables, WriteSectionsAreAlone, SizesAreKnown, AskersWait, WaitersAsk, MessagesMeetTests, PiecesAreTakenIn};
+ghost use Rattle.crl_regions.specs.Reached.{AfterRuns, PiecesGoToOthers, MessagesGoToOthers, BoxesGoToOthers, EmptyBoxesAreQuiet, EventsKeepRegions, SectionsAreTheTables, WriteSectionsAreAlone, SizesAreKnown, AskersWait, WaitersAsk, MessagesMeetTests, PiecesAreTakenIn, WholeMessagesMeetTests};
 ghost use Rattle.crl_regions.specs.Steps.{RegionsHold};
 ghost use Rattle.crl_regions.specs.View.{array_of};
 
-/// In every run each piece in a box, and each message under way, goes from a node of the world to another one.
+/// In every run each piece in a box, and each message under way, goes from a node of the world to another one. A piece in
+/// an inbox is for that node.
 pub fn messages_go_to_others()
     ensures pieces { AfterRuns PiecesGoToOthers }
     ensures messages { AfterRuns MessagesGoToOthers }
+    ensures boxes { AfterRuns BoxesGoToOthers }
 {}
 
 /// What is known of all regions holds at the start, and each event that may come after a run keeps it, whatever is under
@@ -63,8 +65,9 @@ pub fn who_asks_waits()
 {}
 
 /// Each message about copies that is under way meets the test of its handler, and each piece of one that stands in an
-/// inbox is taken in: no message and no piece is ignored.
+/// inbox is taken in: no message and no piece is ignored. The message that such a piece makes whole meets its test too.
 pub fn messages_that_come_fit()
     ensures messages { AfterRuns MessagesMeetTests }
     ensures pieces { AfterRuns PiecesAreTakenIn }
+    ensures whole { AfterRuns WholeMessagesMeetTests }
 {}

@@ -17,7 +17,7 @@ use Rattle.crl_coherence.specs.Region.{Region}
 use Rattle.crl_coherence.specs.Coherent.{node_section}
 use Rattle.crl_coherence.specs.Facts.{WhoWaitsIsBlocked}
 use Rattle.crl_coherence.proofs.Laws.{waiting_is_blocked}
-use Rattle.crl_regions.specs.MailFits.{HasTable}
+use Rattle.crl_safety.specs.Tests.{HasTable}
 use Rattle.crl_regions.specs.Steps.{RegionsHold}
 use Rattle.crl_regions.specs.View.{flying, side, table_of, table_or_blank, view, array_of}
 use Rattle.crl_regions.proofs.Laws.{regions_in_runs, quiet_boxes, sections_are_tables, sizes_known, waiters_ask, count_in_run}
