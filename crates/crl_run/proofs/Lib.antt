@@ -4,3 +4,4 @@ mod Heard
 mod Holding
 mod Likeness
 mod Shown
+mod Stages

@@ -5,3 +5,4 @@ pub mod Holders
 pub mod Holding
 pub mod PlayerState
 pub mod Players
+pub mod Staging
