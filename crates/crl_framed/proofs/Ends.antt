@@ -25,6 +25,7 @@ use Rattle.crl_rounds.proofs.Laws.{mail_in_runs}
 use Rattle.std.proofs.lemmas.Bool.{cond_both}
 use Rattle.crl_framed.specs.Framed.{InEachBox, InBoxesOfFew, FitsEnds, FitsHome, HomeIsAnEnd}
 use Rattle.crl_framed.proofs.Regions.{all_moved}
+use Rattle.crl_framed.proofs.Results.{RoundEnds, HasRoundEnds, ends_boxed}
 use Rattle.crl_framed.proofs.Numbers.{all_up}
 use Rattle.crl_framed.proofs.Runs.{Reached, reached}
 
@@ -67,21 +68,21 @@ told_parts tables from to (kind.Return name version bytes) part h = h
 told_parts tables from to (kind.Release name version bytes) part h = h
 told_parts tables from to _ part h = h
 
-home_of_kind : (w : World) (s : State) (from to : ℕ) (k : Kind) → FitsTables (tables_of w) from to k → TalkFits w from to k → IsRoundMail w s from to k → FitsHome from to k
-home_of_kind w s from to (kind.InfoAsk name) t f m = sym f.0
-home_of_kind w s from to (kind.InfoIs name told) t f m = sym f.0
-home_of_kind w s from to (kind.Ask name write have) t f m = t.0
-home_of_kind w s from to (kind.Grant name version granted) t f m = sym t.0
-home_of_kind w s from to (kind.Recall name version) t f m = sym t.0
-home_of_kind w s from to (kind.Yield name version) t f m = sym t.0
-home_of_kind w s from to (kind.Return name version bytes) t f m = t.0
-home_of_kind w s from to (kind.Release name version bytes) t f m = t.0
-home_of_kind w s from to (kind.DeleteAsk name) t f m = sym f.0
-home_of_kind w s from to (kind.DeleteIs name told) t f m = sym f.0
-home_of_kind w s from to (kind.Purge name) t f m = sym f.0
-home_of_kind w s from to (kind.Purged name) t f m = sym f.0
-home_of_kind w s from to (kind.Come round part) t f m = m.to_first
-home_of_kind w s from to (kind.Result round fold) t f m = tt
+home_of_kind : (w : World) (s : State) (from to : ℕ) (k : Kind) → FitsTables (tables_of w) from to k → TalkFits w from to k → IsRoundMail w s from to k → RoundEnds from to k → FitsHome from to k
+home_of_kind w s from to (kind.InfoAsk name) t f m e = sym f.0
+home_of_kind w s from to (kind.InfoIs name told) t f m e = sym f.0
+home_of_kind w s from to (kind.Ask name write have) t f m e = t.0
+home_of_kind w s from to (kind.Grant name version granted) t f m e = sym t.0
+home_of_kind w s from to (kind.Recall name version) t f m e = sym t.0
+home_of_kind w s from to (kind.Yield name version) t f m e = sym t.0
+home_of_kind w s from to (kind.Return name version bytes) t f m e = t.0
+home_of_kind w s from to (kind.Release name version bytes) t f m e = t.0
+home_of_kind w s from to (kind.DeleteAsk name) t f m e = sym f.0
+home_of_kind w s from to (kind.DeleteIs name told) t f m e = sym f.0
+home_of_kind w s from to (kind.Purge name) t f m e = sym f.0
+home_of_kind w s from to (kind.Purged name) t f m e = sym f.0
+home_of_kind w s from to (kind.Come round part) t f m e = m.to_first
+home_of_kind w s from to (kind.Result round fold) t f m e = e
 
 pub mail_boxed : (count capacity : ℕ) (run : List Event) → IsRunFrom (new_world count capacity) run → let w = world_of count capacity run in AllByRecursion (λ (p : Piece). MailOf (tables_of w) p.message) (pieces_in_boxes w)
 mail_boxed count capacity run r =
@@ -97,7 +98,8 @@ homes_fit count capacity run r =
     let w = world_of count capacity run in
     let s = machine_of count capacity run in
     let rounds = recursion_from_All (RoundMailFits w s) (pieces_in_boxes w) (mail_in_runs count capacity run r.enabled) in
-    both (λ (p : Piece). MailOf (tables_of w) p.message × MessageFits w p.message) (RoundMailFits w s) (λ (p : Piece). HomeIsAnEnd p.message)
-    (λ p k m. home_of_kind w s p.message.sender p.message.addressee p.message.kind k.0 k.1 m) (pieces_in_boxes w)
+    both (λ (p : Piece). MailOf (tables_of w) p.message × MessageFits w p.message) (λ (p : Piece). RoundMailFits w s p × HasRoundEnds p.message) (λ (p : Piece). HomeIsAnEnd p.message)
+    (λ p k m. home_of_kind w s p.message.sender p.message.addressee p.message.kind k.0 k.1 m.0 m.1) (pieces_in_boxes w)
     (both (λ (p : Piece). MailOf (tables_of w) p.message) (λ (p : Piece). MessageFits w p.message) (λ (p : Piece). MailOf (tables_of w) p.message × MessageFits w p.message) (λ p a b. (a, b)) (pieces_in_boxes w)
-    (mail_boxed count capacity run r.enabled) (talk_boxed count capacity run r.enabled)) rounds
+    (mail_boxed count capacity run r.enabled) (talk_boxed count capacity run r.enabled))
+    (both (RoundMailFits w s) (λ (p : Piece). HasRoundEnds p.message) (λ (p : Piece). RoundMailFits w s p × HasRoundEnds p.message) (λ p a b. (a, b)) (pieces_in_boxes w) rounds (ends_boxed count capacity run r.enabled))

@@ -4,6 +4,7 @@ mod Homes
 mod Numbers
 mod Placed
 mod Regions
+mod Results
 mod Runs
 mod Serials
 mod Typed

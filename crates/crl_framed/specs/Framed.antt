@@ -39,7 +39,7 @@ pub record FitsEnds (m : Message) : Type 0 where
   pub addressee : m.addressee < NODE_LIMIT
   pub other : m.sender ≢ m.addressee
 
--- the home of the name is the end that the kind says, and the parts of rounds go to node 0
+-- the home of the name is the end that the kind says, the parts of rounds go to node 0, and results come from it
 abbrev pub FitsHome : ℕ → ℕ → Kind → Type 0
 FitsHome from to (kind.InfoAsk name) = name.home ≡ to
 FitsHome from to (kind.InfoIs name told) = name.home ≡ from
@@ -54,7 +54,7 @@ FitsHome from to (kind.DeleteIs name told) = name.home ≡ from
 FitsHome from to (kind.Purge name) = name.home ≡ from
 FitsHome from to (kind.Purged name) = name.home ≡ to
 FitsHome from to (kind.Come round part) = to ≡ 0
-FitsHome from to (kind.Result round fold) = Unit {0}
+FitsHome from to (kind.Result round fold) = from ≡ 0
 
 -- The statements, of each piece in a box after a run of so many nodes.
 abbrev pub InEachBox : (Message → Type 0) → Type 0

@@ -6,7 +6,8 @@ pub fn ends_fit()
     ensures { InBoxesOfFew FitsEnds }
 {}
 
-/// The home of the name is the end that the kind of message says, and a part of a round goes to node 0.
+/// The home of the name is the end that the kind of message says, a part of a round goes to node 0, and
+/// a result comes from there.
 pub fn homes_are_ends()
     ensures { InEachBox HomeIsAnEnd }
 {}
