@@ -1,3 +1,4 @@
 mod Begins
 mod Ends
 mod Rows
+mod Inside
