@@ -1,4 +1,3 @@
 mod Begins
 mod Ends
 mod Rows
-mod Inside

@@ -106,9 +106,18 @@ fn reads_nest(rt: HostRuntime) -> Result<(), OutOfMemory> {
     let name = Name::new(0, 1);
     let mut sections = Sections::new(rt.alloc());
     assert_eq!(rt; begun(rt.alloc(), &mut sections, name, false, &[1, 2])?, 1);
-    assert_eq!(rt; begun_inside(rt.alloc(), &mut sections, name, 1, &[1, 2])?, 1);
-    assert_eq!(rt; begun_inside(rt.alloc(), &mut sections, name, 1, &[1, 3])?, 0);
-    assert_eq!(rt; begun(rt.alloc(), &mut sections, Name::new(2, 1), true, &[3])?, 2);
+    assert_eq!(rt;
+        begun_inside(rt.alloc(), &mut sections, name, 1, &[1, 2])?,
+        1
+    );
+    assert_eq!(rt;
+        begun_inside(rt.alloc(), &mut sections, name, 1, &[1, 3])?,
+        0
+    );
+    assert_eq!(rt;
+        begun(rt.alloc(), &mut sections, Name::new(2, 1), true, &[3])?,
+        2
+    );
     assert_eq!(rt; sections.guards(), 3);
     end_read(&mut sections, name);
     end_read(&mut sections, name);
@@ -122,7 +131,10 @@ fn a_write_ends(rt: HostRuntime) -> Result<(), OutOfMemory> {
     let name = Name::new(0, 1);
     let mut sections = Sections::new(rt.alloc());
     assert_eq!(rt; begun(rt.alloc(), &mut sections, name, true, &[1, 2])?, 1);
-    assert_eq!(rt; fits_writing(rt.alloc(), &sections, name, 1, &[7, 8])?, true);
+    assert_eq!(rt;
+        fits_writing(rt.alloc(), &sections, name, 1, &[7, 8])?,
+        true
+    );
     assert_eq!(rt; end_write(&mut sections, name), 2);
     assert_eq!(rt; sections.section(name), Section::Closed);
     Ok(())
