@@ -97,7 +97,7 @@ spent c name answer old new done ends same q =
     (subst (λ gs. AreLike gs (if name_eq name q then without_newest (guards_of q old) else guards_of q old)) (sym (without_of name q old)) (all_like_self _)))
 
 module _ (n : Node) (old new : List Given) where
-  abbrev SpendsOne : Option calls.Call → Type 0
+  abbrev pub SpendsOne : Option calls.Call → Type 0
   SpendsOne None = Unit {0}
   SpendsOne (Some c) = Spends c (node_calls c n).answer old new
 

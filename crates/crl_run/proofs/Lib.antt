@@ -5,3 +5,4 @@ mod Holding
 mod Likeness
 mod Shown
 mod Stages
+mod Taken

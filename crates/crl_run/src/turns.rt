@@ -1,0 +1,15 @@
+//! That the players stay with the run that the definition chooses. There is no code here but empty functions, whose
+//! contracts are the theorems.
+ghost use Rattle.std.specs.Prelude.{ℕ, List};
+ghost use Rattle.crl_model.specs.declared.statement.Statement.{Statement};
+ghost use Rattle.crl_protocol.specs.Chosen.{Running, running};
+ghost use Rattle.crl_run.specs.PlayerState.{PlayerState};
+ghost use Rattle.crl_run.specs.Staging.{IsOnItsWay, AllStand, AreNew, TurnsAreFollowed};
+
+/// New players stand for the run at its start. Where they stand for a run on its way, they stand for it after each of its
+/// choices: a statement that is taken, whose guards are there where the node's verdict allows an end or a change; an answer
+/// whose guard is kept; a message that is handled or carried.
+pub fn players_follow_the_run()
+    ensures begins { (count capacity : ℕ) (blocks : List (List Statement)) (players : ℕ → PlayerState) → AreNew count players → AllStand count capacity blocks (running count capacity blocks) players }
+    ensures follows { (count capacity : ℕ) (blocks : List (List Statement)) (r : Running) (players : ℕ → PlayerState) → IsOnItsWay count capacity r → AllStand count capacity blocks r players → TurnsAreFollowed count capacity blocks r players }
+{}
