@@ -24,12 +24,13 @@ use Rattle.crl_run.specs.PlayerState.{PlayerState}
 use Rattle.crl_run.specs.Players.{newest, guards_given, guards_with, CanChange}
 use Rattle.crl_run.specs.Acting.{CanAct, Acts}
 use Rattle.crl_run.specs.Actors.{IsActor, IsExclusive, guards_of, asked_call, call_made, IsTakenBy}
+use Rattle.crl_run.specs.Fits.{GuardFits}
 use Rattle.crl_run.specs.Hearing.{AreLike, HoldsHeard, Spends}
 use Rattle.crl_run.specs.Staging.{IsOnItsWay, PlayerStands, AllStand, AfterTaken}
 use Rattle.crl_run.proofs.ActorLemmas.{begins, takes}
 use Rattle.crl_run.proofs.Likeness.{with_of, like_chain, KeepsSize}
 use Rattle.crl_run.proofs.Heard.{none_held, act_spends, SpendsOne}
-use Rattle.crl_run.proofs.Fitting.{can_act, exclusive}
+use Rattle.crl_run.proofs.Fitting.{can_act, exclusive, act_fits}
 use Rattle.crl_run.proofs.Stages.{call_stands, inside_stands}
 
 -- A change leaves as many bytes.
@@ -135,6 +136,10 @@ module _ (count capacity : ℕ) (blocks : List (List Statement)) (r : Running) (
 
   pub statement_can : CanAct (verdict node (asked_call s)) s (players i).guards
   statement_can = subst (λ (w : World). CanAct (verdict (w.nodes i) (asked_call s)) s (players i).guards) (sym way.world) (can_act count capacity r.events way.run i (players i).guards there_free own.heard s)
+
+  pub statement_fits : (does : Act) (new : List Given) → Acts (verdict node (asked_call s)) s (players i).guards does new → GuardFits i node does
+  statement_fits does new acts = subst (λ (w : World). GuardFits i (w.nodes i) does) (sym way.world)
+      (act_fits count capacity r.events way.run i (players i).guards there_free own.heard s does new (subst (λ (w : World). Acts (verdict (w.nodes i) (asked_call s)) s (players i).guards does new) way.world acts))
 
   taken_choice : (both : Bool) → (is_change s && is_allowed (verdict node (call_of node actor s))) ≡ both
       → takes_choice (choice.Statement i) r ≡ (if both then with_actor i (after_change s actor) past else goes_on i (event.Call i (call_of node actor s)) past)

@@ -17,6 +17,7 @@ use Rattle.crl_protocol.specs.Chosen.{Running, block_of, takes_choice}
 use Rattle.crl_run.specs.PlayerState.{PlayerState}
 use Rattle.crl_run.specs.declared.act.Act.{Act}
 use Rattle.crl_run.specs.Acting.{CanAct, Acts}
+use Rattle.crl_run.specs.Fits.{GuardFits}
 use Rattle.crl_run.specs.Actors.{IsActor, asked_call, call_made}
 use Rattle.crl_run.specs.Hearing.{HoldsHeard}
 
@@ -41,9 +42,11 @@ AfterTaken count capacity blocks r players i new None = (p : PlayerState) → p.
 AfterTaken count capacity blocks r players i new (Some c) = (p : PlayerState) → p.place ≡ suc (players i).place → p.guards ≡ guards_given (step (event.Call i c) r.world).answer ++ new
     → is_enabled (event.Call i c) r.world ≡ true → AllStand count capacity blocks (takes_choice (choice.Statement i) r) (at_node players i p)
 
--- A free node takes its next statement. It finds the guards that it needs; and its player stands for the run after it.
+-- A free node takes its next statement. It finds the guards that it needs, and one that it spends fits its open section;
+-- and its player stands for the run after it.
 pub record TakesStatement (count capacity : ℕ) (blocks : List (List Statement)) (r : Running) (players : ℕ → PlayerState) (i : ℕ) (s : Statement) : Type 0 where
   pub can : CanAct (verdict (r.world.nodes i) (asked_call s)) s (players i).guards
+  pub fits : (act : Act) (new : List Given) → Acts (verdict (r.world.nodes i) (asked_call s)) s (players i).guards act new → GuardFits i (r.world.nodes i) act
   pub taken : (act : Act) (new : List Given) → Acts (verdict (r.world.nodes i) (asked_call s)) s (players i).guards act new → AfterTaken count capacity blocks r players i new (call_made act)
 
 -- of each next statement of a free node

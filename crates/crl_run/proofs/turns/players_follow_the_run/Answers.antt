@@ -4,7 +4,7 @@ use Rattle.crl_protocol.specs.Chosen.{Running, takes_choice}
 use Rattle.crl_run.specs.PlayerState.{PlayerState}
 use Rattle.crl_run.specs.Staging.{IsOnItsWay, AllStand, AnswersAreKept, MessagesPass, TurnsAreFollowed}
 use Rattle.crl_run.proofs.Stages.{collect_stands, handle_stands, carry_stands}
-use Rattle.crl_run.proofs.Taken.{players_begin, statement_can, statement_taken}
+use Rattle.crl_run.proofs.Taken.{players_begin, statement_can, statement_fits, statement_taken}
 use Rattle.crl_run.proofs.turns.players_follow_the_run.Goals as goal
 
 answers_kept : (count capacity : ℕ) (blocks : List (List Statement)) (r : Running) (players : ℕ → PlayerState) → IsOnItsWay count capacity r → AllStand count capacity blocks r players → AnswersAreKept count capacity blocks r players
@@ -23,6 +23,7 @@ pub returns-clause-follows : goal.returns-clause-follows
 returns-clause-follows c = λ count capacity blocks r players way all. record {
   statements = λ i s few free next. record {
     can = statement_can count capacity blocks r way players all i few free s next;
+    fits = λ act new acts. statement_fits count capacity blocks r way players all i few free s next act new acts;
     taken = λ act new acts. statement_taken count capacity blocks r way players all i few free s next act new acts;
   };
   answers = answers_kept count capacity blocks r players way all;
