@@ -1,5 +1,5 @@
 -- A world and its players stand for a run on its way.
-use Rattle.std.specs.Prelude.{◌≡◌, ℕ, suc, ◌<◌, true, List, [], ◌∷◌, ◌++◌, drop}
+use Rattle.std.specs.Prelude.{◌≡◌, ℕ, suc, ◌+◌, ◌<◌, ◌≤◌, true, false, List, [], ◌∷◌, ◌++◌, drop}
 use Rattle.std.specs.declared.option.Option.{Option}
 use Rattle.std.specs.declared.option.Option.TheVariants.{None, Some}
 use Rattle.crl_model.specs.declared.call.Call.{Call}
@@ -13,7 +13,9 @@ use Rattle.crl_protocol.specs.Node.{Free}
 use Rattle.crl_protocol.specs.Verdict.{verdict}
 use Rattle.crl_protocol.specs.Talk.{hears}
 use Rattle.crl_protocol.specs.World.{new_world, world_of, step, is_enabled, IsRunFrom}
-use Rattle.crl_protocol.specs.Chosen.{Running, block_of, takes_choice}
+use Rattle.crl_protocol.specs.Chosen.{Running, block_of, choices, turn, takes_choice}
+use Rattle.crl_deeds.specs.Laws.{is_inside, next_call, chosen}
+use Rattle.crl_stuck.specs.Ends.{statements_in, most_turns}
 use Rattle.crl_run.specs.PlayerState.{PlayerState}
 use Rattle.crl_run.specs.declared.act.Act.{Act}
 use Rattle.crl_run.specs.Acting.{CanAct, Acts}
@@ -76,3 +78,15 @@ pub record TurnsAreFollowed (count capacity : ℕ) (blocks : List (List Statemen
 -- the players of nodes that did nothing yet
 abbrev pub AreNew : ℕ → (ℕ → PlayerState) → Type 0
 AreNew count players = (i : ℕ) → i < count → ((players i).place ≡ 0) × ((players i).guards ≡ [])
+
+-- The call that a free node makes for its next statement may come, where the run follows the script.
+abbrev pub CallsMayCome : ℕ → ℕ → List (List Statement) → Running → Type 0
+CallsMayCome count capacity blocks r =
+    (i : ℕ) (s : Statement) (left : List Statement) → i < r.world.count → (r.world.nodes i).activity ≡ Free → (r.actors i).left ≡ s ∷ left → is_inside r i s ≡ false → is_enabled (event.Call i (next_call r i s)) r.world ≡ true
+
+-- What is chosen in so many turns is on its way. After as many turns as there may be at most, no choice is left.
+pub record IsChosenOn (count capacity : ℕ) (blocks : List (List Statement)) (words : ℕ → ℕ) (k : ℕ) : Type 0 where
+  pub way : IsOnItsWay count capacity (chosen count capacity blocks words k)
+  pub calls : CallsMayCome count capacity blocks (chosen count capacity blocks words k)
+  pub next : chosen count capacity blocks words (k + 1) ≡ turn (words (k + 1)) (chosen count capacity blocks words k)
+  pub last : most_turns count (statements_in count blocks) ≤ k → choices (chosen count capacity blocks words k) ≡ []
