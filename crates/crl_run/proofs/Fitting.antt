@@ -1,37 +1,30 @@
 -- The guards of a free node fit its open sections, and are there where a verdict needs them.
-use Rattle.std.proofs.Common.{◌≡◌, ◌∙◌, sym, ap, refl, ◌&&◌, ◌==◌, nat_eq, nat_lt, not, Bool, true, false, if◌then◌else◌, Option, Some, None, ℕ, ◌+◌, ◌^◌, ◌%◌, ◌<◌, ◌≤◌, List, [], ◌∷◌, ◌++◌, length, take, drop, subst, arith}
-use Rattle.std.specs.List.{AllByRecursion}
+use Rattle.std.proofs.Common.{◌≡◌, ◌∙◌, sym, ap, refl, ◌&&◌, ◌==◌, nat_eq, nat_lt, not, Bool, true, false, Option, Some, None, ℕ, ◌+◌, ◌≤◌, List, [], ◌∷◌, ◌++◌, length, subst, arith}
 use Rattle.std.specs.Cmp.Lexicographic.{pointwise}
-use Rattle.std.proofs.lemmas.Bool.{eq-eqb, eqb-true, eqb-false, ltb-true, ltb-false}
-use Rattle.std.proofs.lemmas.List.{length-append, length-take, length-drop}
+use Rattle.std.proofs.lemmas.Bool.{eq-eqb, eqb-false, ltb-false}
 use Rattle.crl_model.specs.declared.name.Name.{Name}
 use Rattle.crl_model.specs.declared.call.Call.TheVariants as call
 use Rattle.crl_model.specs.declared.call.Refusal.{Refusal}
 use Rattle.crl_model.specs.declared.call.Refusal.TheVariants as refusal
-use Rattle.crl_model.specs.declared.directory.Section.{Section}
-use Rattle.crl_model.specs.declared.directory.Section.TheVariants as section
 use Rattle.crl_model.specs.declared.statement.Statement.{Statement}
 use Rattle.crl_model.specs.declared.statement.Statement.TheVariants as statement
 use Rattle.crl_model.specs.declared.event.Event.{Event}
-use Rattle.crl_model.specs.Patches.{put_at}
-use Rattle.crl_protocol.specs.Lifetimes.{Mapping}
 use Rattle.crl_protocol.specs.Sections.{Guard, OpenSection, section_of, section_at, section_bytes, count_of, is_writing}
 use Rattle.crl_protocol.specs.Node.{Node, Free}
-use Rattle.crl_protocol.specs.Verdict.{verdict, else_if, refuse_if, of_unmapped, of_end, of_change, mapped_size}
-use Rattle.crl_protocol.specs.Talk.{Heard, hears}
+use Rattle.crl_protocol.specs.Verdict.{verdict, else_if, refuse_if, of_change, mapped_size}
+use Rattle.crl_protocol.specs.Talk.{hears}
 use Rattle.crl_protocol.specs.World.{new_world, world_of, IsRunFrom}
-use Rattle.crl_talk.specs.Guards.{Given, given_yet, without_newest, guards_held, AreGuards, closed, writing, reading, nested, bytes_held, SectionsAreGuards}
+use Rattle.crl_talk.specs.Guards.{Given, given_yet, without_newest, guards_held, AreGuards, closed, writing, reading, nested, bytes_held}
 use Rattle.crl_talk.proofs.Laws.{sections_are_guards}
-use Rattle.crl_deeds.specs.NodeFacts.{RecordFits}
-use Rattle.crl_deeds.proofs.Laws.{known_start, known_run, open_size, read_ends_open, write_ends_open}
-use Rattle.crl_member.specs.Fitting.{fits_open_read, fits_open_write, fits_reading, fits_writing, is_reading, same_bytes}
+use Rattle.crl_deeds.proofs.Laws.{known_start, known_run, open_size}
+use Rattle.crl_member.specs.Fitting.{fits_open_read, fits_open_write, fits_reading, fits_writing}
 use Rattle.crl_run.specs.Players.{newest, IsOfKind, CanChange}
 use Rattle.crl_model.specs.declared.call.Call as calls
 use Rattle.crl_run.specs.declared.act.Act.{Act}
 use Rattle.crl_run.specs.declared.act.Act.TheVariants as act
 use Rattle.crl_run.specs.Acting.{CanAct, Acts, guard_spent}
 use Rattle.crl_run.specs.Actors.{guards_of, AreReads, IsExclusive, asked_call}
-use Rattle.crl_run.specs.Hearing.{IsLike, AreLike, AreShown, HoldsHeard}
+use Rattle.crl_run.specs.Hearing.{AreLike, AreShown, HoldsHeard}
 use Rattle.crl_run.proofs.Likeness.{newest_first, first_of}
 use Rattle.crl_run.specs.Fits.{GuardFits}
 use Rattle.crl_run.proofs.ActorLemmas.{newest_named}

@@ -1,15 +1,13 @@
 -- What a script and an order choose, turn by turn.
-use Rattle.std.proofs.Common.{◌≡◌, ◌∙◌, sym, ap, refl, ◌+◌, ◌-◌, ◌<◌, ◌≤◌, true, false, ℕ, zero, suc, List, [], ◌∷◌, ◌++◌, subst, arith}
-use Rattle.std.proofs.lemmas.List.{append_assoc}
+use Rattle.std.proofs.Common.{◌≡◌, ◌∙◌, sym, ap, refl, ◌+◌, ◌-◌, ◌≤◌, true, ℕ, zero, suc, List, [], ◌∷◌, ◌++◌, subst, arith}
 use Rattle.crl_model.specs.declared.event.Event.{Event}
 use Rattle.crl_model.specs.declared.event.Event.TheVariants as event
 use Rattle.crl_model.specs.declared.statement.Statement.{Statement}
-use Rattle.crl_protocol.specs.Node.{Free}
-use Rattle.crl_protocol.specs.World.{World, new_world, step, is_enabled, world_after, world_of, IsRunFrom}
+use Rattle.crl_protocol.specs.World.{World, new_world, step, is_enabled, world_after, IsRunFrom}
 use Rattle.crl_protocol.specs.Chosen.{Running, running, choices, turn, turns_from, takes_choice_at, goes_on}
-use Rattle.crl_deeds.specs.Laws.{AreStatements, chosen, Follows, ended, changes, calls, happens, is_inside, next_call, past_statement}
+use Rattle.crl_deeds.specs.Laws.{AreStatements, chosen, Follows, ended, changes, calls, happens, next_call, past_statement}
 use Rattle.crl_deeds.proofs.Laws.{sound_start, follow_runs, follow_turns, follow_world}
-use Rattle.crl_stuck.specs.Ends.{statements_in, most_turns, RunEnds}
+use Rattle.crl_stuck.specs.Ends.{statements_in, most_turns}
 use Rattle.crl_stuck.proofs.Laws.{run_ends}
 use Rattle.crl_run.specs.Staging.{IsOnItsWay, CallsMayCome, IsChosenOn}
 

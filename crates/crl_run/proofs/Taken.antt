@@ -1,5 +1,5 @@
 -- A statement that is taken: the players stand for the run after it.
-use Rattle.std.proofs.Common.{◌≡◌, ◌∙◌, sym, ap, refl, ◌==◌, ◌&&◌, ◌+◌, ◌^◌, ◌%◌, ◌<◌, ◌≤◌, Bool, true, false, if◌then◌else◌, Option, Some, None, ℕ, suc, List, [], ◌∷◌, ◌++◌, length, drop, subst, arith}
+use Rattle.std.proofs.Common.{◌≡◌, ◌∙◌, sym, ap, refl, ◌==◌, ◌&&◌, ◌+◌, ◌^◌, ◌%◌, ◌<◌, ◌≤◌, Bool, true, false, if◌then◌else◌, Option, Some, None, ℕ, suc, List, [], ◌∷◌, length, drop, subst, arith}
 use Rattle.std.specs.Int.{to_be_bytes, from_be_bytes, w64}
 use Rattle.std.proofs.lemmas.Bool.{cond-true, cond-false, eq-eqb}
 use Rattle.std.proofs.lemmas.List.{length-append, length-take, length-drop}
@@ -16,16 +16,16 @@ use Rattle.crl_protocol.specs.Node.{Node, Free}
 use Rattle.crl_protocol.specs.Calls.{node_calls}
 use Rattle.crl_protocol.specs.Verdict.{verdict}
 use Rattle.crl_protocol.specs.Talk.{Heard, hears}
-use Rattle.crl_protocol.specs.World.{World, new_world, step, is_enabled, world_of}
-use Rattle.crl_protocol.specs.Chosen.{Actor, new_actor, Running, running, call_of, call_with, draft_of, is_change, is_allowed, after_change, eight_at, with_sum, goes_on, with_actor, makes_call, takes_statement, takes_choice, block_of}
+use Rattle.crl_protocol.specs.World.{World, new_world, step, world_of}
+use Rattle.crl_protocol.specs.Chosen.{Actor, new_actor, Running, running, call_of, draft_of, is_change, is_allowed, after_change, eight_at, with_sum, goes_on, with_actor, makes_call, takes_statement, takes_choice, block_of}
 use Rattle.crl_talk.specs.Guards.{Given}
 use Rattle.crl_run.specs.declared.act.Act.{Act}
 use Rattle.crl_run.specs.PlayerState.{PlayerState}
-use Rattle.crl_run.specs.Players.{newest, guards_given, guards_with, CanChange}
+use Rattle.crl_run.specs.Players.{newest, guards_with, CanChange}
 use Rattle.crl_run.specs.Acting.{CanAct, Acts}
 use Rattle.crl_run.specs.Actors.{IsActor, IsExclusive, guards_of, asked_call, call_made, IsTakenBy}
 use Rattle.crl_run.specs.Fits.{GuardFits}
-use Rattle.crl_run.specs.Hearing.{AreLike, HoldsHeard, Spends}
+use Rattle.crl_run.specs.Hearing.{HoldsHeard, Spends}
 use Rattle.crl_run.specs.Staging.{IsOnItsWay, PlayerStands, AllStand, AfterTaken}
 use Rattle.crl_run.proofs.ActorLemmas.{begins, takes}
 use Rattle.crl_run.proofs.Likeness.{with_of, like_chain, KeepsSize}

@@ -2,7 +2,7 @@ use Rattle.std.proofs.Common.{ℕ, List}
 use Rattle.crl_model.specs.declared.statement.Statement.{Statement}
 use Rattle.crl_protocol.specs.Chosen.{Running, takes_choice}
 use Rattle.crl_run.specs.PlayerState.{PlayerState}
-use Rattle.crl_run.specs.Staging.{IsOnItsWay, AllStand, AnswersAreKept, MessagesPass, TurnsAreFollowed}
+use Rattle.crl_run.specs.Staging.{IsOnItsWay, AllStand, AnswersAreKept, MessagesPass}
 use Rattle.crl_run.proofs.Stages.{collect_stands, handle_stands, carry_stands}
 use Rattle.crl_run.proofs.Taken.{players_begin, statement_can, statement_fits, statement_taken}
 use Rattle.crl_run.proofs.turns.players_follow_the_run.Goals as goal
