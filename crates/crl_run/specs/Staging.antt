@@ -13,8 +13,8 @@ use Rattle.crl_protocol.specs.Node.{Free}
 use Rattle.crl_protocol.specs.Verdict.{verdict}
 use Rattle.crl_protocol.specs.Talk.{hears}
 use Rattle.crl_protocol.specs.World.{new_world, world_of, step, is_enabled, IsRunFrom}
-use Rattle.crl_protocol.specs.Chosen.{Running, block_of, choices, turn, takes_choice}
-use Rattle.crl_deeds.specs.Laws.{is_inside, next_call, chosen}
+use Rattle.crl_protocol.specs.Chosen.{Running, running, block_of, choices, turn, takes_choice}
+use Rattle.crl_deeds.specs.Laws.{AreStatements, is_inside, next_call, chosen}
 use Rattle.crl_stuck.specs.Ends.{statements_in, most_turns}
 use Rattle.crl_run.specs.PlayerState.{PlayerState}
 use Rattle.crl_run.specs.declared.act.Act.{Act}
@@ -90,3 +90,15 @@ pub record IsChosenOn (count capacity : ℕ) (blocks : List (List Statement)) (w
   pub calls : CallsMayCome count capacity blocks (chosen count capacity blocks words k)
   pub next : chosen count capacity blocks words (k + 1) ≡ turn (words (k + 1)) (chosen count capacity blocks words k)
   pub last : most_turns count (statements_in count blocks) ≤ k → choices (chosen count capacity blocks words k) ≡ []
+
+-- New players stand for the run at its start; where they stand for a run on its way, they follow its turns; and what is
+-- chosen in any number of turns goes on so.
+abbrev pub NewPlayersStand : Type 0
+NewPlayersStand = (count capacity : ℕ) (blocks : List (List Statement)) (players : ℕ → PlayerState) → AreNew count players → AllStand count capacity blocks (running count capacity blocks) players
+
+abbrev pub PlayersFollow : Type 0
+PlayersFollow =
+    (count capacity : ℕ) (blocks : List (List Statement)) (r : Running) (players : ℕ → PlayerState) → IsOnItsWay count capacity r → AllStand count capacity blocks r players → TurnsAreFollowed count capacity blocks r players
+
+abbrev pub ChosenRunsGoOn : Type 0
+ChosenRunsGoOn = (count capacity : ℕ) (blocks : List (List Statement)) (words : ℕ → ℕ) (k : ℕ) → AreStatements blocks → IsChosenOn count capacity blocks words k
