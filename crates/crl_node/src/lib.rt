@@ -1,6 +1,7 @@
 //! A node in code: a member of a world, each of whose events is the protocol's.
 #![tactic(auto)]
 
+mod acting;
 mod carriage;
 mod concluding;
 mod node;
