@@ -1,3 +1,4 @@
+mod Acts
 mod Concludes
 mod Keeping
 mod Taking
