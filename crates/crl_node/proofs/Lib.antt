@@ -1,4 +1,5 @@
 mod Acts
+mod Called
 mod Concludes
 mod Keeping
 mod Taking

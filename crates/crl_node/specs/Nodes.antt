@@ -10,10 +10,14 @@ use Rattle.crl_desk.specs.declared.desk.Desk.{Desk}
 use Rattle.crl_desk.specs.Desks.{state, acted, HasRoom}
 use Rattle.crl_node.specs.declared.acting.Acted.{Acted}
 
--- There is room for what is owed; and each event that was noted posted at most so many pieces as fit a word.
+-- each event that was noted posted at most so many pieces as fit a word
+abbrev pub IsFew : Node → Type 0
+IsFew n = n.posted ≤ length n.notes * 2 ^ 64
+
+-- There is room for what is owed, and few pieces were posted.
 pub record IsNode (d : Desk) : Type 0 where
   pub room : HasRoom 0 0 0 d
-  pub few : d.posted ≤ length d.journal.notes * 2 ^ 64
+  pub few : IsFew (state d)
 
 -- as many messages were posted, and the same events noted
 pub record KeepsCounts (n m : Node) : Type 0 where

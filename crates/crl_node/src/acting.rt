@@ -12,6 +12,7 @@ use crl_desk::Desk;
 use crl_guard::{Reading, Writing};
 use crl_model::activity::Answer;
 use crl_model::call::{Call, Refusal};
+use crl_model::collective::Part;
 use crl_model::name::Name;
 
 /// What a call answers, and the call as it is to be noted.
@@ -172,6 +173,28 @@ fn act_start(desk: &mut Desk, at: u64, name: Name, write: bool) -> Result<Acted,
     }
 }
 
+/// A collective call.
+fn act_come(desk: &mut Desk, at: u64, part: Part) -> Result<Acted, Call>
+    requires room { HasRoom 0 0 0 desk.old }
+    requires safe { IsSafe (state desk.old) }
+    requires allowed { verdict.verdict (state desk.old) (call.Come part) ≡ None }
+    ensures { MatchResult result (ActIsDone at (call.Come part) (state desk.old) desk.new) (λ back. ActIsBack (call.Come part) back (state desk.old) desk.new) }
+{
+    let Ok(noted) = part.copy(desk.alloc) else {
+        return Err(Call::Come { part });
+    };
+    match crl_meeting::ready_come(desk, &part) {
+        Ok(kit) => {
+            let answer = crl_meeting::come(desk, at, part, kit);
+            Ok(Acted {
+                answer,
+                noted: Call::Come { part: noted },
+            })
+        }
+        Err(_) => Err(Call::Come { part }),
+    }
+}
+
 /// A call that isn't refused, and isn't the end of a section.
 pub(crate) fn act_taken(desk: &mut Desk, at: u64, call: Call) -> Result<Acted, Call>
     requires room { HasRoom 0 0 0 desk.old }
@@ -188,6 +211,7 @@ pub(crate) fn act_taken(desk: &mut Desk, at: u64, call: Call) -> Result<Acted, C
         Call::StartRead { name } => act_start(desk, at, name, false),
         Call::StartWrite { name } => act_start(desk, at, name, true),
         Call::Flush { name } => act_flush(desk, at, name),
+        Call::Come { part } => act_come(desk, at, part),
         other => Err(other),
     }
 }

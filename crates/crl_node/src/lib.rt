@@ -2,6 +2,7 @@
 #![tactic(auto)]
 
 mod acting;
+mod calling;
 mod carriage;
 mod concluding;
 mod node;
