@@ -15,7 +15,7 @@ use Rattle.crl_protocol.specs.Handlers.{node_handles}
 use Rattle.crl_remote.specs.RemotesState.{row_or}
 use Rattle.crl_safety.specs.Safety.{IsSafe}
 use Rattle.crl_desk.specs.declared.kit.SectionKit.{SectionKit}
-use Rattle.crl_desk.specs.Desks.{acted, size_in}
+use Rattle.crl_desk.specs.Desks.{acted, region_size}
 use Rattle.crl_desk.specs.Kits.{HasPapers}
 use Rattle.crl_copying.specs.Serving.{ready_with, gives_write, AreFor}
 
@@ -28,7 +28,7 @@ of_own : (n : Node) (name : Name) (r : Remote) (b : Bool) → n.remotes name ≡
 of_own n name r true there own = let gone = own refl in cc
 of_own n name r false there own = refl
 
-pub side_has_size : (n : Node) (name : Name) (r : Remote) → IsSafe n → n.remotes name ≡ Some r → r.size ≡ size_in name n
+pub side_has_size : (n : Node) (name : Name) (r : Remote) → IsSafe n → n.remotes name ≡ Some r → r.size ≡ region_size name n
 side_has_size n name r safe there = rw (of_own n name r (is_mine n name) there (safe.own name)) (rw there refl)
 
 grant_size : (version : ℕ) (granted : Granted) (r : Remote) → (remote_takes_grant version granted r).size ≡ r.size

@@ -1,5 +1,5 @@
 -- What there is at the home of a region before and after its step.
-use Rattle.std.proofs.Common.{◌≡◌, refl, sym, ap, ℕ, zero, suc, ◌+◌, ◌-◌, ◌<◌, ◌≤◌, ◌^◌, ◌==◌, length, Bool, true, false, List, [], ◌∷◌, arith, if◌then◌else◌, ◌∙◌}
+use Rattle.std.proofs.Common.{◌≡◌, refl, sym, ap, ℕ, ◌+◌, ◌<◌, ◌≤◌, ◌^◌, length, Bool, true, false, arith, if◌then◌else◌, ◌∙◌}
 use Rattle.std.specs.Prelude.{IsSome}
 use Rattle.std.specs.declared.option.Option.{Option}
 use Rattle.std.specs.declared.option.Option.TheVariants.{Some, None}
@@ -7,7 +7,6 @@ use Rattle.crl_model.specs.declared.name.Name.{Name}
 use Rattle.crl_model.specs.declared.directory.Section.TheVariants.{Closed}
 use Rattle.crl_pieces.specs.Pieces.{count}
 use Rattle.crl_protocol.specs.Home.{Home}
-use Rattle.crl_protocol.specs.Places.{at, put}
 use Rattle.crl_protocol.specs.Sections.{section_at}
 use Rattle.crl_protocol.specs.Handlers.{is_queued, is_queued_in}
 use Rattle.crl_protocol.specs.Node.{Node, is_mine, home_of, at_serial}
@@ -18,7 +17,7 @@ use Rattle.crl_outbox.specs.MailboxState.{MailboxState}
 use Rattle.crl_safety.specs.Safety.{IsSafe}
 use Rattle.crl_desk.specs.declared.desk.Desk.{Desk}
 use Rattle.crl_desk.specs.declared.kit.SectionKit.{SectionKit}
-use Rattle.crl_desk.specs.Desks.{HasRoom, size_in, size_or}
+use Rattle.crl_desk.specs.Desks.{HasRoom, region_size, size_or}
 use Rattle.crl_desk.specs.Kits.{HasPapers}
 use Rattle.crl_copying.specs.Serving.{AreFor}
 use Rattle.crl_copying.proofs.Queues.{not_queued}
@@ -47,7 +46,7 @@ some_is_some (Some g) h e = grind arith
 pub home_is_some : (n : Node) (name : Name) (h : Home) → home_of n name ≡ Some h → IsSome (at_serial name.serial n.homes)
 home_is_some n name h e = some_is_some (at_serial name.serial n.homes) h (home_is_there n name h e)
 
-pub home_has_size : (n : Node) (name : Name) (h : Home) → home_of n name ≡ Some h → size_in name n ≡ h.size
+pub home_has_size : (n : Node) (name : Name) (h : Home) → home_of n name ≡ Some h → region_size name n ≡ h.size
 home_has_size n name h e = rw (home_is_mine n name h e) (ap (λ o. size_or (size_or_none o)) (home_is_there n name h e))
 
 -- the table stands where it was put
@@ -60,26 +59,13 @@ put_table name t old new there new_is = ap table_or (put_there name t old new th
 pub put_some : (name : Name) (t : Home) (old new : HomesState) → IsSome (at_serial name.serial old.homes) → new ≡ with_table name t old → IsSome (at_serial name.serial new.homes)
 put_some name t old new there new_is = some_is_some (at_serial name.serial new.homes) t (put_there name t old new there new_is)
 
--- and there are as many serials as before
-put_length : (place : ℕ) (v : Option Home) (homes : List (Option Home)) → IsSome (at place homes) → length (put place v homes) ≡ length homes
-put_length place v [] i = grind arith
-put_length zero v (h ∷ homes) i = refl
-put_length (suc place) v (h ∷ homes) i = ap suc (put_length place v homes i)
-
-at_place : (b : Bool) (o : Option Home) → IsSome (if b then None else o) → IsSome o
-at_place true o i = grind arith
-at_place false o i = i
-
-same_serials : (name : Name) (t : Home) (old : HomesState) → IsSome (at_serial name.serial old.homes) → length (with_table name t old).homes ≡ length old.homes
-same_serials name t old i = put_length (name.serial - 1) (Some t) old.homes (at_place (name.serial == 0) (at (name.serial - 1) old.homes) i)
-
 -- room for a section of the home's own that opens
 pub room_after : (d : Desk) (name : Name) (t : Home) (new : HomesState) (out : MailboxState) (pieces : ℕ)
-    → HasRoom pieces 2 2 d → IsSome (at_serial name.serial d.homes.homes) → new ≡ with_table name t d.homes
+    → HasRoom pieces 2 2 d → new ≡ with_table name t d.homes → length new.homes ≡ length d.homes.homes
     → length out.list + out.room ≡ length d.outbox.list + d.outbox.room
     → owed_in new.homes + length out.list ≤ owed_in d.homes.homes + pieces + length d.outbox.list
     → HasRoom 0 2 2 (record d { homes = new; outbox = out })
-room_after d name t new out pieces room there new_is places owes = record {
+room_after d name t new out pieces room new_is same_serials places owes = record {
   parts = record {
     few = room.parts.few;
     below = room.parts.below;
@@ -88,7 +74,7 @@ room_after d name t new out pieces room there new_is places owes = record {
     remote = room.parts.remote;
     stage_nodes = room.parts.stage_nodes;
     round_nodes = room.parts.round_nodes;
-    serials = room.parts.serials ∙ sym (ap (λ (s : HomesState). length s.homes) new_is ∙ same_serials name t d.homes there);
+    serials = room.parts.serials ∙ sym same_serials;
   };
   for_pieces = omega (arith, room.for_pieces);
   for_records = room.for_records;
@@ -119,7 +105,7 @@ pub finds_place : (n : Node) (name : Name) (h : Home) (from nodes : ℕ) → IsS
 finds_place n name h from nodes safe there nodes_are below none =
     rw nodes_are (rw (home_is_table n name h there) ((safe.home name h there).room from below (not_queued from name.serial n.homes h (home_is_there n name h there) none)))
 
-pub table_has_size : (n : Node) (name : Name) (h : Home) → home_of n name ≡ Some h → (table_at name n.homes).size ≡ size_in name n
+pub table_has_size : (n : Node) (name : Name) (h : Home) → home_of n name ≡ Some h → (table_at name n.homes).size ≡ region_size name n
 table_has_size n name h there = ap (λ (t : Home). t.size) (home_is_table n name h there) ∙ sym (home_has_size n name h there)
 
 -- what an ask may post

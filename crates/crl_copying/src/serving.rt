@@ -21,7 +21,7 @@ use crl_model::bytes::Bytes;
 use crl_model::directory::Asked;
 use crl_model::name::Name;
 
-/// An ask comes.
+/// An ask of another node comes, with a kit for the home's own section.
 pub fn take_ask(
     desk: &mut Desk,
     at: u64,
@@ -54,7 +54,7 @@ pub fn take_ask(
     open_if_served(desk, at, name, opened, Papers { guard, began, end });
 }
 
-/// A copy comes back, with its bytes if it was an exclusive one.
+/// A copy comes back, with its bytes if the home may lack them.
 pub fn take_return(
     desk: &mut Desk,
     at: u64,

@@ -73,8 +73,8 @@ size_or None = 0
 size_or (Some size) = size
 
 -- the size of the region as the node has it, 0 if it has none
-abbrev pub size_in : Name → Node → ℕ
-size_in name n = if is_mine n name then size_or (homes.size_or_none (at_serial name.serial n.homes)) else size_or (remotes.size_or_none (n.remotes name))
+abbrev pub region_size : Name → Node → ℕ
+region_size name n = if is_mine n name then size_or (homes.size_or_none (at_serial name.serial n.homes)) else size_or (remotes.size_or_none (n.remotes name))
 
 abbrev pub size_at : Name → Desk → ℕ
-size_at name d = size_in name (state d)
+size_at name d = region_size name (state d)

@@ -3,3 +3,6 @@ pub use Rattle.crl_history.proofs.Final.{mirrors_in_runs}
 pub use Rattle.crl_history.proofs.Histories.{engaged_in_runs, entries_legal, accounts_legal}
 pub use Rattle.crl_history.proofs.Finals.{quiet_ends}
 pub use Rattle.crl_history.proofs.Guards.{answers_show}
+-- Runs with one event more.
+pub use Rattle.crl_history.proofs.Runs.{world_then, run_then}
+pub use Rattle.crl_history.proofs.Histories.{machine_then}

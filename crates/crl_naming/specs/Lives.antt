@@ -22,12 +22,12 @@ abbrev pub refused_entry : ℕ → CallKind → Name → Refusal → Entry
 refused_entry from word name why = entry_of from (what.Refused word (Region name) why)
 
 -- the lifetime of the region once its delete has begun
-abbrev pub begun : ℕ → Name → Node → Lifetime
-begun deleter name n = lifetime_begins_delete n.nodes deleter (lifetime_of n name)
+abbrev pub lifetime_in_delete : ℕ → Name → Node → Lifetime
+lifetime_in_delete deleter name n = lifetime_begins_delete n.nodes deleter (lifetime_of n name)
 
 -- the lifetime of the region once this node parted with it
-abbrev pub ended : ℕ → Name → Node → Lifetime
-ended from name n = lifetime_takes_purged n.nodes from (lifetime_of n name)
+abbrev pub lifetime_after_purged : ℕ → Name → Node → Lifetime
+lifetime_after_purged from name n = lifetime_takes_purged n.nodes from (lifetime_of n name)
 
 -- what a node is told whose region is purged
 abbrev pub purge_to : ℕ → Name → ℕ → Message

@@ -11,7 +11,7 @@ ghost use Rattle.crl_protocol.specs.Handlers as handlers;
 ghost use Rattle.crl_protocol.specs.Verdict.{verdict};
 ghost use Rattle.crl_stages.specs.StagesState.{lifetimes_of};
 ghost use Rattle.crl_desk.specs.Desks.{state, acted, HasRoom};
-ghost use Rattle.crl_naming.specs.Lives.{begun, purge_if, purges_for, recorded_one, posted_these, deleting_by, deleted_by, askers_told};
+ghost use Rattle.crl_naming.specs.Lives.{lifetime_in_delete, purge_if, purges_for, recorded_one, posted_these, deleting_by, deleted_by, askers_told};
 
 use crate::informing::stage_of;
 use crl_desk::Desk;
@@ -73,8 +73,8 @@ fn post_purges(me: NodeNo, nodes: NodeNo, name: Name, stages: &Stages, out: &mut
 fn begin(desk: &mut Desk, deleter: NodeNo, name: Name)
     requires live { (node.lifetime_of (state desk.old) name).stage ≡ Live }
     requires room { HasRoom 64 2 1 desk.old }
-    ensures state { state desk.new ≡ node.with_lifetime name (begun deleter name (state desk.old)) (state desk.old) }
-    ensures lifetime { node.lifetime_of (state desk.new) name ≡ begun deleter name (state desk.old) }
+    ensures state { state desk.new ≡ node.with_lifetime name (lifetime_in_delete deleter name (state desk.old)) (state desk.old) }
+    ensures lifetime { node.lifetime_of (state desk.new) name ≡ lifetime_in_delete deleter name (state desk.old) }
     ensures mine { node.is_mine (state desk.new) name ≡ true }
     ensures room { HasRoom 64 2 1 desk.new }
 {
@@ -132,8 +132,8 @@ pub(crate) fn is_gone(stage: Stage) -> bool
 fn delete_own(desk: &mut Desk, at: u64, name: Name) -> Answer<Reading, Writing>
     requires live { (node.lifetime_of (state desk.old) name).stage ≡ Live }
     requires room { HasRoom 64 2 1 desk.old }
-    ensures state { state desk.new ≡ acted at (deletes_own name (begun desk.old.me name (state desk.old)) (state desk.old)) }
-    ensures answer { result ≡ (deletes_own name (begun desk.old.me name (state desk.old)) (state desk.old)).answer }
+    ensures state { state desk.new ≡ acted at (deletes_own name (lifetime_in_delete desk.old.me name (state desk.old)) (state desk.old)) }
+    ensures answer { result ≡ (deletes_own name (lifetime_in_delete desk.old.me name (state desk.old)) (state desk.old)).answer }
     ensures room { HasRoom 0 0 1 desk.new }
 {
     begin(desk, desk.me, name);
@@ -182,7 +182,7 @@ pub fn delete(desk: &mut Desk, at: u64, name: Name) -> Answer<Reading, Writing>
 fn delete_for(desk: &mut Desk, at: u64, from: NodeNo, name: Name)
     requires live { (node.lifetime_of (state desk.old) name).stage ≡ Live }
     requires room { HasRoom 64 2 1 desk.old }
-    ensures state { state desk.new ≡ acted at (handlers.begins_delete from name (begun from name (state desk.old)) (state desk.old)) }
+    ensures state { state desk.new ≡ acted at (handlers.begins_delete from name (lifetime_in_delete from name (state desk.old)) (state desk.old)) }
     ensures room { HasRoom 0 0 1 desk.new }
 {
     begin(desk, from, name);

@@ -15,7 +15,7 @@ use Rattle.crl_protocol.specs.Node.{Node, COUNT_LIMIT}
 use Rattle.crl_protocol.specs.Verdict.{verdict, else_if, of_start, of_end, of_more, of_unmapped, refuse_if}
 use Rattle.crl_sections.specs.SectionsState.{IsAbsentIfClosed}
 use Rattle.crl_remote.specs.Copies.{IsReading, IsWriting}
-use Rattle.crl_sectioning.specs.Starts.{start_call, MayOpen}
+use Rattle.crl_sectioning.specs.Starts.{start_call, SectionMayOpen}
 
 second_none : (a b : Option Refusal) → else_if a b ≡ None → b ≡ None
 second_none None b e = e
@@ -56,7 +56,7 @@ none_if_closed o absent e = none (subst (λ s. IsAbsentIfClosed s (Some o)) e ab
 
 -- a section may open that may start
 pub may_open : (write : Bool) (size : ℕ) (row : Option OpenSection) → of_start write (section_of row) ≡ None → IsAbsentIfClosed (section_of row) row → count_of (section_of row) < 2 ^ 32
-    → ((o : OpenSection) → row ≡ Some o → length o.bytes ≡ size) → MayOpen write size row
+    → ((o : OpenSection) → row ≡ Some o → length o.bytes ≡ size) → SectionMayOpen write size row
 may_open write size None heard absent word sized = tt
 may_open true size (Some o) heard absent word sized = absurd (none_if_closed o absent (closed_to_write o.section heard))
 may_open false size (Some o) heard absent word sized = (reads_inside o.section heard (none_if_closed o absent), count_below false o.section heard word, sym (sized o refl))

@@ -12,7 +12,7 @@ use Rattle.crl_protocol.specs.Sectioning.{starts}
 use Rattle.crl_home.specs.HomesState.{HomesState, table_or, table_at, with_table, start_step}
 use Rattle.crl_home.specs.Posts.{letter_pieces}
 use Rattle.crl_home.proofs.Laws.{table_is_put, start_size}
-use Rattle.crl_desk.specs.Desks.{acted, size_in}
+use Rattle.crl_desk.specs.Desks.{acted, region_size}
 use Rattle.crl_desk.specs.Kits.{once_opened}
 
 -- the table, and the size, of a region of the node's own
@@ -22,7 +22,7 @@ own_table name n h mine there = rw mine at there
 pub own_is_there : (name : Name) (n : Node) (h : Home) → is_mine n name ≡ true → home_of n name ≡ Some h → IsSome (at_serial name.serial n.homes)
 own_is_there name n h mine there = subst (λ o. IsSome o) (sym (own_table name n h mine there)) refl
 
-pub own_size : (name : Name) (n : Node) (h : Home) → is_mine n name ≡ true → home_of n name ≡ Some h → size_in name n ≡ h.size
+pub own_size : (name : Name) (n : Node) (h : Home) → is_mine n name ≡ true → home_of n name ≡ Some h → region_size name n ≡ h.size
 own_size name n h mine there = rw mine (rw (own_table name n h mine there) refl)
 
 pub start_is_put : (name : Name) (write : Bool) (old new : HomesState) → IsSome (at_serial name.serial old.homes) → new ≡ with_table name (start_step name write old).home old

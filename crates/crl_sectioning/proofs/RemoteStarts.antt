@@ -14,10 +14,10 @@ use Rattle.crl_table.specs.Tables.{table_of}
 use Rattle.crl_table.proofs.Laws.{at_name_here}
 use Rattle.crl_remote.specs.RemotesState.{RemotesState, HasRow, row_or, row_at, start_step}
 use Rattle.crl_remote.specs.Posts.{mail_pieces}
-use Rattle.crl_desk.specs.Desks.{acted, size_in}
+use Rattle.crl_desk.specs.Desks.{acted, region_size}
 use Rattle.crl_desk.specs.Kits.{once_opened}
 
-pub away_size : (name : Name) (n : Node) (r : Remote) → is_mine n name ≡ false → n.remotes name ≡ Some r → size_in name n ≡ r.size
+pub away_size : (name : Name) (n : Node) (r : Remote) → is_mine n name ≡ false → n.remotes name ≡ Some r → region_size name n ≡ r.size
 away_size name n r away there = rw away (rw there refl)
 
 over_size : (write : Bool) (c : Option Copy) (r : Remote) → (starts_over write c r).remote.size ≡ r.size

@@ -24,8 +24,8 @@ abbrev pub SendsNothing : Name → Node → Type 0
 SendsNothing name n = is_mine n name ≡ false → n.remotes name ≡ None
 
 -- the region isn't here
-abbrev pub IsNowhere : Name → Node → Type 0
-IsNowhere name n = (home_of n name ≡ None) × (n.remotes name ≡ None)
+abbrev pub IsNotHere : Name → Node → Type 0
+IsNotHere name n = (home_of n name ≡ None) × (n.remotes name ≡ None)
 
 -- one grant for each ask that waits fits a word
 abbrev pub HasVersions : Home → Type 0

@@ -11,7 +11,7 @@ ghost use Rattle.crl_home.specs.HomesState.{table_at};
 ghost use Rattle.crl_remote.specs.Copies.{IsReading};
 ghost use Rattle.crl_remote.specs.RemotesState.{row_at, IsThere};
 ghost use Rattle.crl_desk.specs.Desks.{state, acted, HasRoom};
-ghost use Rattle.crl_sectioning.specs.Acts.{HasVersions, IsNowhere};
+ghost use Rattle.crl_sectioning.specs.Acts.{HasVersions, IsNotHere};
 
 use crate::place::{Place, place_of};
 use crate::recording::record;
@@ -76,7 +76,7 @@ fn end_read_elsewhere(desk: &mut Desk, at: u64, name: Name, seen: Bytes) -> Answ
 /// The end where the node doesn't have the region.
 fn end_read_nowhere(desk: &mut Desk, at: u64, name: Name, seen: Bytes) -> Answer<Reading, Writing>
     requires room { HasRoom 0 0 0 desk.old }
-    requires nowhere { IsNowhere name (state desk.old) }
+    requires nowhere { IsNotHere name (state desk.old) }
     requires reading { is_reading (section_at name (state desk.old).sections) ≡ true }
     requires seen { seen ≡ bytes_at name (state desk.old).sections }
     ensures state { state desk.new ≡ acted at (ends_read name (state desk.old)) }

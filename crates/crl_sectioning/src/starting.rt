@@ -10,7 +10,7 @@ ghost use Rattle.crl_home.specs.HomesState.{table_at};
 ghost use Rattle.crl_remote.specs.RemotesState.{row_at, IsThere};
 ghost use Rattle.crl_desk.specs.Desks.{state, acted, HasRoom};
 ghost use Rattle.crl_desk.specs.Kits.{IsSectionReady, once_opened};
-ghost use Rattle.crl_sectioning.specs.Starts.{start_call, at_wait, HomeLets, RemoteLets, ArePapers, MayOpen};
+ghost use Rattle.crl_sectioning.specs.Starts.{start_call, at_wait, HomeLets, RemoteLets, PapersFit, SectionMayOpen};
 
 use crate::place::{Place, note_sections, place_of};
 use crl_desk::{Desk, SectionKit, Shown, open_section};
@@ -89,8 +89,8 @@ fn open_at_home(
     requires place { HasPlace name desk.old.sections.rows }
     requires last { desk.old.sections.last + 1 < 2 ^ 64 }
     requires there { IsSome (at_serial name.serial desk.old.homes.homes) }
-    requires papers { ArePapers (table_at name desk.old.homes.homes).size guard began end }
-    requires may { MayOpen write (table_at name desk.old.homes.homes).size (table_of desk.old.sections.rows name) }
+    requires papers { PapersFit (table_at name desk.old.homes.homes).size guard began end }
+    requires may { SectionMayOpen write (table_at name desk.old.homes.homes).size (table_of desk.old.sections.rows name) }
     ensures state { state desk.new ≡ once_opened at (section_opens write name (table_at name desk.old.homes.homes).bytes (state desk.old)) }
     ensures answer { result ≡ (section_opens write name (table_at name desk.old.homes.homes).bytes (state desk.old)).answer }
     ensures room { HasRoom 0 0 1 desk.new }
@@ -144,8 +144,8 @@ fn open_elsewhere(
     requires place { HasPlace name desk.old.sections.rows }
     requires last { desk.old.sections.last + 1 < 2 ^ 64 }
     requires copy { IsSome (row_at name desk.old.remotes).copy }
-    requires papers { ArePapers (row_at name desk.old.remotes).size guard began end }
-    requires may { MayOpen write (row_at name desk.old.remotes).size (table_of desk.old.sections.rows name) }
+    requires papers { PapersFit (row_at name desk.old.remotes).size guard began end }
+    requires may { SectionMayOpen write (row_at name desk.old.remotes).size (table_of desk.old.sections.rows name) }
     ensures state { state desk.new ≡ once_opened at (section_opens write name (copy_bytes (row_at name desk.old.remotes).copy) (state desk.old)) }
     ensures answer { result ≡ (section_opens write name (copy_bytes (row_at name desk.old.remotes).copy) (state desk.old)).answer }
     ensures room { HasRoom 0 0 1 desk.new }
@@ -157,7 +157,7 @@ fn open_elsewhere(
 /// The bytes of the copy that is here.
 fn show_copy(desk: &Desk, name: Name, guard: Paper, began: Paper, end: Paper) -> Shown
     requires copy { IsSome (row_at name desk.now.remotes).copy }
-    requires papers { ArePapers (row_at name desk.now.remotes).size guard began end }
+    requires papers { PapersFit (row_at name desk.now.remotes).size guard began end }
     ensures bytes { result ≡ copy_bytes (row_at name desk.now.remotes).copy }
     ensures sized { length result ≡ (row_at name desk.now.remotes).size }
 {

@@ -12,7 +12,7 @@ ghost use Rattle.crl_remote.specs.Copies.{IsWriting};
 ghost use Rattle.crl_remote.specs.RemotesState.{row_at, IsThere};
 ghost use Rattle.crl_sections.specs.SectionsState.{sections_of, guards};
 ghost use Rattle.crl_desk.specs.Desks.{state, acted, HasRoom};
-ghost use Rattle.crl_sectioning.specs.Acts.{HasVersions, IsNowhere};
+ghost use Rattle.crl_sectioning.specs.Acts.{HasVersions, IsNotHere};
 
 use crate::place::{Place, place_of};
 use crate::recording::record;
@@ -102,7 +102,7 @@ fn end_write_elsewhere(
 /// The end where the node doesn't have the region.
 fn end_write_nowhere(desk: &mut Desk, at: u64, name: Name, bytes: Bytes) -> Answer<Reading, Writing>
     requires room { HasRoom 0 0 0 desk.old }
-    requires nowhere { IsNowhere name (state desk.old) }
+    requires nowhere { IsNotHere name (state desk.old) }
     requires writing { is_writing (section_at name (state desk.old).sections) ≡ true }
     requires sized { length bytes ≡ length (bytes_at name (state desk.old).sections) }
     ensures state { state desk.new ≡ acted at (ends_write name bytes (state desk.old)) }

@@ -1,20 +1,18 @@
 -- A piece that a member carried, as what the world did.
-use Rattle.std.proofs.Common.{◌≡◌, ◌≢◌, ℕ, ◌+◌, ◌<◌, ◌≤◌, ◌^◌, ◌==◌, ◌&&◌, ◌++◌, take, drop, if◌then◌else◌, true, false, Bool, List, length, get_or, set, refl, ap, ap₂, sym, ◌∙◌, subst, arith, map, Option, Some, None, ne_eqb, ltb-true}
+use Rattle.std.proofs.Common.{◌≡◌, ◌≢◌, ℕ, ◌+◌, ◌<◌, ◌^◌, ◌==◌, ◌++◌, take, drop, if◌then◌else◌, true, List, length, set, refl, ap, ap₂, sym, ◌∙◌, subst, map, Option, Some, None, ne_eqb, ltb-true}
 use Rattle.std.proofs.lemmas.List.{length-map, length-set, get_or_default}
 use Rattle.std.specs.List.{refill}
 use Rattle.std.proofs.Math.Seq.{take-append_seam}
 use Rattle.crl_model.specs.Names.{at_node}
-use Rattle.crl_model.specs.declared.event.Event.{Event}
 use Rattle.crl_model.specs.declared.event.Event.TheVariants as event
 use Rattle.crl_protocol.specs.Parcels.{Piece}
 use Rattle.crl_protocol.specs.Places.{Taken, take_out}
 use Rattle.crl_protocol.specs.Node.{Node}
 use Rattle.crl_protocol.specs.World.{World, step, is_enabled, carries, note, put_in}
-use Rattle.crl_safety.specs.Safety.{IsSafe}
-use Rattle.crl_member.specs.Members.{addressee_of, after_sent, after_put}
+use Rattle.crl_member.specs.Members.{addressee_of}
 use Rattle.crl_world.specs.Members.{Members}
-use Rattle.crl_world.specs.Seen.{node_in, node_at, world_of_nodes, world_seen, IsKept, NodesAreSafe}
-use Rattle.crl_world.specs.Stepping.{EventIsDone, GoesElsewhere, IsRefusedForMemory, nodes_after_sent, nodes_after_carry}
+use Rattle.crl_world.specs.Seen.{node_in, node_at, world_of_nodes, world_seen, IsKept}
+use Rattle.crl_world.specs.Stepping.{EventIsDone, GoesElsewhere, nodes_after_sent, nodes_after_carry}
 use Rattle.crl_world.proofs.Doing.{both, Stands, old, seen, below, to_node}
 use Rattle.crl_world.proofs.Events.{is_there}
 use Rattle.crl_world.proofs.Keeping.{kept_step}
@@ -50,8 +48,8 @@ module _ (ns : List Node) (events capacity i place : ℕ) (lt : i < length ns) w
       ap₂ (λ (x y : Node). world_of_nodes (set (set ns i x) j y) (events + 1) capacity)
       (ap₂ (λ (x : Node) (k : ℕ). note events (event.Carry k place) (record x { outbox = t.rest })) sent me) (ap (put_in t.taken) taken)
       ∙ same_world (length (set (set ns i m) j (put_in t.taken (at_node before.nodes i m j)))) (length ns) (node_in capacity (set (set ns i m) j (put_in t.taken (at_node before.nodes i m j))))
-        (at_node (at_node before.nodes i m) j (put_in t.taken (at_node before.nodes i m j))) (events + 1)
-        (length-set (set ns i m) j _ ∙ length-set ns i m) (λ k. two_put j m _ k away.0)
+      (at_node (at_node before.nodes i m) j (put_in t.taken (at_node before.nodes i m j))) (events + 1)
+      (length-set (set ns i m) j _ ∙ length-set ns i m) (λ k. two_put j m _ k away.0)
 
   pub carry_world : (vs : List Node) (j : ℕ) → j ≡ addressee_of (take_out place (node_at i ns).outbox) → vs ≡ nodes_after_carry events i j place ns
       → place < length (before.nodes i).outbox → GoesElsewhere i (length ns) (take_out place (before.nodes i).outbox) → (before.nodes i).me ≡ i

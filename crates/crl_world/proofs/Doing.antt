@@ -1,19 +1,16 @@
 -- What a member did, as what the world did.
-use Rattle.std.proofs.Common.{◌≡◌, ℕ, ◌+◌, ◌<◌, ◌≤◌, ◌^◌, ◌&&◌, true, false, Bool, List, [], length, get_or, set, refl, ap, sym, ◌∙◌, subst, arith, map, Option, Some, None, ltb-true}
+use Rattle.std.proofs.Common.{◌≡◌, ℕ, ◌+◌, ◌<◌, ◌^◌, ◌&&◌, true, false, Bool, List, length, get_or, set, refl, ap, sym, ◌∙◌, subst, arith, map, ltb-true}
 use Rattle.std.proofs.lemmas.List.{length-map}
 use Rattle.crl_model.specs.declared.call.Call.{Call}
-use Rattle.crl_model.specs.declared.call.Call.TheVariants as call
 use Rattle.crl_model.specs.declared.event.Event.{Event}
 use Rattle.crl_model.specs.declared.event.Event.TheVariants as event
-use Rattle.crl_protocol.specs.Sections.{Guard}
-use Rattle.crl_protocol.specs.Places.{take_out}
 use Rattle.crl_protocol.specs.Node.{Node, Answer}
 use Rattle.crl_protocol.specs.Verdict.{verdict}
 use Rattle.crl_protocol.specs.Calls.{node_calls}
 use Rattle.crl_protocol.specs.World.{World, step, is_enabled, is_free, is_ready, is_call, collects}
 use Rattle.crl_safety.specs.Safety.{IsSafe}
 use Rattle.crl_member.specs.Fitting.{MayCall, goes_by_guard}
-use Rattle.crl_member.specs.Members.{CallIsDone, CollectIsDone, TakenIsSafe, node_after_handle}
+use Rattle.crl_member.specs.Members.{CallIsDone, CollectIsDone, node_after_handle}
 use Rattle.crl_world.specs.Members.{Members}
 use Rattle.crl_world.specs.Seen.{world_of_nodes, world_seen, IsKept, NodesAreSafe}
 use Rattle.crl_world.specs.Stepping.{StepIsDone, EventIsDone, IsRefusedForMemory}

@@ -1,8 +1,8 @@
 -- The nodes of a new world.
-use Rattle.std.proofs.Common.{◌≡◌, ℕ, zero, suc, ◌+◌, ◌<◌, ◌≤◌, List, [], ◌∷◌, ◌++◌, length, get_or, refl, ap, sym, ◌∙◌, subst, arith, map, add-zero}
+use Rattle.std.proofs.Common.{◌≡◌, ℕ, zero, suc, ◌+◌, List, [], ◌∷◌, ◌++◌, length, get_or, refl, ap, sym, ◌∙◌, subst, arith, map, add-zero}
 use Rattle.std.proofs.lemmas.List.{map-append}
 use Rattle.crl_protocol.specs.Node.{Node, new_node}
-use Rattle.crl_protocol.specs.World.{World, new_world}
+use Rattle.crl_protocol.specs.World.{new_world}
 use Rattle.crl_world.specs.Seen.{world_of_nodes, first_nodes, IsKept}
 use Rattle.crl_world.specs.Starting.{AreSomeNodes, IsStarted}
 use Rattle.crl_world.proofs.Nodes.{same_world}
@@ -36,9 +36,9 @@ first_world count capacity =
     let long = first_long count capacity 0 count in
     same_world (length (first_nodes count capacity 0 count)) count _ (new_node count capacity) 0 long
     (λ i.
-      let zero_in : 0 + i ≡ i = omega arith in
-      ap (λ n. get_or (first_nodes count capacity 0 count) i (new_node n capacity i)) long
-      ∙ subst (λ q. get_or (first_nodes count capacity 0 count) i (new_node count capacity q) ≡ new_node count capacity q) zero_in (first_at count capacity 0 count i))
+    let zero_in : 0 + i ≡ i = omega arith in
+    ap (λ n. get_or (first_nodes count capacity 0 count) i (new_node n capacity i)) long
+    ∙ subst (λ q. get_or (first_nodes count capacity 0 count) i (new_node count capacity q) ≡ new_node count capacity q) zero_in (first_at count capacity 0 count i))
 
 pub is_started : (ns : List Node) (count capacity : ℕ) → AreSomeNodes count → ns ≡ first_nodes count capacity 0 count → IsStarted count capacity (world_of_nodes ns 0 capacity)
 is_started ns count capacity some is = record { count = some; world = ap (λ l. world_of_nodes l 0 capacity) is ∙ first_world count capacity }

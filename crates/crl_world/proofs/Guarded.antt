@@ -1,15 +1,14 @@
 -- The end of a section by its guard, as what the world did.
-use Rattle.std.proofs.Common.{◌≡◌, ℕ, ◌+◌, ◌<◌, ◌≤◌, ◌^◌, ◌==◌, ◌&&◌, true, false, Bool, List, length, set, refl, ap, sym, ◌∙◌, subst, map, Option, Some, None, ltb-true}
+use Rattle.std.proofs.Common.{◌≡◌, ℕ, ◌<◌, ◌^◌, ◌==◌, ◌&&◌, true, false, Bool, List, length, refl, ap, sym, ◌∙◌, subst, map, Option, Some, None, ltb-true}
 use Rattle.std.proofs.lemmas.Bool.{lt-ltb}
 use Rattle.std.proofs.lemmas.List.{length-map}
-use Rattle.std.specs.Prelude.{nat_lt}
 use Rattle.crl_model.specs.declared.call.Call.{Call}
 use Rattle.crl_model.specs.declared.event.Event.TheVariants as event
 use Rattle.crl_protocol.specs.Sections.{Guard, OpenSection, section_bytes}
 use Rattle.crl_protocol.specs.Node.{Node}
 use Rattle.crl_protocol.specs.Verdict.{verdict}
 use Rattle.crl_protocol.specs.World.{World, step, is_enabled, is_free, is_call}
-use Rattle.crl_member.specs.Fitting.{fits_open_write, fits_writing}
+use Rattle.crl_member.specs.Fitting.{fits_open_write}
 use Rattle.crl_member.specs.Members.{node_after_read, node_after_write}
 use Rattle.crl_world.specs.Members.{Members}
 use Rattle.crl_world.specs.Seen.{world_seen, IsKept}

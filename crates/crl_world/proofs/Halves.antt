@@ -1,10 +1,8 @@
 -- A list that was taken apart, with one element changed in each part; and a piece that was carried between them.
-use Rattle.std.proofs.Common.{◌≡◌, ◌≢◌, ℕ, zero, suc, ◌+◌, ◌<◌, ◌≤◌, List, [], ◌∷◌, ◌++◌, length, get_or, set, take, drop, map, refl, ap, ap₂, sym, ◌∙◌, subst, arith, Result, Ok, Err, OnOk, OnErr, get_or-take, get_or-drop}
-use Rattle.std.proofs.lemmas.List.{set_comm, map-set, length-map, get_or-map, length-drop, length-take, set-get_or}
-use Rattle.crl_model.specs.declared.event.Event.TheVariants as event
-use Rattle.crl_protocol.specs.Places.{take_out}
+use Rattle.std.proofs.Common.{◌≡◌, ℕ, zero, suc, ◌+◌, ◌<◌, List, [], ◌∷◌, ◌++◌, length, get_or, set, take, drop, map, refl, ap, ap₂, sym, ◌∙◌, subst, arith, Result, Ok, Err, OnOk, OnErr, get_or-take, get_or-drop}
+use Rattle.std.proofs.lemmas.List.{set_comm, map-set, get_or-map, set-get_or}
 use Rattle.crl_protocol.specs.Node.{Node}
-use Rattle.crl_member.specs.Members.{CarryIsDone, after_sent, after_put}
+use Rattle.crl_member.specs.Members.{CarryIsDone}
 use Rattle.crl_world.specs.Seen.{node_at}
 use Rattle.crl_world.specs.Stepping.{nodes_after_carry}
 

@@ -1,10 +1,9 @@
 -- An event keeps what holds of every world that is seen.
-use Rattle.std.proofs.Common.{◌≡◌, ℕ, ◌+◌, ◌<◌, ◌≤◌, ◌^◌, true, refl, sym, ◌∙◌, subst, arith}
-use Rattle.crl_model.specs.Names.{at_node}
+use Rattle.std.proofs.Common.{◌≡◌, ℕ, ◌+◌, ◌<◌, ◌≤◌, ◌^◌, true, sym, ◌∙◌, subst, arith}
 use Rattle.crl_model.specs.declared.event.Event.{Event}
 use Rattle.crl_protocol.specs.Node.{Node}
 use Rattle.crl_protocol.specs.World.{World, WorldStep, step, is_enabled}
-use Rattle.crl_deeds.specs.Turns.{Turn, calls, hears, gathers, answers, carriage, rests, Frame}
+use Rattle.crl_deeds.specs.Turns.{Turn, calls, hears, gathers, answers, carriage, rests}
 use Rattle.crl_deeds.proofs.Laws.{turn_of, turn_count, deed_frame, each_at}
 use Rattle.crl_world.specs.Seen.{IsKept}
 

@@ -1,5 +1,5 @@
 -- Nodes of a world where one changes.
-use Rattle.std.proofs.Common.{◌≡◌, ◌≢◌, ℕ, ◌+◌, ◌<◌, ◌≤◌, ◌==◌, if◌then◌else◌, true, false, Bool, List, length, get_or, set, refl, ap, sym, ◌∙◌, subst, eqb-true, map, true≢false, get_or-set_same, get_or-set_other}
+use Rattle.std.proofs.Common.{◌≡◌, ℕ, ◌<◌, ◌==◌, if◌then◌else◌, true, false, Bool, List, length, get_or, set, refl, ap, sym, ◌∙◌, subst, eqb-true, map, get_or-set_same, get_or-set_other}
 use Rattle.std.proofs.lemmas.Bool.{eqb-false}
 use Rattle.std.proofs.lemmas.List.{get_or-map, length-map, length-set, map-set}
 use Rattle.std.proofs.Math.Seq.{map-set_same}

@@ -1,11 +1,11 @@
 -- Rows of choices: how many there are up to a node, and which stands at a place.
-use Rattle.std.proofs.Common.{◌≡◌, ℕ, zero, suc, ◌+◌, ◌-◌, ◌*◌, ◌^◌, ◌<◌, ◌≤◌, Bool, List, [], ◌∷◌, ◌++◌, length, refl, ap, ap₂, sym, ◌∙◌, subst, arith, map, Option, Some, None, Result, Ok, Err, length-append, append_assoc, append-nil, add-zero, zero-add, add_assoc}
+use Rattle.std.proofs.Common.{◌≡◌, ℕ, zero, suc, ◌+◌, ◌-◌, ◌<◌, ◌≤◌, List, [], ◌∷◌, ◌++◌, length, refl, ap, ap₂, sym, ◌∙◌, subst, arith, Some, length-append, append_assoc, append-nil, add-zero, zero-add}
 use Rattle.std.specs.Prelude.{slice_get}
 use Rattle.crl_model.specs.declared.choice.Choice.{Choice}
 use Rattle.crl_model.specs.declared.choice.Choice.TheVariants as choice
 use Rattle.crl_protocol.specs.Parcels.{Piece}
 use Rattle.crl_protocol.specs.Chosen.{handles_of, carries_of}
-use Rattle.crl_world.specs.Choosing.{row_from, Finds}
+use Rattle.crl_world.specs.Choosing.{row_from}
 
 pub handles_long : (i p : ℕ) (ms : List Piece) → length (handles_of i p ms) ≡ length ms
 handles_long i p [] = refl

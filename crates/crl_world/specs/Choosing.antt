@@ -6,9 +6,9 @@ use Rattle.std.specs.declared.result.Result.TheVariants.{Ok, Err}
 use Rattle.crl_model.specs.declared.choice.Choice.{Choice}
 use Rattle.crl_model.specs.declared.choice.Choice.TheVariants as choice
 use Rattle.crl_model.specs.declared.statement.Statement.{Statement}
-use Rattle.crl_protocol.specs.Node.{Node, Activity, Free, Waiting, Ready}
+use Rattle.crl_protocol.specs.Node.{Activity, Free, Waiting, Ready}
 use Rattle.crl_protocol.specs.World.{World}
-use Rattle.crl_protocol.specs.Chosen.{Running, handles_of, carries_of}
+use Rattle.crl_protocol.specs.Chosen.{handles_of, carries_of}
 use Rattle.crl_world.specs.declared.rows.Rows.{Rows}
 use Rattle.crl_world.specs.declared.rows.Rows.TheVariants.{Nexts, Inboxes, Outboxes}
 

@@ -84,11 +84,9 @@ impl<N: Member> World<N> {
         requires safe { NodesAreSafe (world_seen N.state self.old) }
         requires enabled { is_enabled (event.Carry i place) (world_seen N.state self.old) ≡ true }
         requires elsewhere { let w = world_seen N.state self.old in GoesElsewhere i w.count (take_out place (w.nodes i).outbox) }
-        ensures {
-            let w = world_seen N.state self.old in
+        ensures { let w = world_seen N.state self.old in
             let v = world_seen N.state self.new in
-            MatchResult result (λ _. EventIsDone (event.Carry i place) w v) (StepIsUndone w v)
-        }
+            MatchResult result (λ _. EventIsDone (event.Carry i place) w v) (StepIsUndone w v) }
     {
         if self.events == EVENT_LIMIT {
             return Err(StepFault::Spent);

@@ -34,10 +34,8 @@ impl<N: Member> World<N> {
     pub fn account(&self, alloc: Global) -> Result<Vec<Entry>, OutOfMemory>
         ensures merged { IfOk result (λ entries. entries.items ≡ merged_account (records_by_node (world_seen N.state self.now))) }
         // If that is what a run recorded, they are what the run told.
-        ensures told {
-            let lists = records_by_node (world_seen N.state self.now) in
-            IfOk result (λ entries. (run : List EventEntries) → AreRecordsOf run lists → entries.items ≡ entries_told run)
-        }
+        ensures told { let lists = records_by_node (world_seen N.state self.now) in
+            IfOk result (λ entries. (run : List EventEntries) → AreRecordsOf run lists → entries.items ≡ entries_told run) }
     {
         let lists = self.records(alloc)?;
         account(alloc, &lists)

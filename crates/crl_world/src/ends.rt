@@ -34,11 +34,9 @@ impl<N: Member> World<N> {
     pub fn end_read(&mut self, guard: Reading) -> Result<(), EndFault<Reading>>
         requires safe { NodesAreSafe (world_seen N.state self.old) }
         requires may { let w = world_seen N.state self.old in reading_fits guard w ≡ true → MayEnd guard (end_of_reading guard) w }
-        ensures {
-            let w = world_seen N.state self.old in
+        ensures { let w = world_seen N.state self.old in
             let v = world_seen N.state self.new in
-            MatchResult result (λ _. EndIsDone (reading_fits guard w) guard (end_of_reading guard) w v) (EndIsUndone (reading_fits guard w) guard w v)
-        }
+            MatchResult result (λ _. EndIsDone (reading_fits guard w) guard (end_of_reading guard) w v) (EndIsUndone (reading_fits guard w) guard w v) }
     {
         if !self.fits_reading(&guard) {
             return Err(EndFault::Foreign(guard));
@@ -62,11 +60,9 @@ impl<N: Member> World<N> {
     pub fn end_write(&mut self, guard: Writing) -> Result<(), EndFault<Writing>>
         requires safe { NodesAreSafe (world_seen N.state self.old) }
         requires may { let w = world_seen N.state self.old in writing_fits guard w ≡ true → MayEnd guard (end_of_writing guard) w }
-        ensures {
-            let w = world_seen N.state self.old in
+        ensures { let w = world_seen N.state self.old in
             let v = world_seen N.state self.new in
-            MatchResult result (λ _. EndIsDone (writing_fits guard w) guard (end_of_writing guard) w v) (EndIsUndone (writing_fits guard w) guard w v)
-        }
+            MatchResult result (λ _. EndIsDone (writing_fits guard w) guard (end_of_writing guard) w v) (EndIsUndone (writing_fits guard w) guard w v) }
     {
         if !self.fits_writing(&guard) {
             return Err(EndFault::Foreign(guard));

@@ -48,10 +48,8 @@ impl<N: Member> World<N> {
         regions: &mut Vec<FinalRegion>,
         name: Name,
     ) -> Result<(), OutOfMemory>
-        ensures {
-            let w = world_seen N.state self.now in
-            OnOk result (regions.new.items ≡ regions.old.items ++ ends.region_line name (ends.final_bytes name w))
-        }
+        ensures { let w = world_seen N.state self.now in
+            OnOk result (regions.new.items ≡ regions.old.items ++ ends.region_line name (ends.final_bytes name w)) }
     {
         if let Some(bytes) = self.final_bytes(name) {
             let bytes = Bytes::copy_of(alloc, bytes)?;
@@ -68,10 +66,8 @@ impl<N: Member> World<N> {
         i: NodeNo,
     ) -> Result<(), OutOfMemory>
         requires { i < length self.now.nodes }
-        ensures {
-            let w = world_seen N.state self.now in
-            OnOk result (regions.new.items ≡ regions.old.items ++ ends.regions_of i 1 (w.nodes i).homes w)
-        }
+        ensures { let w = world_seen N.state self.now in
+            OnOk result (regions.new.items ≡ regions.old.items ++ ends.regions_of i 1 (w.nodes i).homes w) }
     {
         for serial in 0..self.node(i).serials() {
             self.push_region(alloc, regions, Name::new(i, serial + 1))?;

@@ -26,20 +26,14 @@ impl<N: Member> World<N> {
     /// # Errors
     ///
     /// `Spent` where there were 2^62 events, and else `OutOfMemory`. The call is handed back.
-    pub fn call(
-        &mut self,
-        i: NodeNo,
-        call: Call,
-    ) -> Result<Answer<Reading, Writing>, CallFault>
+    pub fn call(&mut self, i: NodeNo, call: Call) -> Result<Answer<Reading, Writing>, CallFault>
         requires node { i < length self.old.nodes }
         requires safe { NodesAreSafe (world_seen N.state self.old) }
         requires enabled { is_enabled (event.Call i call) (world_seen N.state self.old) ≡ true }
         requires unguarded { goes_by_guard call (verdict.verdict ((world_seen N.state self.old).nodes i) call) ≡ false }
-        ensures {
-            let w = world_seen N.state self.old in
+        ensures { let w = world_seen N.state self.old in
             let v = world_seen N.state self.new in
-            MatchResult result (StepIsDone (event.Call i call) w v) (CallIsUndone call w v)
-        }
+            MatchResult result (StepIsDone (event.Call i call) w v) (CallIsUndone call w v) }
     {
         if self.events == EVENT_LIMIT {
             return Err(CallFault::Spent(call));
@@ -63,11 +57,9 @@ impl<N: Member> World<N> {
         requires node { i < length self.old.nodes }
         requires safe { NodesAreSafe (world_seen N.state self.old) }
         requires enabled { is_enabled (event.Collect i) (world_seen N.state self.old) ≡ true }
-        ensures {
-            let w = world_seen N.state self.old in
+        ensures { let w = world_seen N.state self.old in
             let v = world_seen N.state self.new in
-            MatchResult result (StepIsDone (event.Collect i) w v) (StepIsUndone w v)
-        }
+            MatchResult result (StepIsDone (event.Collect i) w v) (StepIsUndone w v) }
     {
         if self.events == EVENT_LIMIT {
             return Err(StepFault::Spent);
@@ -92,11 +84,9 @@ impl<N: Member> World<N> {
         requires safe { NodesAreSafe (world_seen N.state self.old) }
         requires enabled { is_enabled (event.Handle i place) (world_seen N.state self.old) ≡ true }
         requires piece { let n = (world_seen N.state self.old).nodes i in TakenIsSafe n (take_out place n.inbox) }
-        ensures {
-            let w = world_seen N.state self.old in
+        ensures { let w = world_seen N.state self.old in
             let v = world_seen N.state self.new in
-            MatchResult result (λ _. EventIsDone (event.Handle i place) w v) (StepIsUndone w v)
-        }
+            MatchResult result (λ _. EventIsDone (event.Handle i place) w v) (StepIsUndone w v) }
     {
         if self.events == EVENT_LIMIT {
             return Err(StepFault::Spent);

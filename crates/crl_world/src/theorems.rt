@@ -7,5 +7,4 @@ ghost use Rattle.crl_world.specs.Choosing.{choices_by, has_some};
 /// statements.
 pub fn choices_are_those_of_the_run()
     ensures { (r : Running) (left : ℕ → Bool) → ((i : ℕ) → i < r.world.count → left i ≡ has_some (r.actors i).left) → choices_by left r.world ≡ choices r }
-{
-}
+{}

@@ -21,7 +21,7 @@ take_ask-opened-requires-clause-versions c = versions_fit (state c.args.desk.now
 
 pub open_if_served-requires-clause-room : goal.open_if_served-requires-clause-room
 open_if_served-requires-clause-room c =
-    room_after c.args.desk.now c.args.name _ _ _ (count (size_at c.args.name c.args.desk.now) + 2) c.requires.ready.room (home_is_some (state c.args.desk.now) c.args.name c.requires.meets.0.0 c.requires.meets.0.1) c.take_ask-opened.ensures.homes c.take_ask-opened.ensures.places
+    room_after c.args.desk.now c.args.name _ _ _ (count (size_at c.args.name c.args.desk.now) + 2) c.requires.ready.room c.take_ask-opened.ensures.homes c.take_ask-opened.ensures.serials c.take_ask-opened.ensures.places
     (omega (arith, c.take_ask-opened.ensures.owes, ask_debt_of _ _ (table_has_size (state c.args.desk.now) c.args.name c.requires.meets.0.0 c.requires.meets.0.1)))
 
 pub open_if_served-requires-clause-there : goal.open_if_served-requires-clause-there
@@ -30,12 +30,12 @@ open_if_served-requires-clause-there c = put_some c.args.name _ c.args.desk.now.
 pub open_if_served-requires-clause-papers : goal.open_if_served-requires-clause-papers
 open_if_served-requires-clause-papers c =
     papers_after _ c.args.name _ c.args.desk.now.homes _ c.args.kit c.requires.ready.papers (home_is_some (state c.args.desk.now) c.args.name c.requires.meets.0.0 c.requires.meets.0.1) c.take_ask-opened.ensures.homes
-    (ask_size c.args.desk.now.homes.me (record { node = c.args.from; write = c.args.write; have = c.args.have }) (table_at c.args.name c.args.desk.now.homes.homes) ∙ table_has_size (state c.args.desk.now) c.args.name c.requires.meets.0.0 c.requires.meets.0.1)
+    (ask_size _ _ (table_at c.args.name c.args.desk.now.homes.homes) ∙ table_has_size (state c.args.desk.now) c.args.name c.requires.meets.0.0 c.requires.meets.0.1)
 
 pub open_if_served-requires-clause-closed : goal.open_if_served-requires-clause-closed
 open_if_served-requires-clause-closed c = λ opened.
     closed_if_queued (state c.args.desk.now) c.args.name c.requires.meets.0.0 _ _ c.requires.safe c.requires.meets.0.1 c.requires.ready.room.parts.home (home_is_table (state c.args.desk.now) c.args.name c.requires.meets.0.0 c.requires.meets.0.1)
-    (ask_opens c.args.desk.now.homes.me (record { node = c.args.from; write = c.args.write; have = c.args.have }) (table_at c.args.name c.args.desk.now.homes.homes) (λ same. c.requires.other (same ∙ c.requires.ready.room.parts.home)) (sym c.take_ask-opened.ensures.opened ∙ opened))
+    (ask_opens _ _ (table_at c.args.name c.args.desk.now.homes.homes) (λ same. c.requires.other (same ∙ c.requires.ready.room.parts.home)) (sym c.take_ask-opened.ensures.opened ∙ opened))
 
 pub returns-clause-state : goal.returns-clause-state
 returns-clause-state c =

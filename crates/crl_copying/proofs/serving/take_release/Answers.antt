@@ -13,7 +13,7 @@ take_release-opened-requires-clause-versions c = omega (arith, versions_fit (sta
 
 pub open_if_served-requires-clause-room : goal.open_if_served-requires-clause-room
 open_if_served-requires-clause-room c =
-    room_after c.args.desk.now c.args.name _ _ _ (count (size_at c.args.name c.args.desk.now) + 2) c.requires.ready.room (home_is_some (state c.args.desk.now) c.args.name c.requires.meets.0 c.requires.meets.1) c.take_release-opened.ensures.homes c.take_release-opened.ensures.places
+    room_after c.args.desk.now c.args.name _ _ _ (count (size_at c.args.name c.args.desk.now) + 2) c.requires.ready.room c.take_release-opened.ensures.homes c.take_release-opened.ensures.serials c.take_release-opened.ensures.places
     (omega (arith, c.take_release-opened.ensures.owes))
 
 pub open_if_served-requires-clause-there : goal.open_if_served-requires-clause-there
@@ -22,12 +22,12 @@ open_if_served-requires-clause-there c = put_some c.args.name _ c.args.desk.now.
 pub open_if_served-requires-clause-papers : goal.open_if_served-requires-clause-papers
 open_if_served-requires-clause-papers c =
     papers_after _ c.args.name _ c.args.desk.now.homes _ c.args.kit c.requires.ready.papers (home_is_some (state c.args.desk.now) c.args.name c.requires.meets.0 c.requires.meets.1) c.take_release-opened.ensures.homes
-    (release_size c.args.desk.now.homes.me c.args.from c.args.version c.args.bytes (table_at c.args.name c.args.desk.now.homes.homes) ∙ table_has_size (state c.args.desk.now) c.args.name c.requires.meets.0 c.requires.meets.1)
+    (release_size _ _ _ _ (table_at c.args.name c.args.desk.now.homes.homes) ∙ table_has_size (state c.args.desk.now) c.args.name c.requires.meets.0 c.requires.meets.1)
 
 pub open_if_served-requires-clause-closed : goal.open_if_served-requires-clause-closed
 open_if_served-requires-clause-closed c = λ opened.
     closed_if_queued (state c.args.desk.now) c.args.name c.requires.meets.0 _ _ c.requires.safe c.requires.meets.1 c.requires.ready.room.parts.home (home_is_table (state c.args.desk.now) c.args.name c.requires.meets.0 c.requires.meets.1)
-    (release_opens c.args.desk.now.homes.me c.args.from c.args.version c.args.bytes (table_at c.args.name c.args.desk.now.homes.homes) (sym c.take_release-opened.ensures.opened ∙ opened))
+    (release_opens _ _ _ _ (table_at c.args.name c.args.desk.now.homes.homes) (sym c.take_release-opened.ensures.opened ∙ opened))
 
 pub returns-clause-state : goal.returns-clause-state
 returns-clause-state c =

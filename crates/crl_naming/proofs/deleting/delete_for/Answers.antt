@@ -3,7 +3,7 @@ use Rattle.crl_protocol.specs.Calls.{is_gone}
 use Rattle.crl_protocol.specs.Lifetimes.{Lifetime}
 use Rattle.crl_model.specs.declared.stage.Stage.{Stage}
 use Rattle.crl_desk.specs.Desks.{state}
-use Rattle.crl_naming.specs.Lives.{begun}
+use Rattle.crl_naming.specs.Lives.{lifetime_in_delete}
 use Rattle.crl_naming.proofs.Deletes.{asked_waits}
 use Rattle.crl_naming.proofs.deleting.delete_for.Goals as goal
 
@@ -11,5 +11,5 @@ pub returns-else-is_gone-clause-state : goal.returns-else-is_gone-clause-state
 returns-else-is_gone-clause-state c =
     let n = state c.args.desk.now in
     let staged = c.stage_of.ensures ∙ ap (λ (l : Lifetime). l.stage) c.begin.ensures.lifetime in
-    asked_waits c.args.at c.args.from c.args.name (begun c.args.from c.args.name n) n (state c.begin.new.desk) (state c.tell_askers.new.desk)
+    asked_waits c.args.at c.args.from c.args.name (lifetime_in_delete c.args.from c.args.name n) n (state c.begin.new.desk) (state c.tell_askers.new.desk)
     (sym (c.is_gone.ensures ∙ ap (λ (s : Stage). is_gone s) staged) ∙ c.if-is_gone.false) c.begin.ensures.state c.begin.ensures.lifetime c.tell_askers.ensures.state

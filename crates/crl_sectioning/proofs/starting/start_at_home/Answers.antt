@@ -3,7 +3,7 @@ use Rattle.std.specs.Prelude.{IsSome}
 use Rattle.crl_table.specs.Tables.{table_of}
 use Rattle.crl_home.specs.HomesState.{table_or, table_at}
 use Rattle.crl_desk.specs.Desks.{state, size_at}
-use Rattle.crl_sectioning.specs.Starts.{MayOpen}
+use Rattle.crl_sectioning.specs.Starts.{SectionMayOpen}
 use Rattle.crl_sectioning.proofs.Begins.{papers_fit}
 use Rattle.crl_sectioning.proofs.HomeStarts.{own_is_there, own_size, start_is_put, start_keeps_size, home_opens, home_answers}
 use Rattle.crl_sectioning.proofs.starting.start_at_home.Goals as goal
@@ -20,7 +20,7 @@ open_at_home-requires-clause-papers c =
 
 pub open_at_home-requires-clause-may : goal.open_at_home-requires-clause-may
 open_at_home-requires-clause-may c =
-    subst (λ size. MayOpen c.args.write size (table_of c.args.desk.now.sections.rows c.args.name))
+    subst (λ size. SectionMayOpen c.args.write size (table_of c.args.desk.now.sections.rows c.args.name))
     (sym (start_keeps_size c.args.name c.args.write c.args.desk.now.homes c.start.new.self (own_is_there c.args.name (state c.args.desk.now) _ c.requires.mine c.requires.there) c.start.ensures.homes)) c.requires.lets.may
 
 pub returns-then-start-clause-state : goal.returns-then-start-clause-state

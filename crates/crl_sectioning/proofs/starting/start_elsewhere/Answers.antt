@@ -4,7 +4,7 @@ use Rattle.crl_protocol.specs.Sectioning.{copy_bytes}
 use Rattle.crl_table.specs.Tables.{table_of}
 use Rattle.crl_remote.specs.RemotesState.{row_at}
 use Rattle.crl_desk.specs.Desks.{state, size_at}
-use Rattle.crl_sectioning.specs.Starts.{MayOpen}
+use Rattle.crl_sectioning.specs.Starts.{SectionMayOpen}
 use Rattle.crl_sectioning.proofs.Begins.{papers_fit}
 use Rattle.crl_sectioning.proofs.RemoteStarts.{away_size, row_after_start, start_keeps_size, start_has_copy, remote_opens, remote_answers}
 use Rattle.crl_sectioning.proofs.starting.start_elsewhere.Goals as goal
@@ -20,7 +20,7 @@ open_elsewhere-requires-clause-papers c =
 
 pub open_elsewhere-requires-clause-may : goal.open_elsewhere-requires-clause-may
 open_elsewhere-requires-clause-may c =
-    subst (λ size. MayOpen c.args.write size (table_of c.args.desk.now.sections.rows c.args.name))
+    subst (λ size. SectionMayOpen c.args.write size (table_of c.args.desk.now.sections.rows c.args.name))
     (sym (start_keeps_size c.args.name c.args.write c.args.desk.now.remotes c.start.new.self c.start.ensures.row)) c.requires.lets.may
 
 pub returns-then-start-clause-state : goal.returns-then-start-clause-state

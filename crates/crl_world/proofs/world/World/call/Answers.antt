@@ -14,7 +14,7 @@ call-requires-clause-may g c =
 pub invariant_of-self : goal.invariant_of-self
 invariant_of-self g c =
     let b : Stands g.N.Member.state c.self.inside.nodes.items c.self.inside.events c.self.inside.capacity c.args.i c.index_mut.result.now c.args.self.now =
-        record { is = c.self.view_is; below = c.requires.node; here = c.index_mut.ensures.value; kept = c.self.invariant } in
+    record { is = c.self.view_is; below = c.requires.node; here = c.index_mut.ensures.value; kept = c.self.invariant } in
     call_kept b c.call.new.self c.args.call c.in-Ok.answer c.requires.enabled (has_room b c.if-self-eq-EVENT_LIMIT.false) c.in-Ok.ensures
 
 pub invariant_of-self-in-Err : goal.invariant_of-self-in-Err
@@ -24,11 +24,11 @@ invariant_of-self-in-Err g c =
 pub returns-in-Ok : goal.returns-in-Ok
 returns-in-Ok g c =
     let b : Stands g.N.Member.state c.self.inside.nodes.items c.self.inside.events c.self.inside.capacity c.args.i c.index_mut.result.now c.args.self.now =
-        record { is = c.self.view_is; below = c.requires.node; here = c.index_mut.ensures.value; kept = c.self.invariant } in
+    record { is = c.self.view_is; below = c.requires.node; here = c.index_mut.ensures.value; kept = c.self.invariant } in
     call_done b c.call.new.self c.args.call c.in-Ok.answer (has_room b c.if-self-eq-EVENT_LIMIT.false) c.in-Ok.ensures
 
 pub returns-in-Err : goal.returns-in-Err
 returns-in-Err g c =
     let b : Stands g.N.Member.state c.self.inside.nodes.items c.self.inside.events c.self.inside.capacity c.args.i c.index_mut.result.now c.args.self.now =
-        record { is = c.self.view_is; below = c.requires.node; here = c.index_mut.ensures.value; kept = c.self.invariant } in
+    record { is = c.self.view_is; below = c.requires.node; here = c.index_mut.ensures.value; kept = c.self.invariant } in
     (c.in-Err.ensures.call, not_done b c.call.new.self c.in-Err.ensures.node (has_room b c.if-self-eq-EVENT_LIMIT.false))

@@ -1,4 +1,4 @@
-use Rattle.std.proofs.Common.{◌≡◌, ◌∙◌, ◌<◌, ap, sym, subst, length, zero-add, Some}
+use Rattle.std.proofs.Common.{◌∙◌, ◌<◌, ap, subst, length, zero-add, Some}
 use Rattle.std.specs.Prelude.{slice_get}
 use Rattle.crl_model.specs.declared.choice.Choice.TheVariants as choice
 use Rattle.crl_world.specs.Choosing.{choices_in, left_in}

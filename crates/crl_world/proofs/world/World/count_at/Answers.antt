@@ -1,4 +1,4 @@
-use Rattle.std.proofs.Common.{◌≡◌, ◌∙◌, ap, sym, length}
+use Rattle.std.proofs.Common.{◌∙◌, ap, sym, length}
 use Rattle.crl_protocol.specs.Node.{Node}
 use Rattle.crl_world.specs.Choosing.{choices_in, left_in}
 use Rattle.crl_world.specs.Seen.{world_seen}

@@ -1,4 +1,4 @@
-use Rattle.std.proofs.Common.{◌≡◌, ◌∙◌, ◌<◌, ◌≤◌, ◌+◌, ◌*◌, ◌^◌, ap, sym, arith, refl, length}
+use Rattle.std.proofs.Common.{◌≡◌, ◌∙◌, ap, sym, arith, refl, length}
 use Rattle.std.proofs.lemmas.List.{length-map}
 use Rattle.crl_world.specs.Choosing.{choices_in, row_from, left_in}
 use Rattle.crl_world.specs.Seen.{world_seen}

@@ -1,4 +1,4 @@
-use Rattle.std.proofs.Common.{◌≡◌, ◌<◌, ◌∙◌, ap, sym, subst, Some, None, List, ℕ}
+use Rattle.std.proofs.Common.{◌≡◌, ◌<◌, ◌∙◌, ap, sym, subst, Some, None}
 use Rattle.std.proofs.lemmas.List.{length-map}
 use Rattle.crl_protocol.specs.Node.{Node}
 use Rattle.crl_protocol.specs.Ends.{exclusive_bytes, copy_of}

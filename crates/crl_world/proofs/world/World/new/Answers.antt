@@ -1,4 +1,4 @@
-use Rattle.std.proofs.Common.{◌<◌, ◌≤◌, arith, map}
+use Rattle.std.proofs.Common.{arith, map}
 use Rattle.crl_world.specs.Starting.{AreSomeNodes}
 use Rattle.crl_world.proofs.Fresh.{is_started, is_kept}
 use Rattle.crl_world.proofs.world.World.new.Goals as goal

@@ -1,4 +1,4 @@
-use Rattle.std.proofs.Common.{◌≡◌, ◌<◌, ◌+◌, ◌++◌, ◌∙◌, ap, subst, length}
+use Rattle.std.proofs.Common.{◌<◌, ◌++◌, ◌∙◌, ap, subst, length}
 use Rattle.crl_protocol.specs.Node.{Node}
 use Rattle.crl_protocol.specs.Ends.{final_bytes, region_line, regions_of}
 use Rattle.crl_world.specs.Seen.{world_seen}

@@ -1,0 +1,7 @@
+mod ActorLemmas
+mod Fitting
+mod Heard
+mod Holding
+mod Likeness
+mod Shown
+mod Stages

@@ -1,0 +1,3 @@
+//! The guards that nodes are given.
+
+pub use crl_guard::{Reading, Writing};

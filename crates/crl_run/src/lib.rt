@@ -1,0 +1,13 @@
+//! The run of a script under an order of its steps.
+#![tactic(auto)]
+
+mod act;
+pub mod actors;
+mod guards;
+mod held;
+mod player;
+
+pub use act::Act;
+pub use guards::{Reading, Writing};
+pub use held::Held;
+pub use player::Player;
