@@ -1,3 +1,5 @@
 mod Concludes
+mod Frames
 mod Keeping
+mod Receives
 mod Taking

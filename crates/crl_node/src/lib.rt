@@ -3,6 +3,12 @@
 
 mod carriage;
 mod concluding;
+mod copies;
+mod gathering;
+mod handling;
+mod hearing;
+mod kits;
+mod names;
 mod node;
 mod showing;
 
