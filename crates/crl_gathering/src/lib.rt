@@ -8,5 +8,5 @@ mod tally;
 #[cfg(test)]
 mod tests;
 
-pub use fold::{copy_fold, fold_len};
+pub use fold::{copy_fold, copy_part, fold_len, part_len};
 pub use round::Round;

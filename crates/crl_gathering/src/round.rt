@@ -1,5 +1,5 @@
 //! The round that is gathered.
-ghost use Rattle.std.specs.Prelude.{◌≡◌, ◌+◌, ◌<◌, ◌≤◌, ◌^◌, IsTrue, IfOk, IfSome, Some, length};
+ghost use Rattle.std.specs.Prelude.{◌≡◌, ◌+◌, ◌<◌, ◌≤◌, ◌^◌, IfOk, IfSome, Some, length};
 ghost use Rattle.crl_model.specs.declared.collective.Part.{Part};
 ghost use Rattle.crl_model.specs.FoldOf.{fold_of};
 ghost use Rattle.crl_protocol.specs.Gathering.{first_round, awaits};
@@ -117,7 +117,6 @@ impl Round {
     /// bytes of a broadcast are moved out of their part and not copied.
     pub fn contribute(&mut self, node: NodeNo, part: Part) -> Option<Fold>
         requires node { node < self.old.nodes }
-        requires awaited { IsTrue (awaits node (gathering_of self.old)) }
         requires number { self.old.round + 1 < 2 ^ 64 }
         ensures gathering { gathering_of self.new ≡ (round_step node part self.old).gathering }
         ensures fold { result ≡ (round_step node part self.old).fold }

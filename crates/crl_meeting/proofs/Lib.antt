@@ -1,0 +1,4 @@
+mod Rooms
+mod Messages
+mod Comes
+mod Tells

@@ -1,0 +1,2 @@
+pub mod PapersState
+pub mod Meetings
