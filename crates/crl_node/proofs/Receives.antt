@@ -67,3 +67,6 @@ pub handled_law : (at place : ℕ) (n : Node) (p : Piece) (rest : List Piece) (m
 handled_law at place n p rest m last taken acts ends =
     ends ∙ (concluded_is at (event.Handle n.me place) (receives p (record n { inbox = rest })) m n.outbox acts (receives_keeps p (record n { inbox = rest })).1
     ∙ sym (ap (λ o. after_taken at (event.Handle n.me place) o n) taken))
+
+pub few_same : (n m : Node) → m ≡ n → n.posted ≤ length n.notes * 2 ^ 64 → m.posted ≤ length m.notes * 2 ^ 64
+few_same n m same few = subst (λ (x : Node). x.posted ≤ length x.notes * 2 ^ 64) (sym same) few

@@ -67,7 +67,7 @@ pub(crate) fn hear_ask(
 {
     match kit {
         HandleKit::Section(kit) => take_ask(desk, at, from, name, write, have, kit),
-        HandleKit::Room | HandleKit::Sheets(_) => unreachable!(),
+        _ => unreachable!(),
     }
 }
 
@@ -89,7 +89,7 @@ pub(crate) fn hear_grant(
 {
     match kit {
         HandleKit::Section(kit) => take_grant(desk, at, from, name, version, granted, kit),
-        HandleKit::Room | HandleKit::Sheets(_) => unreachable!(),
+        _ => unreachable!(),
     }
 }
 
@@ -112,7 +112,7 @@ pub(crate) fn hear_return(
 {
     match kit {
         HandleKit::Section(kit) => take_return(desk, at, from, name, version, bytes, kit),
-        HandleKit::Room | HandleKit::Sheets(_) => unreachable!(),
+        _ => unreachable!(),
     }
 }
 
@@ -135,7 +135,7 @@ pub(crate) fn hear_release(
 {
     match kit {
         HandleKit::Section(kit) => take_release(desk, at, from, name, version, bytes, kit),
-        HandleKit::Room | HandleKit::Sheets(_) => unreachable!(),
+        _ => unreachable!(),
     }
 }
 
@@ -154,7 +154,7 @@ pub(crate) fn hear_recall(
 {
     match kit {
         HandleKit::Sheets(sheets) => take_recall(desk, at, from, name, version, sheets),
-        HandleKit::Room | HandleKit::Section(_) => unreachable!(),
+        _ => unreachable!(),
     }
 }
 
@@ -173,6 +173,6 @@ pub(crate) fn hear_yield(
 {
     match kit {
         HandleKit::Sheets(sheets) => take_yield(desk, at, from, name, version, sheets),
-        HandleKit::Room | HandleKit::Section(_) => unreachable!(),
+        _ => unreachable!(),
     }
 }

@@ -8,7 +8,7 @@ ghost use Rattle.crl_parcels.specs.ParcelKeys.{key_of_parcel, load_named};
 ghost use Rattle.crl_parcels.specs.ParcelsState.{parcels_of, sizes_of};
 ghost use Rattle.crl_parcels.specs.PieceComes.{IsReadyFor, IsOfSize};
 ghost use Rattle.crl_desk.specs.Desks.{state, acted, HasRoom};
-ghost use Rattle.crl_node.specs.Handling.{IsReadyToHear, IsReadyToGather};
+ghost use Rattle.crl_node.specs.Handling.{IsReadyToHear, IsReadyToGather, IsWhole};
 
 use crate::hearing::hear;
 use crate::kits::HandleKit;
@@ -114,12 +114,12 @@ fn ready_first(
     Ok(Some(blank))
 }
 
-/// The piece is a whole message without bytes of a region. It comes.
+/// The piece is a whole message. It comes.
 pub(crate) fn hear_whole(desk: &mut Desk, at: u64, piece: Piece, kit: HandleKit)
     requires safe { IsSafe (state desk.old) }
     requires piece { PieceIsSafe (state desk.old) piece }
-    requires key { key_of piece.message ≡ None }
-    requires ready { IsReadyToHear piece.message.kind kit desk.old }
+    requires whole { IsWhole (state desk.old) piece }
+    requires ready { IsReadyToHear piece.message.sender piece.message.kind kit desk.old }
     ensures state { state desk.new ≡ acted at (receives piece (state desk.old)) }
     ensures room { HasRoom 0 0 1 desk.new }
 {
@@ -141,7 +141,7 @@ pub(crate) fn hear_piece(
     requires safe { IsSafe (state desk.old) }
     requires piece { PieceIsSafe (state desk.old) piece }
     requires key { key_of piece.message ≡ Some (key_of_parcel key) }
-    requires ready { IsReadyToHear piece.message.kind kit desk.old }
+    requires ready { IsReadyToHear piece.message.sender piece.message.kind kit desk.old }
     requires parcel { IsReadyToGather (key_of_parcel key) size blank desk.old }
     ensures state { state desk.new ≡ acted at (receives piece (state desk.old)) }
     ensures room { HasRoom 0 0 1 desk.new }

@@ -1,11 +1,12 @@
 //! A piece of the inbox is handled.
-ghost use Rattle.std.specs.Prelude.{◌≡◌, ◌<◌, ◌≤◌, Some, None, IfOk, OnOk, OnErr, length};
+ghost use Rattle.std.specs.Prelude.{◌≡◌, ◌<◌, ◌≤◌, Some, IfOk, OnOk, OnErr, length};
 ghost use Rattle.crl_protocol.specs.Places.{take_out};
+ghost use Rattle.crl_protocol.specs.Receiving.{size_for};
 ghost use Rattle.crl_safety.specs.Safety.{IsSafe};
 ghost use Rattle.crl_member.specs.Members.{node_after_handle, TakenIsSafe};
-ghost use Rattle.crl_parcels.specs.ParcelKeys.{key_of_parcel, key_of_some};
-ghost use Rattle.crl_desk.specs.Desks.{state, HasRoom};
-ghost use Rattle.crl_node.specs.Handling.{piece_taken, key_taken, IsReadyToTake, IsReadyToGather};
+ghost use Rattle.crl_parcels.specs.ParcelKeys.{key_of_parcel, load_named};
+ghost use Rattle.crl_desk.specs.Desks.{state};
+ghost use Rattle.crl_node.specs.Handling.{piece_taken, key_taken, IsReadyToTake, IsReadyToGather, IsWholeTaken};
 ghost use Rattle.crl_node.specs.Nodes.{IsNode};
 
 use crate::concluding::conclude;
@@ -20,6 +21,7 @@ use crl_model::piece::Piece;
 use crl_outbox::Mailbox;
 use crl_parcels::{ParcelKey, key_of_message};
 use crl_pieces::gather::Gather;
+use crl_pieces::parts::count;
 use std::mem;
 
 impl Node {
@@ -65,25 +67,27 @@ fn piece_at(inbox: &Mailbox, place: usize) -> &Piece
 
 /// What the message of the piece at this place takes.
 fn ready_at(desk: &mut Desk, place: usize) -> Result<HandleKit, OutOfMemory>
-    requires room { HasRoom 0 0 0 desk.old }
+    requires node { IsNode desk.old }
     requires there { place < length desk.old.inbox.list }
+    requires piece { TakenIsSafe (state desk.old) (take_out place desk.old.inbox.list) }
     ensures state { state desk.new ≡ state desk.old }
     ensures kit { IfOk result (λ kit. IsReadyToTake (piece_taken (take_out place desk.new.inbox.list)) kit desk.new) }
-    ensures room { HasRoom 0 0 0 desk.new }
+    ensures node { IsNode desk.new }
 {
     let inbox = mem::replace(&mut desk.inbox, Mailbox::new(desk.alloc));
-    let kit = ready_to_hear(desk, &piece_at(&inbox, place).message.kind);
+    let message = &piece_at(&inbox, place).message;
+    let kit = ready_to_hear(desk, message.sender, &message.kind);
     desk.inbox = inbox;
     kit
 }
 
-/// The piece is a whole message without bytes of a region.
+/// The piece is a whole message.
 fn handle_whole(desk: &mut Desk, at: u64, place: usize) -> Result<(), OutOfMemory>
     requires node { IsNode desk.old }
     requires safe { IsSafe (state desk.old) }
     requires there { place < length desk.old.inbox.list }
     requires piece { TakenIsSafe (state desk.old) (take_out place desk.old.inbox.list) }
-    requires key { key_taken (piece_taken (take_out place desk.old.inbox.list)) ≡ None }
+    requires whole { IsWholeTaken (state desk.old) (piece_taken (take_out place desk.old.inbox.list)) }
     ensures ok { OnOk result (state desk.new ≡ node_after_handle at place (state desk.old)) }
     ensures err { OnErr result (state desk.new ≡ state desk.old) }
     ensures node { IsNode desk.new }
@@ -99,7 +103,7 @@ fn take_whole(desk: &mut Desk, at: u64, place: usize, kit: HandleKit)
     requires safe { IsSafe (state desk.old) }
     requires there { place < length desk.old.inbox.list }
     requires piece { TakenIsSafe (state desk.old) (take_out place desk.old.inbox.list) }
-    requires key { key_taken (piece_taken (take_out place desk.old.inbox.list)) ≡ None }
+    requires whole { IsWholeTaken (state desk.old) (piece_taken (take_out place desk.old.inbox.list)) }
     requires ready { IsReadyToTake (piece_taken (take_out place desk.old.inbox.list)) kit desk.old }
     ensures state { state desk.new ≡ node_after_handle at place (state desk.old) }
     ensures node { IsNode desk.new }
@@ -123,6 +127,30 @@ fn handle_part(desk: &mut Desk, at: u64, place: usize, key: ParcelKey) -> Result
     ensures node { IsNode desk.new }
 {
     let size = known_size(desk, key.load, key.name).ok_or(OutOfMemory)?;
+    if count(size) == 1 && !desk.parcels.has(key) {
+        return handle_whole(desk, at, place);
+    }
+    handle_gathered(desk, at, place, key, size)
+}
+
+/// The piece is one of a message of so many bytes, which is gathered.
+fn handle_gathered(
+    desk: &mut Desk,
+    at: u64,
+    place: usize,
+    key: ParcelKey,
+    size: u32,
+) -> Result<(), OutOfMemory>
+    requires node { IsNode desk.old }
+    requires safe { IsSafe (state desk.old) }
+    requires there { place < length desk.old.inbox.list }
+    requires piece { TakenIsSafe (state desk.old) (take_out place desk.old.inbox.list) }
+    requires key { key_taken (piece_taken (take_out place desk.old.inbox.list)) ≡ Some (key_of_parcel key) }
+    requires known { size_for (load_named key.load) key.name (state desk.old) ≡ Some size }
+    ensures ok { OnOk result (state desk.new ≡ node_after_handle at place (state desk.old)) }
+    ensures err { OnErr result (state desk.new ≡ state desk.old) }
+    ensures node { IsNode desk.new }
+{
     let kit = ready_at(desk, place)?;
     let blank = ready_parcel(&mut desk.parcels, desk.alloc, key, size)?;
     take_part(desk, at, place, key, size, blank, kit);

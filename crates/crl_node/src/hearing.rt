@@ -14,6 +14,7 @@ use crate::names::{
     hear_purge, ready_to_be_told, ready_to_delete, ready_to_end, ready_to_inform, ready_to_map,
     ready_to_purge,
 };
+use crate::rounds::{hear_part, hear_result, ready_to_end_round, ready_to_gather};
 use crl_desk::Desk;
 use crl_model::message::Kind;
 use crl_model::{NodeNo, OutOfMemory};
@@ -24,10 +25,15 @@ use crl_naming::{take_delete_ask, take_delete_told, take_info, take_info_ask, ta
 /// # Errors
 ///
 /// `OutOfMemory`.
-pub(crate) fn ready_to_hear(desk: &mut Desk, kind: &Kind) -> Result<HandleKit, OutOfMemory>
+pub(crate) fn ready_to_hear(
+    desk: &mut Desk,
+    from: NodeNo,
+    kind: &Kind,
+) -> Result<HandleKit, OutOfMemory>
     requires room { HasRoom 0 0 0 desk.old }
+    requires from { from < desk.old.nodes }
     ensures state { state desk.new ≡ state desk.old }
-    ensures kit { IfOk result (λ kit. IsReadyToHear kind.now kit desk.new) }
+    ensures kit { IfOk result (λ kit. IsReadyToHear from kind.now kit desk.new) }
     ensures room { HasRoom 0 0 0 desk.new }
 {
     match kind {
@@ -41,8 +47,8 @@ pub(crate) fn ready_to_hear(desk: &mut Desk, kind: &Kind) -> Result<HandleKit, O
         Kind::DeleteIs { .. } => ready_to_be_told(desk),
         Kind::Purge { name } => ready_to_purge(desk, *name),
         Kind::Purged { .. } => ready_to_end(desk),
-        Kind::Come { .. } => Err(OutOfMemory),
-        Kind::Result { .. } => Err(OutOfMemory),
+        Kind::Come { part, .. } => ready_to_gather(desk, from, part),
+        Kind::Result { fold, .. } => ready_to_end_round(desk, fold),
         Kind::Yield { name, .. } => ready_call_back(desk, *name),
         Kind::Release { name, .. } => ready_open(desk, *name),
     }
@@ -51,7 +57,7 @@ pub(crate) fn ready_to_hear(desk: &mut Desk, kind: &Kind) -> Result<HandleKit, O
 /// The message comes.
 #[tactic(auto, unfolding(crl_protocol::specs::Handlers::node_handles))]
 pub(crate) fn hear(desk: &mut Desk, at: u64, from: NodeNo, kind: Kind, kit: HandleKit)
-    requires ready { IsReadyToHear kind kit desk.old }
+    requires ready { IsReadyToHear from kind kit desk.old }
     requires safe { IsSafe (state desk.old) }
     requires from { from < desk.old.nodes }
     requires other { from ≢ desk.old.me }
@@ -78,8 +84,8 @@ pub(crate) fn hear(desk: &mut Desk, at: u64, from: NodeNo, kind: Kind, kit: Hand
         Kind::DeleteIs { name, told } => take_delete_told(desk, at, name, told),
         Kind::Purge { name } => hear_purge(desk, at, from, name, kit),
         Kind::Purged { name } => take_purged(desk, at, from, name),
-        Kind::Come { .. } => unreachable!(),
-        Kind::Result { .. } => unreachable!(),
+        Kind::Come { round, part } => hear_part(desk, at, from, round, part, kit),
+        Kind::Result { round, fold } => hear_result(desk, at, from, round, fold, kit),
         Kind::Yield { name, version } => hear_yield(desk, at, from, name, version, kit),
         Kind::Release {
             name,

@@ -10,6 +10,7 @@ mod hearing;
 mod kits;
 mod names;
 mod node;
+mod rounds;
 mod showing;
 
 pub use node::Node;

@@ -114,6 +114,6 @@ pub(crate) fn hear_purge(desk: &mut Desk, at: u64, from: NodeNo, name: Name, kit
 {
     match kit {
         HandleKit::Sheets(sheets) => take_purge(desk, at, from, name, sheets),
-        HandleKit::Room | HandleKit::Section(_) => unreachable!(),
+        _ => unreachable!(),
     }
 }
