@@ -12,6 +12,7 @@ use Rattle.crl_protocol.specs.Node.{Node}
 use Rattle.crl_safety.specs.Safety.{PieceIsSafe}
 use Rattle.crl_member.specs.Members.{TakenIsSafe}
 use Rattle.crl_desk.specs.declared.desk.Desk.{Desk}
+use Rattle.crl_desk.specs.Desks.{state}
 use Rattle.crl_node.specs.declared.kits.HandleKit.{HandleKit}
 use Rattle.crl_node.specs.Handling.{piece_taken, IsReadyToTake, IsReadyToHear}
 use Rattle.crl_node.proofs.Frames.{hear_frame}
@@ -45,7 +46,13 @@ taken_safe n (Some t) p e h = let same : t.taken ≡ p = cc in subst (PieceIsSaf
 pub taken_ready : (p : Piece) (o : Option Piece) (kit : HandleKit) (d : Desk) → o ≡ Some p → IsReadyToTake o kit d → IsReadyToHear p.message.sender p.message.kind kit d
 taken_ready p o kit d e h = subst (λ (o : Option Piece). IsReadyToTake o kit d) e h
 
+-- the inbox was off the desk while the message was readied
 pub ready_law : {E : Type 0} (o : Option Piece) (p : Piece) (d : Desk) (inbox : MailboxState) (result : Result HandleKit E) → Some p ≡ o
     → IfOk result (λ kit. IsReadyToHear p.message.sender p.message.kind kit d) → IfOk result (λ kit. IsReadyToTake o kit (record d { inbox = inbox }))
 ready_law o p d inbox (Ok kit) e h = subst (λ (o : Option Piece). IsReadyToTake o kit (record d { inbox = inbox })) e (hear_frame d inbox d.parcels p.message.sender p.message.kind kit h)
 ready_law o p d inbox (Err why) e h = tt
+
+-- the node as it was, once the inbox is back
+pub back_again : (d new : Desk) (empty : List Piece) (inbox : MailboxState) → inbox ≡ d.inbox → state new ≡ record (state d) { inbox = empty } → state (record new { inbox = inbox }) ≡ state d
+back_again d new empty inbox inbox_is same =
+    ap (λ (i : MailboxState). record (state new) { inbox = i.list }) inbox_is ∙ ap (λ (n : Node). record n { inbox = d.inbox.list }) same

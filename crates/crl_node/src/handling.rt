@@ -65,7 +65,7 @@ fn piece_at(inbox: &Mailbox, place: usize) -> &Piece
     inbox.piece(place)
 }
 
-/// What the message of the piece at this place takes.
+/// What the message of the piece at this place takes. It stays there: the inbox is off the desk meanwhile.
 fn ready_at(desk: &mut Desk, place: usize) -> Result<HandleKit, OutOfMemory>
     requires node { IsNode desk.old }
     requires there { place < length desk.old.inbox.list }
@@ -115,7 +115,7 @@ fn take_whole(desk: &mut Desk, at: u64, place: usize, kit: HandleKit)
     conclude(desk, at, Event::Handle { node, place }, before);
 }
 
-/// The piece is one of a message with bytes of a region, which has this key.
+/// The piece is one of a message with bytes of a region, which has this key. In a run the node knows the size.
 fn handle_part(desk: &mut Desk, at: u64, place: usize, key: ParcelKey) -> Result<(), OutOfMemory>
     requires node { IsNode desk.old }
     requires safe { IsSafe (state desk.old) }
@@ -126,7 +126,30 @@ fn handle_part(desk: &mut Desk, at: u64, place: usize, key: ParcelKey) -> Result
     ensures err { OnErr result (state desk.new ≡ state desk.old) }
     ensures node { IsNode desk.new }
 {
-    let size = known_size(desk, key.load, key.name).ok_or(OutOfMemory)?;
+    match known_size(desk, key.load, key.name) {
+        Some(size) => handle_sized(desk, at, place, key, size),
+        None => Err(OutOfMemory),
+    }
+}
+
+/// The same, and the message has so many bytes. If they are one piece it is the whole message.
+fn handle_sized(
+    desk: &mut Desk,
+    at: u64,
+    place: usize,
+    key: ParcelKey,
+    size: u32,
+) -> Result<(), OutOfMemory>
+    requires node { IsNode desk.old }
+    requires safe { IsSafe (state desk.old) }
+    requires there { place < length desk.old.inbox.list }
+    requires piece { TakenIsSafe (state desk.old) (take_out place desk.old.inbox.list) }
+    requires key { key_taken (piece_taken (take_out place desk.old.inbox.list)) ≡ Some (key_of_parcel key) }
+    requires known { size_for (load_named key.load) key.name (state desk.old) ≡ Some size }
+    ensures ok { OnOk result (state desk.new ≡ node_after_handle at place (state desk.old)) }
+    ensures err { OnErr result (state desk.new ≡ state desk.old) }
+    ensures node { IsNode desk.new }
+{
     if count(size) == 1 && !desk.parcels.has(key) {
         return handle_whole(desk, at, place);
     }

@@ -22,10 +22,12 @@ hear_whole-requires-clause-ready c =
     hear_frame c.args.desk.now _ c.args.desk.now.parcels c.take-piece.result.message.sender c.take-piece.result.message.kind c.args.kit (taken_ready c.take-piece.result _ c.args.kit c.args.desk.now (ap piece_taken c.take-piece.ensures.taken) c.requires.ready)
 
 pub conclude-requires-clause-before : goal.conclude-requires-clause-before
-conclude-requires-clause-before c = before_after c.args.at c.take-piece.result (record (state c.args.desk.now) { inbox = c.take-piece.new.self.list }) (state c.hear_whole.new.desk) c.hear_whole.ensures.state
+conclude-requires-clause-before c =
+    rw c.len-before.ensures (before_after c.args.at c.take-piece.result (record (state c.args.desk.now) { inbox = c.take-piece.new.self.list }) (state c.hear_whole.new.desk) c.hear_whole.ensures.state)
 
 pub conclude-requires-clause-few : goal.conclude-requires-clause-few
 conclude-requires-clause-few c = few_after c.args.at c.take-piece.result (record (state c.args.desk.now) { inbox = c.take-piece.new.self.list }) (state c.hear_whole.new.desk) c.hear_whole.ensures.state c.requires.node.few
 
 pub returns-clause-state : goal.returns-clause-state
-returns-clause-state c = handled_law c.args.at c.args.place (state c.args.desk.now) c.take-piece.result c.take-piece.new.self.list (state c.hear_whole.new.desk) _ c.take-piece.ensures.taken c.hear_whole.ensures.state c.conclude.ensures.state
+returns-clause-state c =
+    handled_law c.args.at c.args.place (state c.args.desk.now) c.take-piece.result c.take-piece.new.self.list (state c.hear_whole.new.desk) _ c.take-piece.ensures.taken c.hear_whole.ensures.state (rw c.len-before.ensures at c.conclude.ensures.state)
