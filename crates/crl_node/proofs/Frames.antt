@@ -1,5 +1,5 @@
 -- What is ready, and what is safe, reads neither the inbox nor the pieces that came of messages of which some are missing.
-use Rattle.std.proofs.Common.{◌≡◌, ◌∙◌, refl, sym, ap, subst, ℕ, List, Bool, true}
+use Rattle.std.proofs.Common.{◌≡◌, ◌∙◌, refl, sym, ap, ℕ, List}
 use Rattle.std.specs.declared.option.Option.{Option}
 use Rattle.std.specs.declared.option.Option.TheVariants.{None, Some}
 use Rattle.crl_model.specs.declared.name.Name.{Name}
@@ -17,7 +17,6 @@ use Rattle.crl_protocol.specs.Receiving.{size_for}
 use Rattle.crl_protocol.specs.Parcels.{Piece, PartsGathered, Load, OfGrant, OfReturn, OfRelease}
 use Rattle.crl_parcels.specs.ParcelsState.{ParcelsState, parcels_of}
 use Rattle.crl_safety.specs.Safety.{IsSafe, HomeIsSafe, RemoteIsSafe, BytesAreSafe, MessageIsSafe, PieceIsSafe}
-use Rattle.crl_safety.specs.Tests.{PieceFits}
 use Rattle.crl_desk.specs.declared.desk.Desk.{Desk}
 use Rattle.crl_desk.specs.Desks.{HasRoom, state}
 use Rattle.crl_table.specs.Tables.{table_of}

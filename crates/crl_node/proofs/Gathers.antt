@@ -1,5 +1,5 @@
 -- A piece comes of a message with bytes of a region: what is gathered, and what the node does with the whole.
-use Rattle.std.proofs.Common.{◌≡◌, ◌∙◌, ℕ, ◌≤◌, Bool, true, false, if◌then◌else◌, List, append-nil, refl, sym, ap, subst, arith, length}
+use Rattle.std.proofs.Common.{◌≡◌, ◌∙◌, ℕ, Bool, true, false, if◌then◌else◌, List, append-nil, refl, sym, ap, subst, arith, length}
 use Rattle.std.specs.declared.option.Option.{Option}
 use Rattle.std.specs.declared.option.Option.TheVariants.{None, Some}
 use Rattle.crl_model.specs.declared.name.Name.{Name}
@@ -154,5 +154,5 @@ pub part_law : (n : Node) (p : Piece) (key : Key) (size : ℕ) (part : List ℕ)
     → last ≡ acted at (receives p n)
 part_law n p key size part at parcels last e f part_is whole known parcels_are last_is =
     let open_yet : is_complete (slots_with p (n.parcels key)) ≡ false =
-          whole_none (is_complete (slots_with p (n.parcels key))) (joined (slots_with p (n.parcels key))) (ap whole_of (sym (slots_same n p key size part f part_is)) ∙ whole) in
+    whole_none (is_complete (slots_with p (n.parcels key))) (joined (slots_with p (n.parcels key))) (ap whole_of (sym (slots_same n p key size part f part_is)) ∙ whole) in
     last_is ∙ rw parcels_are (rw (slots_same n p key size part f part_is) (rw (gathers_if n p key size e known f) (rw open_yet (rw (append-nil n.outbox) (rw (append-nil n.records) refl)))))

@@ -1,14 +1,14 @@
 -- A piece that is taken out of the inbox: what its node keeps of the outbox, the notes and the count, and the event that it makes.
-use Rattle.std.proofs.Common.{◌≡◌, ◌∙◌, ℕ, ◌+◌, ◌*◌, ◌^◌, ◌≤◌, Bool, true, false, ◌&&◌, if◌then◌else◌, List, refl, sym, ap, subst, arith, length, ◌++◌}
+use Rattle.std.proofs.Common.{◌≡◌, ◌∙◌, ℕ, ◌*◌, ◌^◌, ◌≤◌, Bool, true, false, ◌&&◌, if◌then◌else◌, List, refl, sym, ap, subst, arith, length}
 use Rattle.std.specs.declared.option.Option.{Option}
 use Rattle.std.specs.declared.option.Option.TheVariants.{None, Some}
 use Rattle.std.proofs.lemmas.List.{length-append}
 use Rattle.crl_model.specs.declared.event.Event.TheVariants as event
 use Rattle.crl_pieces.specs.Pieces.{is_missing, is_complete, joined}
-use Rattle.crl_protocol.specs.Places.{Taken, take_out}
+use Rattle.crl_protocol.specs.Places.{take_out}
 use Rattle.crl_protocol.specs.Parcels.{Piece, Key, key_of, with_load, slots_or, at_key, fits_size, pieces_in}
 use Rattle.crl_protocol.specs.Receiving.{receives, receives_as, receives_part, gathers_piece, slots_with, size_for}
-use Rattle.crl_protocol.specs.Node.{Node, Outcome, Done, only}
+use Rattle.crl_protocol.specs.Node.{Node, Done, only}
 use Rattle.crl_protocol.specs.Handlers.{ignores, node_handles}
 use Rattle.crl_member.specs.Members.{node_after_handle, after_taken}
 use Rattle.crl_desk.specs.Desks.{acted}
@@ -24,8 +24,8 @@ keeps_self n = (record { posted = refl; notes = refl }, refl)
 
 gathered_keeps : (last : Bool) (key : Key) (p : Piece) (slots : List (Option (List ℕ))) (n : Node)
     → Keeps n (if last
-      then node_handles p.message.sender (with_load (joined slots) p.message.kind) (record n { parcels = at_key n.parcels key None })
-      else only (record n { parcels = at_key n.parcels key (Some slots) }) Done).node
+    then node_handles p.message.sender (with_load (joined slots) p.message.kind) (record n { parcels = at_key n.parcels key None })
+    else only (record n { parcels = at_key n.parcels key (Some slots) }) Done).node
 gathered_keeps true key p slots n =
     let counts = message_keeps (record n { parcels = at_key n.parcels key None }) p.message.sender (with_load (joined slots) p.message.kind) in
     (record { posted = counts.posted; notes = counts.notes }, message_keeps_outbox (record n { parcels = at_key n.parcels key None }) p.message.sender (with_load (joined slots) p.message.kind))

@@ -7,10 +7,10 @@ use Rattle.crl_model.specs.declared.message.Granted.{Granted}
 use Rattle.crl_model.specs.declared.message.Granted.TheVariants.{Shared, Exclusive, Upgrade}
 use Rattle.crl_model.specs.declared.message.Kind.{Kind}
 use Rattle.crl_model.specs.declared.message.Kind.TheVariants as kind
-use Rattle.crl_pieces.specs.Pieces.{count, nothing_came, is_missing, with_piece, is_complete, joined}
+use Rattle.crl_pieces.specs.Pieces.{count, nothing_came, is_missing, is_complete, joined}
 use Rattle.crl_protocol.specs.Places.{Taken}
 use Rattle.crl_protocol.specs.Parcels.{Piece, Key, key_of, load_of, load_of_grant, load_of_return, grant_with, return_with, with_load, slots_or}
-use Rattle.crl_protocol.specs.Receiving.{receives, gathers_piece, slots_with, size_for}
+use Rattle.crl_protocol.specs.Receiving.{gathers_piece, slots_with, size_for}
 use Rattle.crl_protocol.specs.Node.{Node}
 use Rattle.crl_protocol.specs.Handlers.{node_handles}
 use Rattle.crl_parcels.proofs.Laws.{none_at_key}
@@ -18,7 +18,7 @@ use Rattle.crl_safety.specs.Safety.{MessageIsSafe, PieceIsSafe}
 use Rattle.crl_member.specs.Members.{TakenIsSafe}
 use Rattle.crl_node.specs.Handling.{IsWhole, IsWholeTaken, piece_taken, key_taken}
 use Rattle.crl_node.proofs.Frames.{message_frame, piece_frame, size_frame}
-use Rattle.crl_node.proofs.Gathers.{Fits, part_fits, gathers_if}
+use Rattle.crl_node.proofs.Gathers.{part_fits, gathers_if}
 
 -- ---- without bytes
 
@@ -79,7 +79,7 @@ module _ (n : Node) (p : Piece) (key : Key) (one : p.pieces ≡ 1) (none : n.par
   single_safe : PieceIsSafe n p → key_of p.message ≡ Some key → MessageIsSafe n p.message.sender p.message.kind
   single_safe s e =
       subst (λ (k : Kind). MessageIsSafe n p.message.sender k) (ap (λ (b : List ℕ). with_load b p.message.kind) single_joined ∙ with_own p.message.kind)
-        (s.last key e (ap is_complete single_slots))
+      (s.last key e (ap is_complete single_slots))
 
 single_whole : (n : Node) (p : Piece) (key : Key) (size : ℕ) → PieceIsSafe n p → key_of p.message ≡ Some key → size_for key.load key.name n ≡ Some size
     → count size ≡ 1 → n.parcels key ≡ None → IsWhole n p

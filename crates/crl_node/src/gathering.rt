@@ -52,7 +52,8 @@ fn bytes_of(kind: &Kind) -> &[u8]
             ..
         } => bytes.as_slice(),
         Kind::Return {
-            bytes: Some(bytes), ..
+            bytes: Some(bytes),
+            ..
         } => bytes.as_slice(),
         Kind::Release { bytes, .. } => bytes.as_slice(),
         _ => &[],
