@@ -5,7 +5,14 @@ mod acting;
 mod calling;
 mod carriage;
 mod concluding;
+mod copies;
+mod gathering;
+mod handling;
+mod hearing;
+mod kits;
+mod names;
 mod node;
+mod rounds;
 mod showing;
 
 pub use node::Node;
