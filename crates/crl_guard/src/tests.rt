@@ -11,12 +11,7 @@ use std::alloc::Global;
 fn writing_of(alloc: Global, bytes: &[u8]) -> Result<Writing, OutOfMemory>
     ensures { IfOk result (λ guard. guard.bytes ≡ bytes.now) }
 {
-    Ok(Writing::new(
-        Vec::from_slice(alloc, bytes)?,
-        3,
-        Name::new(0, 1),
-        7,
-    ))
+    Ok(Writing::new(Vec::from_slice(alloc, bytes)?, 3, Name::new(0, 1), 7))
 }
 
 #[test]

@@ -1,4 +1,2 @@
 mod Rooms
 mod Messages
-mod Comes
-mod Tells

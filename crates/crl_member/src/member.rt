@@ -15,13 +15,13 @@ ghost use Rattle.crl_member.specs.Members.{awaited_of, addressee_of, bytes_at_ho
 ghost use Rattle.crl_member.specs.Members.{CallIsDone, CallIsBack, CollectIsDone, CarryIsDone};
 ghost use Rattle.crl_member.specs.Members.{node_after_read, node_after_write, node_after_handle};
 
+use crl_guard::{Reading, Writing};
 use crl_model::activity::{Answer, Awaited};
 use crl_model::call::{Call, Refusal};
 use crl_model::directory::Section;
 use crl_model::journal::Recorded;
 use crl_model::name::Name;
 use crl_model::{NodeNo, OutOfMemory};
-use crl_guard::{Reading, Writing};
 use std::alloc::Global;
 
 /// A node. A contract sees it as the protocol's node, its state.

@@ -15,7 +15,7 @@ use Rattle.crl_protocol.specs.Calls.{is_gone, purges, delete_entries, deletes_ow
 use Rattle.crl_protocol.specs.Handlers.{begins_delete}
 use Rattle.crl_protocol.specs.Verdict.{verdict, by_stage}
 use Rattle.crl_desk.specs.Desks.{acted}
-use Rattle.crl_naming.specs.Lives.{lifetime_in_delete, lifetime_after_purged, recorded_one, posted_these, deleting_by, deleted_by}
+use Rattle.crl_naming.specs.Lives.{lifetime_in_delete, lifetime_without, recorded_one, posted_these, deleting_by, deleted_by}
 
 live_by : (b : Bool) (l : Lifetime) → (if b then l else no_lifetime).stage ≡ Live → b ≡ true
 live_by true l e = refl
@@ -41,7 +41,7 @@ missing_is_mine n name from e = missing_by (is_mine n name) (n.lifetimes name.se
 
 pub ended_here : (n : Node) (name : Name) (from nodes : ℕ) (lifetimes : ℕ → Lifetime) → nodes ≡ n.nodes → is_mine n name ≡ true
     → lifetimes ≡ at_node n.lifetimes name.serial (lifetime_takes_purged nodes from (n.lifetimes name.serial))
-    → lifetime_of (record n { lifetimes = lifetimes }) name ≡ lifetime_after_purged from name n
+    → lifetime_of (record n { lifetimes = lifetimes }) name ≡ lifetime_without from name n
 ended_here n name from nodes lifetimes k m e = rw (e, k, m, eq-eqb name.serial name.serial refl) refl
 
 -- of a delete that isn't refused the home has a live region

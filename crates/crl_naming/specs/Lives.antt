@@ -26,8 +26,8 @@ abbrev pub lifetime_in_delete : ℕ → Name → Node → Lifetime
 lifetime_in_delete deleter name n = lifetime_begins_delete n.nodes deleter (lifetime_of n name)
 
 -- the lifetime of the region once this node parted with it
-abbrev pub lifetime_after_purged : ℕ → Name → Node → Lifetime
-lifetime_after_purged from name n = lifetime_takes_purged n.nodes from (lifetime_of n name)
+abbrev pub lifetime_without : ℕ → Name → Node → Lifetime
+lifetime_without from name n = lifetime_takes_purged n.nodes from (lifetime_of n name)
 
 -- what a node is told whose region is purged
 abbrev pub purge_to : ℕ → Name → ℕ → Message

@@ -9,7 +9,7 @@ ghost use Rattle.crl_protocol.specs.Node as node;
 ghost use Rattle.crl_protocol.specs.Handlers as handlers;
 ghost use Rattle.crl_desk.specs.Desks.{state, acted, HasRoom};
 ghost use Rattle.crl_naming.specs.Forgetting.{with_posts, name_if, purged_name, ForgetIsReady, PurgeIsReady};
-ghost use Rattle.crl_naming.specs.Lives.{lifetime_after_purged, posted_these};
+ghost use Rattle.crl_naming.specs.Lives.{lifetime_without, posted_these};
 
 use crate::deleting::is_gone;
 use crate::forgetting::{forget, size_of_forgotten};
@@ -155,8 +155,8 @@ fn is_missing(desk: &Desk, from: NodeNo, name: Name) -> bool
 fn end_missing(desk: &mut Desk, from: NodeNo, name: Name)
     requires missing { (node.lifetime_of (state desk.old) name).missing from ≡ true }
     requires room { HasRoom 1 1 1 desk.old }
-    ensures state { state desk.new ≡ node.with_lifetime name (lifetime_after_purged from name (state desk.old)) (state desk.old) }
-    ensures lifetime { node.lifetime_of (state desk.new) name ≡ lifetime_after_purged from name (state desk.old) }
+    ensures state { state desk.new ≡ node.with_lifetime name (lifetime_without from name (state desk.old)) (state desk.old) }
+    ensures lifetime { node.lifetime_of (state desk.new) name ≡ lifetime_without from name (state desk.old) }
     ensures room { HasRoom 1 1 1 desk.new }
 {
     desk.stages.take_purged(name.serial, from);
@@ -202,7 +202,7 @@ fn end_delete(desk: &mut Desk, at: u64, deleter: NodeNo, name: Name)
 fn end_by(desk: &mut Desk, at: u64, from: NodeNo, deleter: NodeNo, name: Name)
     requires missing { (node.lifetime_of (state desk.old) name).missing from ≡ true }
     requires room { HasRoom 1 1 1 desk.old }
-    ensures state { state desk.new ≡ acted at (handlers.ends_delete_by name (Going deleter) (lifetime_after_purged from name (state desk.old)) (state desk.old)) }
+    ensures state { state desk.new ≡ acted at (handlers.ends_delete_by name (Going deleter) (lifetime_without from name (state desk.old)) (state desk.old)) }
     ensures room { HasRoom 0 0 1 desk.new }
 {
     end_missing(desk, from, name);

@@ -1,35 +1,33 @@
 -- The guards of a free node fit its open sections, and are there where a verdict needs them.
-use Rattle.std.proofs.Common.{◌≡◌, ◌∙◌, sym, ap, refl, ◌&&◌, ◌==◌, nat_eq, nat_lt, not, Bool, true, false, if◌then◌else◌, Option, Some, None, ℕ, ◌+◌, ◌^◌, ◌%◌, ◌<◌, ◌≤◌, List, [], ◌∷◌, ◌++◌, length, take, drop, subst, arith}
-use Rattle.std.specs.List.{AllByRecursion}
+use Rattle.std.proofs.Common.{◌≡◌, ◌∙◌, sym, ap, refl, ◌&&◌, ◌==◌, nat_eq, nat_lt, not, Bool, true, false, Option, Some, None, ℕ, ◌+◌, ◌≤◌, List, [], ◌∷◌, ◌++◌, length, subst, arith}
 use Rattle.std.specs.Cmp.Lexicographic.{pointwise}
-use Rattle.std.proofs.lemmas.Bool.{eq-eqb, eqb-true, eqb-false, ltb-true, ltb-false}
-use Rattle.std.proofs.lemmas.List.{length-append, length-take, length-drop}
+use Rattle.std.proofs.lemmas.Bool.{eq-eqb, eqb-false, ltb-false}
 use Rattle.crl_model.specs.declared.name.Name.{Name}
 use Rattle.crl_model.specs.declared.call.Call.TheVariants as call
 use Rattle.crl_model.specs.declared.call.Refusal.{Refusal}
 use Rattle.crl_model.specs.declared.call.Refusal.TheVariants as refusal
-use Rattle.crl_model.specs.declared.directory.Section.{Section}
-use Rattle.crl_model.specs.declared.directory.Section.TheVariants as section
 use Rattle.crl_model.specs.declared.statement.Statement.{Statement}
 use Rattle.crl_model.specs.declared.statement.Statement.TheVariants as statement
 use Rattle.crl_model.specs.declared.event.Event.{Event}
-use Rattle.crl_model.specs.Patches.{put_at}
-use Rattle.crl_protocol.specs.Lifetimes.{Mapping}
 use Rattle.crl_protocol.specs.Sections.{Guard, OpenSection, section_of, section_at, section_bytes, count_of, is_writing}
 use Rattle.crl_protocol.specs.Node.{Node, Free}
-use Rattle.crl_protocol.specs.Verdict.{verdict, else_if, refuse_if, of_unmapped, of_end, of_change, mapped_size}
-use Rattle.crl_protocol.specs.Talk.{Heard, hears}
+use Rattle.crl_protocol.specs.Verdict.{verdict, else_if, refuse_if, of_change, mapped_size}
+use Rattle.crl_protocol.specs.Talk.{hears}
 use Rattle.crl_protocol.specs.World.{new_world, world_of, IsRunFrom}
-use Rattle.crl_talk.specs.Guards.{Given, given_yet, without_newest, guards_held, AreGuards, closed, writing, reading, nested, bytes_held, SectionsAreGuards}
+use Rattle.crl_talk.specs.Guards.{Given, given_yet, without_newest, guards_held, AreGuards, closed, writing, reading, nested, bytes_held}
 use Rattle.crl_talk.proofs.Laws.{sections_are_guards}
-use Rattle.crl_deeds.specs.NodeFacts.{RecordFits}
-use Rattle.crl_deeds.proofs.Laws.{known_start, known_run, open_size, read_ends_open, write_ends_open}
-use Rattle.crl_member.specs.Fitting.{fits_open_read, fits_open_write, fits_reading, fits_writing, is_reading, same_bytes}
+use Rattle.crl_deeds.proofs.Laws.{known_start, known_run, open_size}
+use Rattle.crl_member.specs.Fitting.{fits_open_read, fits_open_write, fits_reading, fits_writing}
 use Rattle.crl_run.specs.Players.{newest, IsOfKind, CanChange}
-use Rattle.crl_run.specs.Acting.{CanAct}
+use Rattle.crl_model.specs.declared.call.Call as calls
+use Rattle.crl_run.specs.declared.act.Act.{Act}
+use Rattle.crl_run.specs.declared.act.Act.TheVariants as act
+use Rattle.crl_run.specs.Acting.{CanAct, Acts, guard_spent}
 use Rattle.crl_run.specs.Actors.{guards_of, AreReads, IsExclusive, asked_call}
-use Rattle.crl_run.specs.Hearing.{IsLike, AreLike, AreShown, HoldsHeard}
+use Rattle.crl_run.specs.Hearing.{AreLike, AreShown, HoldsHeard}
 use Rattle.crl_run.proofs.Likeness.{newest_first, first_of}
+use Rattle.crl_run.specs.Fits.{GuardFits}
+use Rattle.crl_run.proofs.ActorLemmas.{newest_named}
 use Rattle.crl_run.proofs.Shown.{began_with}
 
 -- Behind the newest guard there are only those of read sections.
@@ -110,6 +108,13 @@ write_first n (g ∷ gs) hs o (writing h x) like e = record {
 write_first n [] hs o (writing h x) like e = absurd like
 write_first n gs hs o (reading h x) like e = cc
 write_first n gs hs o (nested h rest count number bytes x same one more) like e = cc
+
+both_are : (a b : Bool) → a ≡ true → b ≡ true → (a && b) ≡ true
+both_are a b e f = rw (e, f) refl
+
+same_end_verdict : (n : Node) (name : Name) (after other : List ℕ) → verdict n (call.EndWrite name after) ≡ verdict n (call.EndWrite name other)
+unfolding verdict
+same_end_verdict n name after other = refl
 
 -- What a verdict says that refuses nothing.
 none_first : (a b : Option Refusal) → else_if a b ≡ None → (a ≡ None) × (b ≡ None)
@@ -210,3 +215,71 @@ module _ (count capacity : ℕ) (run : List Event) (r : IsRunFrom (new_world cou
       go : (o : Option Refusal) → verdict node (asked_call s) ≡ o → CanAct o s gs
       go None e = allowed s e
       go (Some why) e = tt
+
+  -- The guard that is handed out fits: it is the newest of its region.
+  newest_there : (q : Name) (P : Given → Type 0) (g : Given) → Some g ≡ newest q gs → IsFirst P (guards_of q gs) → P g
+  newest_there q P g e first = go (guards_of q gs) first (e ∙ newest_first q gs)
+    where
+      go : (xs : List Given) → IsFirst P xs → Some g ≡ first_of xs → P g
+      go [] k w = absurd k
+      go (x ∷ xs) k w = (let it : x ≡ g = cc in subst P it k)
+
+  own_number : node.me ≡ i
+  own_number = let known = known_run (new_world count capacity) run r (known_start count capacity) in (known.fits i).me
+
+  at_number : (k : ℕ) → k ≡ i → (k == node.me) ≡ true
+  at_number k e = eq-eqb k node.me (e ∙ sym own_number)
+
+  pub read_fits : (q : Name) (g : Guard) → verdict node (call.EndRead q) ≡ None → Some (record { write = false; guard = g }) ≡ newest q gs → (g.node ≡ i) × (g.name ≡ q) × (fits_reading node g ≡ true)
+  read_fits q g e is =
+      let k = newest_there q (ReadFits i (node.sections.records q)) (record { write = false; guard = g }) is (read_there q e) in
+      let named : g.name ≡ q = newest_named q gs (record { write = false; guard = g }) (sym is) in
+      (k.node, named, both_are _ _ (at_number g.node k.node) (ap (λ p. fits_open_read g (node.sections.records p)) named ∙ k.fits))
+
+  pub write_fits : (q : Name) (after : List ℕ) (g : Guard) → verdict node (call.EndWrite q after) ≡ None → Some (record { write = true; guard = g }) ≡ newest q gs → (g.node ≡ i) × (g.name ≡ q) × (fits_writing node g ≡ true)
+  write_fits q after g e is =
+      let k = newest_there q (WriteFits i (node.sections.records q)) (record { write = true; guard = g }) is (write_there q (may_write node q after e)) in
+      let named : g.name ≡ q = newest_named q gs (record { write = true; guard = g }) (sym is) in
+      (k.node, named, both_are _ _ (at_number g.node k.node) (ap (λ p. fits_open_write g (node.sections.records p)) named ∙ k.fits))
+
+  pub act_fits : (s : Statement) (does : Act) (new : List Given) → Acts (verdict node (asked_call s)) s gs does new → GuardFits i node does
+  act_fits s does new acts = go (verdict node (asked_call s)) refl acts
+    where
+      plain : (c : calls.Call) → does ≡ act.Call c → GuardFits i node does
+      plain c is = subst (λ x. GuardFits i node x) (sym is) tt
+
+      read : (q : Name) (x : Act) → verdict node (call.EndRead q) ≡ None → guard_spent x ≡ newest q gs → GuardFits i node x
+      read q (act.Call c) e is = tt
+      read q (act.EndRead g) e is = (let k = read_fits q g e is in (k.0, k.2, subst (λ p. verdict node (call.EndRead p) ≡ None) (sym k.1) e))
+      read q (act.EndWrite g) e is = absurd (let k = of_kind false q _ (λ x k. k.kind) (read_there q e) in let no : true ≡ false = subst (λ o. IsOfKind false o) (sym is) k in cc)
+      read q act.Inside e is = tt
+
+      write : (q : Name) (after : List ℕ) (x : Act) → verdict node (call.EndWrite q after) ≡ None → guard_spent x ≡ newest q gs → GuardFits i node x
+      write q after (act.Call c) e is = tt
+      write q after (act.EndRead g) e is = absurd (let k = of_kind true q _ (λ x k. k.kind) (write_there q (may_write node q after e)) in let no : false ≡ true = subst (λ o. IsOfKind true o) (sym is) k in cc)
+      write q after (act.EndWrite g) e is =
+          (let k = write_fits q after g e is in (k.0, k.2, subst (λ p. verdict node (call.EndWrite p g.bytes) ≡ None) (sym k.1) (same_end_verdict node q g.bytes after ∙ e)))
+      write q after act.Inside e is = tt
+
+      inside : does ≡ act.Inside → GuardFits i node does
+      inside is = subst (λ x. GuardFits i node x) (sym is) tt
+
+      allowed : (s : Statement) → verdict node (asked_call s) ≡ None → Acts None s gs does new → GuardFits i node does
+      allowed (statement.Call (call.EndRead q)) e acts = read q does e acts.0
+      allowed (statement.Call (call.EndWrite q after)) e acts = write q after does e acts.0
+      allowed (statement.Put q offset bytes) e acts = inside acts.0
+      allowed (statement.Add q offset number) e acts = inside acts.0
+      allowed (statement.Call (call.Create size)) e acts = plain _ acts.0
+      allowed (statement.Call (call.Delete name)) e acts = plain _ acts.0
+      allowed (statement.Call (call.Map name)) e acts = plain _ acts.0
+      allowed (statement.Call (call.Unmap name)) e acts = plain _ acts.0
+      allowed (statement.Call (call.StartRead name)) e acts = plain _ acts.0
+      allowed (statement.Call (call.StartWrite name)) e acts = plain _ acts.0
+      allowed (statement.Call (call.Put name offset len)) e acts = plain _ acts.0
+      allowed (statement.Call (call.Add name offset)) e acts = plain _ acts.0
+      allowed (statement.Call (call.Flush name)) e acts = plain _ acts.0
+      allowed (statement.Call (call.Come part)) e acts = plain _ acts.0
+
+      go : (o : Option Refusal) → verdict node (asked_call s) ≡ o → Acts o s gs does new → GuardFits i node does
+      go None e acts = allowed s e acts
+      go (Some why) e acts = plain _ acts.0

@@ -1,5 +1,5 @@
 -- The guards that a node holds are those that it was given: after each event.
-use Rattle.std.proofs.Common.{◌≡◌, ◌∙◌, sym, ap, refl, ◌&&◌, Bool, true, false, if◌then◌else◌, Option, Some, None, ℕ, ◌+◌, ◌≤◌, List, [], ◌∷◌, ◌++◌, length, take, drop, subst, arith}
+use Rattle.std.proofs.Common.{◌≡◌, ◌∙◌, sym, ap, refl, ◌&&◌, Bool, true, false, if◌then◌else◌, Option, Some, None, ℕ, List, [], ◌∷◌, ◌++◌, subst}
 use Rattle.crl_model.specs.declared.name.Name.{Name}
 use Rattle.crl_model.specs.declared.call.Call as calls
 use Rattle.crl_model.specs.declared.call.Call.TheVariants as call
@@ -97,7 +97,7 @@ spent c name answer old new done ends same q =
     (subst (λ gs. AreLike gs (if name_eq name q then without_newest (guards_of q old) else guards_of q old)) (sym (without_of name q old)) (all_like_self _)))
 
 module _ (n : Node) (old new : List Given) where
-  abbrev SpendsOne : Option calls.Call → Type 0
+  abbrev pub SpendsOne : Option calls.Call → Type 0
   SpendsOne None = Unit {0}
   SpendsOne (Some c) = Spends c (node_calls c n).answer old new
 

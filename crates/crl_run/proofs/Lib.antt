@@ -2,6 +2,8 @@ mod ActorLemmas
 mod Fitting
 mod Heard
 mod Holding
+mod Lasting
 mod Likeness
 mod Shown
 mod Stages
+mod Taken

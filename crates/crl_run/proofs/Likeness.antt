@@ -1,10 +1,10 @@
 -- Guards that are those that were given.
-use Rattle.std.proofs.Common.{◌≡◌, ◌∙◌, sym, ap, refl, Bool, true, false, ◌&&◌, if◌then◌else◌, Option, Some, None, ℕ, ◌≤◌, List, [], ◌∷◌, ◌++◌, length, subst}
+use Rattle.std.proofs.Common.{◌≡◌, ◌∙◌, sym, ap, refl, Bool, true, false, if◌then◌else◌, Option, Some, None, ℕ, List, [], ◌∷◌, ◌++◌, length, subst}
 use Rattle.crl_model.specs.declared.name.Name.{Name}
 use Rattle.crl_model.specs.Names.{name_eq}
 use Rattle.crl_model.proofs.Laws.{same_name}
 use Rattle.crl_protocol.specs.Node.{Answer, Reading, Writing}
-use Rattle.crl_protocol.specs.Talk.{Heard, Called, Collected}
+use Rattle.crl_protocol.specs.Talk.{Heard}
 use Rattle.crl_talk.specs.Guards.{Given, given_of, without_newest, held_after, guards_held}
 use Rattle.crl_run.specs.Holding.{with_bytes_in}
 use Rattle.crl_run.specs.Players.{newest, guards_given, guards_without, guards_with}

@@ -1,25 +1,23 @@
 -- What the guards of a region's open sections show, in every run.
-use Rattle.std.proofs.Common.{◌≡◌, ◌∙◌, sym, ap, refl, ◌==◌, ◌&&◌, Bool, true, false, if◌then◌else◌, Option, Some, None, ℕ, ◌<◌, List, [], ◌∷◌, ◌++◌, subst}
+use Rattle.std.proofs.Common.{◌≡◌, ◌∙◌, sym, ap, refl, Bool, true, false, if◌then◌else◌, Option, Some, None, ℕ, List, [], ◌∷◌, ◌++◌, subst}
 use Rattle.std.proofs.lemmas.List.{append_assoc}
 use Rattle.crl_model.specs.declared.name.Name.{Name}
 use Rattle.crl_model.specs.declared.directory.Section.TheVariants as section
 use Rattle.crl_model.specs.declared.event.Event.{Event}
-use Rattle.crl_model.specs.declared.event.Event.TheVariants as event
 use Rattle.crl_model.specs.Names.{name_eq}
 use Rattle.crl_model.proofs.Laws.{same_name}
-use Rattle.crl_machine.specs.SingleMachine.{State, after_all}
-use Rattle.crl_protocol.specs.Sections.{Guard, OpenSection, section_bytes}
-use Rattle.crl_protocol.specs.Node.{Node, Answer, Reading, Writing}
-use Rattle.crl_protocol.specs.Talk.{Heard, Called, Collected, hears_of, hears}
+use Rattle.crl_machine.specs.SingleMachine.{State}
+use Rattle.crl_protocol.specs.Sections.{OpenSection, section_bytes}
+use Rattle.crl_protocol.specs.Node.{Answer, Reading, Writing}
+use Rattle.crl_protocol.specs.Talk.{Heard, hears_of, hears}
 use Rattle.crl_protocol.specs.World.{World, new_world, step, is_enabled, world_after, world_of, IsRunFrom}
-use Rattle.crl_talk.specs.Guards.{Given, given_of, given_yet, is_done, ends_section, without_newest, held_after, guards_held, AreGuards, closed, writing, reading, nested, bytes_held}
+use Rattle.crl_talk.specs.Guards.{Given, given_of, given_yet, without_newest, held_after, guards_held, AreGuards, closed, writing, reading, nested, bytes_held}
 use Rattle.crl_talk.proofs.Laws.{sections_are_guards}
 use Rattle.crl_rounds.specs.Standing.{machine_of}
 use Rattle.crl_history.specs.Legal.{AnswerShows}
-use Rattle.crl_history.proofs.Laws.{mirrors_in_runs, answers_show, world_then, run_then, machine_then}
+use Rattle.crl_history.proofs.Laws.{mirrors_in_runs, answers_show, run_then, machine_then}
 use Rattle.crl_deeds.proofs.Laws.{append_nil}
 use Rattle.crl_run.specs.Hearing.{AreShown}
-use Rattle.crl_run.proofs.Likeness.{held_more}
 
 -- The bytes with which a section began are those of the oldest guard.
 none_open : {A : Type 0} (n : ℕ) (s : OpenSection) → AreGuards n [] (Some s) → A

@@ -1,5 +1,5 @@
 -- Players stand for a run on its way after each event, and after each change inside a write section.
-use Rattle.std.proofs.Common.{◌≡◌, ◌∙◌, sym, ap, refl, ◌==◌, ◌&&◌, ◌+◌, Bool, true, false, if◌then◌else◌, Option, Some, None, ℕ, suc, ◌<◌, List, [], ◌∷◌, ◌++◌, drop, subst}
+use Rattle.std.proofs.Common.{◌≡◌, ◌∙◌, sym, ap, refl, ◌==◌, ◌&&◌, Bool, true, false, if◌then◌else◌, Option, Some, None, ℕ, ◌<◌, List, [], ◌∷◌, ◌++◌, subst}
 use Rattle.std.proofs.lemmas.Bool.{eqb-true, cond-true, cond-false, eq-eqb}
 use Rattle.crl_model.specs.declared.call.Call as calls
 use Rattle.crl_model.specs.declared.event.Event.{Event}
@@ -13,8 +13,8 @@ use Rattle.crl_protocol.specs.Places.{Taken, take_out}
 use Rattle.crl_protocol.specs.Node.{Node, Answer, Reading, Writing, Done, Outcome, only}
 use Rattle.crl_protocol.specs.Handlers.{ignores, node_handles}
 use Rattle.crl_protocol.specs.Receiving.{receives, receives_as, receives_part, gathers_piece, size_for, slots_with}
-use Rattle.crl_protocol.specs.Talk.{Heard, Called, Collected, hears_of, hears}
-use Rattle.crl_protocol.specs.World.{World, new_world, step, is_enabled, world_of, IsRunFrom, handles_at, carries}
+use Rattle.crl_protocol.specs.Talk.{Heard, hears_of, hears}
+use Rattle.crl_protocol.specs.World.{World, new_world, step, is_enabled, world_of, handles_at, carries}
 use Rattle.crl_protocol.specs.Chosen.{Actor, Running, goes_on, with_actor, takes_guard, block_of}
 use Rattle.crl_talk.specs.Guards.{Given}
 use Rattle.crl_deeds.specs.Deeds.{Cause, Calls, Hears, Copies, Lives, Rounds, Deed}

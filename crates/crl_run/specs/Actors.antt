@@ -68,3 +68,9 @@ Takes statements place old new n s a actor =
 -- It keeps the guard of an answer.
 abbrev pub Keeps : List Statement → ℕ → List Given → Answer → Actor → Type 0
 Keeps statements place guards answer actor = IsActor statements place guards actor → IsActor statements place (guards_given answer ++ guards) (takes_guard answer actor)
+
+abbrev pub PlayersTake : Type 0
+PlayersTake = (statements : List Statement) (place : ℕ) (old new : List Given) (n : Node) (s : Statement) (does : Act) (actor : Actor) → Takes statements place old new n s does actor
+
+abbrev pub PlayersKeep : Type 0
+PlayersKeep = (statements : List Statement) (place : ℕ) (guards : List Given) (answer : Answer) (actor : Actor) → Keeps statements place guards answer actor

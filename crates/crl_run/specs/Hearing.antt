@@ -1,5 +1,5 @@
 -- The guards that a node holds are those that it was given and whose sections it hasn't ended.
-use Rattle.std.specs.Prelude.{◌≡◌, ℕ, Bool, false, ◌&&◌, if◌then◌else◌, List, [], ◌∷◌, length}
+use Rattle.std.specs.Prelude.{◌≡◌, false, ◌&&◌, if◌then◌else◌, List, [], ◌∷◌, length}
 use Rattle.std.specs.List.{AllByRecursion}
 use Rattle.crl_model.specs.declared.name.Name.{Name}
 use Rattle.crl_protocol.specs.Talk.{Heard}

@@ -6,6 +6,7 @@ pub mod actors;
 mod guards;
 mod held;
 mod player;
+pub mod turns;
 
 pub use act::Act;
 pub use guards::{Reading, Writing};

@@ -30,7 +30,7 @@ impl Model for Script {
 
 impl Script {
     /// The script with these blocks, one per node.
-    pub fn new(cache: u16, blocks: Vec<Vec<Statement>>) -> Script
+    pub(crate) fn new(cache: u16, blocks: Vec<Vec<Statement>>) -> Script
         requires some { 1 ≤ length blocks.items }
         requires limit { length blocks.items ≤ 64 }
         requires statements { AllStatements (map (λ b. b.items) blocks.items) }

@@ -45,7 +45,7 @@ begins_first name write bytes old mid next new number e g nr nl n h =
     let m : number ≡ old.last + 1 = n ∙ ap (λ x. x + 1) g.last in
     let l : new.last ≡ old.last + 1 = h.last ∙ (nl ∙ ap (λ x. x + 1) g.last) in
     let f : table_of new.rows ≡ at_name (table_of old.rows) name (Some (first_section write number bytes)) =
-        h.rows ∙ (ap (λ t. at_name (table_of t) name (Some (first_section write number bytes))) nr ∙ (ap (λ t. at_name t name (Some (first_section write number bytes))) g.rows ∙ twice (table_of old.rows) name (Some (first_section write number bytes)) None)) in
+    h.rows ∙ (ap (λ t. at_name (table_of t) name (Some (first_section write number bytes))) nr ∙ (ap (λ t. at_name t name (Some (first_section write number bytes))) g.rows ∙ twice (table_of old.rows) name (Some (first_section write number bytes)) None)) in
     rw m (begins_anew_to name write bytes old new e l (rw m at f))
 
 pub one_guard_more : (write : Bool) (bytes : List ℕ) (r : OpenSection) → CanBegin write bytes (Some r) → guards_of (with_read r) ≡ guards_of r + 1

@@ -6,8 +6,8 @@ ghost use Rattle.crl_world.specs.Stepping.{reading_fits, writing_fits, end_of_re
 use crate::faults::EndFault;
 use crate::steps::EVENT_LIMIT;
 use crate::world::World;
-use crl_member::Member;
 use crl_guard::{Reading, Writing};
+use crl_member::Member;
 
 impl<N: Member> World<N> {
     /// The guard is of a read section that is open at its node, and has its bytes.

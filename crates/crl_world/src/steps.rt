@@ -11,11 +11,11 @@ ghost use Rattle.crl_world.specs.Stepping.{StepIsDone, EventIsDone, CallIsUndone
 
 use crate::faults::{CallFault, StepFault};
 use crate::world::World;
+use crl_guard::{Reading, Writing};
 use crl_member::Member;
 use crl_model::NodeNo;
 use crl_model::activity::Answer;
 use crl_model::call::Call;
-use crl_guard::{Reading, Writing};
 
 /// The largest number of events of a world, 2^62.
 pub const EVENT_LIMIT: u64 = 0x4000_0000_0000_0000;

@@ -1,3 +1,0 @@
-mod Each
-mod Statements
-mod WordLemmas
