@@ -23,12 +23,7 @@ pub(crate) struct Acted {
 
 /// A call that is refused.
 #[tactic(auto, unfolding(crl_protocol::specs::Calls::node_calls))]
-pub(crate) fn act_refused(
-    desk: &mut Desk,
-    at: u64,
-    call: Call,
-    why: Refusal,
-) -> Result<Acted, Call>
+pub(crate) fn act_refused(desk: &mut Desk, at: u64, call: Call, why: Refusal) -> Result<Acted, Call>
     requires room { HasRoom 0 0 0 desk.old }
     requires safe { IsSafe (state desk.old) }
     requires refused { verdict.verdict (state desk.old) call ≡ Some why }

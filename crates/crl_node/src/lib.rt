@@ -10,6 +10,7 @@ mod gathering;
 mod handling;
 mod hearing;
 mod kits;
+mod membership;
 mod names;
 mod node;
 mod rounds;

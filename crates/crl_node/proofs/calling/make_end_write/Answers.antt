@@ -23,6 +23,6 @@ returns-clause-state c =
     let n = state c.args.desk.now in
     let calls = node_calls (EndWrite c.args.guard.name c.args.guard.bytes) n in
     call_node _ (EndWrite c.args.guard.name c.args.guard.bytes) (EndWrite c.name-name.result c.from_vec-none.result) n _ _ _
-      (end_write_acts _ _ _ _ _ _ _ c.name-name.ensures c.into_bytes.ensures c.requires.allowed c.end_write.ensures.state) c.len-before.ensures c.conclude.ensures.state
+    (end_write_acts _ _ _ _ _ _ _ c.name-name.ensures c.into_bytes.ensures c.requires.allowed c.end_write.ensures.state) c.len-before.ensures c.conclude.ensures.state
     ∙ ap (λ (x : Name). commits c.args.at (event.Call n.me (EndWrite x c.from_vec-none.result)) calls) c.name-name.ensures
     ∙ ap (λ (x : List ℕ). commits c.args.at (event.Call n.me (EndWrite c.args.guard.name x)) calls) (c.from_vec-none.ensures ∙ c.new.ensures.items)
