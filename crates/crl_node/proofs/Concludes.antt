@@ -1,15 +1,11 @@
 -- An act and the end of its event make the event of the protocol.
-use Rattle.std.proofs.Common.{◌≡◌, ◌∙◌, ℕ, ◌+◌, ◌-◌, List, [], ◌∷◌, ◌++◌, refl, sym, ap, subst, arith, length}
+use Rattle.std.proofs.Common.{◌≡◌, ℕ, ◌-◌, List, ◌++◌, refl, arith, length}
 use Rattle.std.proofs.lemmas.List.{length-append}
-use Rattle.crl_model.specs.declared.call.Call.{Call}
 use Rattle.crl_model.specs.declared.event.Event.{Event}
-use Rattle.crl_model.specs.declared.message.Kind.{Kind}
 use Rattle.crl_model.specs.declared.piece.Piece.{Piece}
 use Rattle.crl_protocol.specs.Node.{Node, Outcome}
 use Rattle.crl_protocol.specs.Parcels.{pieces_in}
-use Rattle.crl_protocol.specs.Calls.{node_calls}
-use Rattle.crl_protocol.specs.Handlers.{node_handles}
-use Rattle.crl_protocol.specs.World.{note, commits}
+use Rattle.crl_protocol.specs.World.{commits}
 use Rattle.crl_desk.specs.Desks.{acted}
 use Rattle.crl_node.specs.Nodes.{concluded}
 

@@ -1,3 +1,9 @@
+mod Acts
+mod Called
 mod Concludes
+mod Frames
+mod Gathers
 mod Keeping
+mod Receives
+mod Singles
 mod Taking

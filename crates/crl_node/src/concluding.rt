@@ -1,7 +1,7 @@
 //! The end of an event.
 ghost use Rattle.std.specs.Prelude.{◌≡◌, ◌+◌, ◌-◌, ◌*◌, ◌^◌, ◌≤◌, length};
 ghost use Rattle.crl_desk.specs.Desks.{state, HasRoom};
-ghost use Rattle.crl_node.specs.Nodes.{IsNode, concluded};
+ghost use Rattle.crl_node.specs.Nodes.{IsNode, IsFew, concluded};
 
 use crl_desk::Desk;
 use crl_model::event::Event;
@@ -10,7 +10,7 @@ use crl_model::event::Event;
 pub(crate) fn conclude(desk: &mut Desk, at: u64, event: Event, before: usize)
     requires room { HasRoom 0 0 1 desk.old }
     requires before { before ≤ length desk.old.outbox.list }
-    requires few { desk.old.posted ≤ length desk.old.journal.notes * 2 ^ 64 }
+    requires few { IsFew (state desk.old) }
     ensures state { state desk.new ≡ concluded at event before (state desk.old) }
     ensures node { IsNode desk.new }
 {

@@ -1,9 +1,19 @@
 //! A node in code: a member of a world, each of whose events is the protocol's.
 #![tactic(auto)]
 
+mod acting;
+mod calling;
 mod carriage;
 mod concluding;
+mod copies;
+mod gathering;
+mod handling;
+mod hearing;
+mod kits;
+mod membership;
+mod names;
 mod node;
+mod rounds;
 mod showing;
 
 pub use node::Node;

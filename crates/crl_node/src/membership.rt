@@ -1,0 +1,111 @@
+//! A node is a member of a world.
+ghost use Rattle.crl_desk.specs.Desks.{state};
+
+use crate::calling::{make_call, make_end_read, make_end_write};
+use crate::node::Node;
+use crl_guard::{Reading, Writing};
+use crl_member::Member;
+use crl_model::activity::{Answer, Awaited};
+use crl_model::call::{Call, Refusal};
+use crl_model::directory::Section;
+use crl_model::journal::Recorded;
+use crl_model::name::Name;
+use crl_model::{NodeNo, OutOfMemory};
+use crl_verdict::verdict;
+use std::alloc::Global;
+
+impl Member for Node {
+    ghost state = { λ node. state node };
+
+    fn new(alloc: Global, me: NodeNo, nodes: NodeNo, capacity: u16) -> Result<Node, OutOfMemory> {
+        Node::start(alloc, me, nodes, capacity)
+    }
+
+    fn is_free(&self) -> bool {
+        self.desk.standing.is_free()
+    }
+
+    fn is_ready(&self) -> bool {
+        self.desk.standing.is_ready()
+    }
+
+    fn awaited(&self) -> Option<Awaited> {
+        self.desk.standing.awaited()
+    }
+
+    fn rounds(&self) -> u64 {
+        self.desk.rounds
+    }
+
+    fn section(&self, name: Name) -> Section {
+        self.desk.sections.section(name)
+    }
+
+    fn inbox_len(&self) -> usize {
+        self.desk.inbox.len()
+    }
+
+    fn outbox_len(&self) -> usize {
+        self.desk.outbox.len()
+    }
+
+    fn addressee(&self, place: usize) -> NodeNo {
+        self.addressee_at(place)
+    }
+
+    fn verdict(&self, call: &Call) -> Option<Refusal> {
+        verdict(&self.desk, call)
+    }
+
+    fn fits_reading(&self, guard: &Reading) -> bool {
+        self.has_reading(guard)
+    }
+
+    fn fits_writing(&self, guard: &Writing) -> bool {
+        self.has_writing(guard)
+    }
+
+    fn call(&mut self, at: u64, call: Call) -> Result<Answer<Reading, Writing>, Call> {
+        make_call(&mut self.desk, at, call)
+    }
+
+    fn end_read(&mut self, at: u64, guard: Reading) {
+        make_end_read(&mut self.desk, at, guard);
+    }
+
+    fn end_write(&mut self, at: u64, guard: Writing) {
+        make_end_write(&mut self.desk, at, guard);
+    }
+
+    fn collect(&mut self, at: u64) -> Result<Answer<Reading, Writing>, OutOfMemory> {
+        self.take_answer(at)
+    }
+
+    fn handle(&mut self, at: u64, place: usize) -> Result<(), OutOfMemory> {
+        self.handle_at(at, place)
+    }
+
+    fn carry(&mut self, to: &mut Node, at: u64, place: usize) -> Result<(), OutOfMemory> {
+        self.carry_to(to, at, place)
+    }
+
+    fn records(&self) -> &[Recorded] {
+        self.desk.journal.records()
+    }
+
+    fn posted(&self) -> u128 {
+        self.desk.posted
+    }
+
+    fn serials(&self) -> u32 {
+        self.desk.homes.serial()
+    }
+
+    fn home_bytes(&self, name: Name) -> Option<&[u8]> {
+        self.bytes_as_home(name)
+    }
+
+    fn exclusive_bytes(&self, name: Name) -> Option<&[u8]> {
+        self.bytes_if_exclusive(name)
+    }
+}
