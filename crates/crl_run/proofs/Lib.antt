@@ -1,9 +1,12 @@
 mod ActorLemmas
+mod Counting
 mod Fitting
 mod Heard
 mod Holding
 mod Lasting
 mod Likeness
+mod Playing
 mod Shown
 mod Stages
 mod Taken
+mod Unguarded

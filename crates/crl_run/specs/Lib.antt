@@ -4,6 +4,8 @@ pub mod Fits
 pub mod Hearing
 pub mod Holders
 pub mod Holding
+pub mod Making
 pub mod PlayerState
 pub mod Players
+pub mod Playing
 pub mod Staging

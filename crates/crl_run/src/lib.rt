@@ -3,9 +3,11 @@
 
 mod act;
 pub mod actors;
+mod choosing;
 mod guards;
 mod held;
 mod player;
+mod taking;
 pub mod turns;
 
 pub use act::Act;
