@@ -40,4 +40,6 @@ more_from w (e ∷ es) r =
     omega arith
 
 pub events_counted : (count capacity : ℕ) (run : List Event) → IsRunFrom (new_world count capacity) run → (world_of count capacity run).events ≡ length run
-events_counted count capacity run r = more_from (new_world count capacity) run r
+events_counted count capacity run r =
+    let more : (world_of count capacity run).events ≡ 0 + length run = more_from (new_world count capacity) run r in
+    omega arith

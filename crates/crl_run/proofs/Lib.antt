@@ -1,4 +1,5 @@
 mod ActorLemmas
+mod Choices
 mod Counting
 mod Fitting
 mod Heard

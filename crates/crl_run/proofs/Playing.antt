@@ -61,10 +61,7 @@ write_made i w v p a g is fits same = subst (λ x. IsMade i (call_made x) w v p.
       guards = done_gives _ p.guards (call_answer i (call.EndWrite g.name g.bytes) w ∙ write_answer (w.nodes i) g.name g.bytes f.2);
     })
 
--- an event of a node of the world
-pub of_world : (a b : Bool) → (a && b) ≡ true → (a ≡ true) × (b ≡ true)
-of_world a b e = and_parts a b e
-
+-- an event is of a node of the world
 pub collect_node : (i : ℕ) (w : World) → is_enabled (event.Collect i) w ≡ true → i < w.count
 unfolding is_enabled
 collect_node i w may = ltb-true _ _ (and_parts _ _ may).0

@@ -9,3 +9,4 @@ pub mod PlayerState
 pub mod Players
 pub mod Playing
 pub mod Staging
+pub mod Turning

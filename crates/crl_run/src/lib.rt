@@ -8,6 +8,7 @@ mod guards;
 mod held;
 mod player;
 mod taking;
+mod turning;
 pub mod turns;
 
 pub use act::Act;

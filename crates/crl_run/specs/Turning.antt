@@ -1,0 +1,37 @@
+-- A turn of a run.
+use Rattle.std.specs.Prelude.{◌≡◌, ℕ, suc, ◌+◌, ◌<◌, Bool, true, false, not, List, [], length, drop, slice_index_or}
+use Rattle.crl_model.specs.declared.statement.Statement.{Statement}
+use Rattle.crl_protocol.specs.Home.{is_empty}
+use Rattle.crl_protocol.specs.World.{World}
+use Rattle.crl_protocol.specs.Chosen.{Running, block_of, choices, turn}
+use Rattle.crl_order.specs.declared.order.Order.{Order}
+use Rattle.crl_order.specs.Words.{words_to_come}
+use Rattle.crl_run.specs.PlayerState.{PlayerState}
+use Rattle.crl_run.specs.Staging.{IsOnItsWay, CallsMayCome}
+use Rattle.crl_run.specs.Playing.{player_of, StandsFor}
+
+-- the list says of each node whether it has a statement left
+pub record SayWhatIsLeft (blocks : List (List Statement)) (players : List PlayerState) (left : List Bool) : Type 0 where
+  pub many : length left ≡ length players
+  pub says : (i : ℕ) → i < length players → slice_index_or left i false ≡ not (is_empty (drop (player_of players i).place (block_of blocks i)))
+
+-- A world and players stand for a run on its way.
+pub record IsTurn (capacity : ℕ) (blocks : List (List Statement)) (r : Running) (w : World) (players : List PlayerState) : Type 0 where
+  pub stands : StandsFor capacity blocks r w players
+  pub way : IsOnItsWay (length players) capacity r
+  pub calls : CallsMayCome (length players) capacity blocks r
+
+abbrev pub SomeTurn : List (List Statement) → World → List PlayerState → Type 0
+SomeTurn blocks w players = (capacity : ℕ) × (r : Running) × IsTurn capacity blocks r w players
+
+-- the order gave its next word
+abbrev pub HasGiven : Order → Order → Type 0
+HasGiven old new = (p : ℕ) → words_to_come new (suc p) ≡ words_to_come old (suc (suc p))
+
+-- They stand for the run after the turn of the next word; or no choice is left, and nothing is changed.
+abbrev pub AfterTurn : ℕ → List (List Statement) → Running → World → List PlayerState → Order → Bool → World → List PlayerState → Order → Type 0
+AfterTurn capacity blocks r w players order false v then order' = (choices r ≡ []) × (v ≡ w) × (then ≡ players)
+AfterTurn capacity blocks r w players order true v then order' = StandsFor capacity blocks (turn (words_to_come order 1) r) v then × (length then ≡ length players) × HasGiven order order'
+
+abbrev pub TurnIsTaken : List (List Statement) → World → List PlayerState → Order → Bool → World → List PlayerState → Order → Type 0
+TurnIsTaken blocks w players order more v then order' = (capacity : ℕ) (r : Running) → IsTurn capacity blocks r w players → AfterTurn capacity blocks r w players order more v then order'
