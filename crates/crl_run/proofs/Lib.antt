@@ -1,4 +1,5 @@
 mod ActorLemmas
+mod AllTurns
 mod Choices
 mod Counting
 mod Fitting
@@ -10,4 +11,5 @@ mod Playing
 mod Shown
 mod Stages
 mod Taken
+mod TurnSteps
 mod Unguarded
