@@ -76,44 +76,44 @@ module _ (blocks : List (List Statement)) (order : Order) (w : World) (players :
     order = λ p. let same : suc p ≡ 0 + suc p = omega arith in ap words same;
   }
 
-  module _ (k : ℕ) (v : World) (then : List PlayerState) (rest : Order) (after : AfterTurns blocks words k w players v then rest) where
-    pub some_turn : IsAtSomeStart blocks w players → SomeTurn blocks v then
-    some_turn (capacity, start) = (capacity, chosen (length then) capacity blocks words k, is_turn capacity blocks words k v then are (after.come capacity start))
+  module _ (k : ℕ) (v : World) (later : List PlayerState) (rest : Order) (after : AfterTurns blocks words k w players v later rest) where
+    pub some_turn : IsAtSomeStart blocks w players → SomeTurn blocks v later
+    some_turn (capacity, start) = (capacity, chosen (length later) capacity blocks words k, is_turn capacity blocks words k v later are (after.come capacity start))
 
     pub events_within : IsAtSomeStart blocks w players → k < 2 ^ 60 → v.events < 2 ^ 62
     events_within (capacity, start) under =
-        let few = chosen_few (length then) capacity blocks words k in
-        let t = is_turn capacity blocks words k v then are (after.come capacity start) in
-        let many = as_many capacity blocks (chosen (length then) capacity blocks words k) v then t.stands t.way in
+        let few = chosen_few (length later) capacity blocks words k in
+        let t = is_turn capacity blocks words k v later are (after.come capacity start) in
+        let many = as_many capacity blocks (chosen (length later) capacity blocks words k) v later t.stands t.way in
         omega arith
 
-    pub turns_more : (v' : World) (then' : List PlayerState) (rest' : Order) → IsAtSomeStart blocks w players → TurnIsTaken blocks v then rest true v' then' rest' → AfterTurns blocks words (k + 1) w players v' then' rest'
-    turns_more v' then' rest' (first, begun) taken =
-        let some = taken first _ (is_turn first blocks words k v then are (after.come first begun)) in
+    pub turns_more : (v' : World) (later' : List PlayerState) (rest' : Order) → IsAtSomeStart blocks w players → TurnIsTaken blocks v later rest true v' later' rest' → AfterTurns blocks words (k + 1) w players v' later' rest'
+    turns_more v' later' rest' (first, begun) taken =
+        let some = taken first _ (is_turn first blocks words k v later are (after.come first begun)) in
         record {
           many = some.1 ∙ after.many;
           come = λ capacity start.
-          let t = is_turn capacity blocks words k v then are (after.come capacity start) in
-          let done = taken capacity (chosen (length then) capacity blocks words k) t in
+          let t = is_turn capacity blocks words k v later are (after.come capacity start) in
+          let done = taken capacity (chosen (length later) capacity blocks words k) t in
           let word : words_to_come rest 1 ≡ words (k + 1) = after.order 0 in
-          subst (λ n. StandsFor capacity blocks (chosen n capacity blocks words (k + 1)) v' then') (sym some.1)
-          (subst (λ r. StandsFor capacity blocks r v' then') (ap (λ d. turn d (chosen (length then) capacity blocks words k)) word ∙ sym (chosen_on (length then) capacity blocks words k are).next) done.0);
+          subst (λ n. StandsFor capacity blocks (chosen n capacity blocks words (k + 1)) v' later') (sym some.1)
+          (subst (λ r. StandsFor capacity blocks r v' later') (ap (λ d. turn d (chosen (length later) capacity blocks words k)) word ∙ sym (chosen_on (length later) capacity blocks words k are).next) done.0);
           order = λ p. let same : k + suc (suc p) ≡ (k + 1) + suc p = omega arith in some.2 p ∙ after.order (suc p) ∙ ap words same;
         }
 
-    is_over : (capacity : ℕ) → IsAtStart capacity blocks w players → choices (chosen (length then) capacity blocks words k) ≡ [] → IsOver capacity blocks words v then
+    is_over : (capacity : ℕ) → IsAtStart capacity blocks w players → choices (chosen (length later) capacity blocks words k) ≡ [] → IsOver capacity blocks words v later
     is_over capacity start none = record {
-      end = chosen (length then) capacity blocks words k;
+      end = chosen (length later) capacity blocks words k;
       stands = after.come capacity start;
       chosen = record { turns = k; reached = refl; finished = none };
     }
 
-    pub turns_over : (v' : World) (then' : List PlayerState) (rest' : Order) → IsAtSomeStart blocks w players → TurnIsTaken blocks v then rest false v' then' rest' → RunIsOver blocks words w players v' then'
-    turns_over v' then' rest' (first, begun) taken =
-        let some = taken first _ (is_turn first blocks words k v then are (after.come first begun)) in
-        subst (λ (x : World). RunIsOver blocks words w players x then') (sym some.1)
+    pub turns_over : (v' : World) (later' : List PlayerState) (rest' : Order) → IsAtSomeStart blocks w players → TurnIsTaken blocks v later rest false v' later' rest' → RunIsOver blocks words w players v' later'
+    turns_over v' later' rest' (first, begun) taken =
+        let some = taken first _ (is_turn first blocks words k v later are (after.come first begun)) in
+        subst (λ (x : World). RunIsOver blocks words w players x later') (sym some.1)
         (subst (λ (ps : List PlayerState). RunIsOver blocks words w players v ps) (sym some.2)
-        (after.many, λ capacity start. is_over capacity start (taken capacity _ (is_turn capacity blocks words k v then are (after.come capacity start))).0))
+        (after.many, λ capacity start. is_over capacity start (taken capacity _ (is_turn capacity blocks words k v later are (after.come capacity start))).0))
 
-    pub turns_last : most_turns (length players) (statements_in (length players) blocks) ≤ k → RunIsOver blocks words w players v then
-    turns_last over = (after.many, λ capacity start. is_over capacity start ((chosen_on (length then) capacity blocks words k are).last (subst (λ n. most_turns n (statements_in n blocks) ≤ k) (sym after.many) over)))
+    pub turns_last : most_turns (length players) (statements_in (length players) blocks) ≤ k → RunIsOver blocks words w players v later
+    turns_last over = (after.many, λ capacity start. is_over capacity start ((chosen_on (length later) capacity blocks words k are).last (subst (λ n. most_turns n (statements_in n blocks) ≤ k) (sym after.many) over)))

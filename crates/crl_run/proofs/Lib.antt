@@ -8,8 +8,10 @@ mod Holding
 mod Lasting
 mod Likeness
 mod Playing
+mod ReportSums
 mod Shown
 mod Stages
 mod Taken
+mod Telling
 mod TurnSteps
 mod Unguarded

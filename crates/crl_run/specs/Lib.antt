@@ -8,5 +8,6 @@ pub mod Making
 pub mod PlayerState
 pub mod Players
 pub mod Playing
+pub mod Reporting
 pub mod Staging
 pub mod Turning

@@ -7,6 +7,7 @@ mod choosing;
 mod guards;
 mod held;
 mod player;
+mod reporting;
 mod taking;
 mod turning;
 pub mod turns;
