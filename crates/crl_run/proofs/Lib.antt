@@ -2,6 +2,7 @@ mod ActorLemmas
 mod AllTurns
 mod Choices
 mod Counting
+mod Ending
 mod Fitting
 mod Heard
 mod Holding

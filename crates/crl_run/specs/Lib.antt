@@ -9,5 +9,6 @@ pub mod PlayerState
 pub mod Players
 pub mod Playing
 pub mod Reporting
+pub mod Runs
 pub mod Staging
 pub mod Turning
