@@ -16,7 +16,7 @@ use Rattle.crl_protocol.specs.Handlers.{ignores, node_handles}
 use Rattle.crl_protocol.specs.Receiving.{receives, receives_as, receives_part, gathers_piece, size_for, slots_with}
 use Rattle.crl_protocol.specs.World.{World, new_world, step, steps_node, commits, collects, handles_at, carries, stays, records_of, note, put_in, is_enabled, world_after, world_of, account_from, account, IsRunFrom}
 use Rattle.crl_deeds.specs.Laws.{node_of}
-use Rattle.crl_deeds.specs.Deeds.{Cause, Calls, Hears, Copies, Lives, Rounds, Notes, What, Deed}
+use Rattle.crl_deeds.specs.Deeds.{Cause, Calls, Hears, Copies, Lives, Rounds, Notes, Deed}
 use Rattle.crl_deeds.specs.Deeds as deed
 use Rattle.crl_deeds.proofs.Laws.{call_deed, message_deed, turn_of, turn_count, append_nil}
 use Rattle.crl_regions.proofs.Laws.{count_in_run}
@@ -37,7 +37,7 @@ rounds_records : (n : Node) (cause : Cause) (o : Outcome) → Rounds n cause o �
 rounds_records n cause o (deed.comes_away part other fits) = refl
 rounds_records n cause o _ = refl
 
-notes_records : (n : Node) (c : _) (w : What) (m : Node) → Notes n c w m → m.records ≡ n.records
+notes_records : (n : Node) (c : _) (w : _) (m : Node) → Notes n c w m → m.records ≡ n.records
 notes_records n c w m (deed.flushes_own name mine closed) = refl
 notes_records n c w m _ = refl
 
@@ -93,7 +93,7 @@ nothing_added true l p = sym (append_nil l)
 nothing_added false l p = sym (append_nil l)
 
 module _ (w : World) (i : ℕ) (e : Event) (t : Taken Piece) where
-  sender : Node
+  abbrev sender : Node
   sender = note w.events e (record (w.nodes i) { outbox = t.rest })
 
   sent : (m : ℕ) → (at_node w.nodes i sender m).records ≡ (w.nodes m).records

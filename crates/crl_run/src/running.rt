@@ -91,9 +91,34 @@ fn run_to_end<N: Member>(
     ensures { IfOk result (IsPrinted nodes capacity (map (λ b. b.items) blocks.now) (words_to_come order.old)) }
 {
     let mut players = new_players(alloc, nodes)?;
-    take_turns(alloc, blocks, world, players.as_mut_slice(), order)?;
-    let stuck = is_stuck(blocks, world, players.as_slice());
-    let report = report_of(alloc, blocks, world, players.as_slice(), stuck)?;
+    play(alloc, blocks, nodes, capacity, order, world, players.as_mut_slice())
+}
+
+/// The run to its end by these players, and its report.
+///
+/// # Errors
+///
+/// `OutOfMemory`.
+fn play<N: Member>(
+    alloc: Global,
+    blocks: &[Vec<Statement>],
+    nodes: NodeNo,
+    capacity: u16,
+    order: &mut Order,
+    world: &mut World<N>,
+    players: &mut [Player],
+) -> Result<Printed, OutOfMemory>
+    requires nodes { (0 < nodes) × (nodes ≤ 64) × (length blocks.now ≡ nodes) }
+    requires statements { AreStatements (map (λ b. b.items) blocks.now) }
+    requires short { AreShort (map (λ b. b.items) blocks.now) }
+    requires few { statements_in nodes (map (λ b. b.items) blocks.now) ≤ 2 ^ 40 }
+    requires start { world_seen N.state world.old ≡ new_world nodes capacity }
+    requires players { AreNewPlayers nodes players.old }
+    ensures { IfOk result (IsPrinted nodes capacity (map (λ b. b.items) blocks.now) (words_to_come order.old)) }
+{
+    take_turns(alloc, blocks, world, players, order)?;
+    let stuck = is_stuck(blocks, world, players);
+    let report = report_of(alloc, blocks, world, players, stuck)?;
     Ok(Printed { stuck, report })
 }
 
