@@ -1,5 +1,5 @@
 -- All turns of a run, one after the other.
-use Rattle.std.proofs.Common.{◌≡◌, ◌∙◌, sym, ap, refl, ◌+◌, ◌<◌, ◌≤◌, ◌^◌, Bool, true, false, if◌then◌else◌, ℕ, zero, suc, List, [], ◌∷◌, ◌++◌, length, subst, arith}
+use Rattle.std.proofs.Common.{◌≡◌, ◌∙◌, sym, ap, refl, ◌+◌, ◌<◌, ◌≤◌, ◌^◌, Bool, true, false, if◌then◌else◌, ℕ, zero, suc, List, [], ◌∷◌, length, subst, arith}
 use Rattle.std.proofs.lemmas.List.{length-append}
 use Rattle.crl_model.specs.declared.choice.Choice.{Choice}
 use Rattle.crl_model.specs.declared.choice.Choice.TheVariants as choice
@@ -9,7 +9,7 @@ use Rattle.crl_model.specs.declared.event.Event.TheVariants as event
 use Rattle.crl_model.specs.declared.statement.Statement.{Statement}
 use Rattle.crl_protocol.specs.Verdict.{verdict}
 use Rattle.crl_protocol.specs.World.{World}
-use Rattle.crl_protocol.specs.Chosen.{Actor, Running, running, choices, takes_choice, takes_choice_at, takes_statement, makes_call, call_of, goes_on, with_actor, after_change, is_change, is_allowed, turn, turns_from}
+use Rattle.crl_protocol.specs.Chosen.{Running, running, choices, takes_choice, takes_choice_at, takes_statement, makes_call, call_of, goes_on, with_actor, after_change, is_change, is_allowed, turn, turns_from}
 use Rattle.crl_deeds.specs.Laws.{AreStatements, chosen}
 use Rattle.crl_stuck.specs.Ends.{statements_in, most_turns}
 use Rattle.crl_order.specs.declared.order.Order.{Order}
@@ -93,11 +93,11 @@ module _ (blocks : List (List Statement)) (order : Order) (w : World) (players :
         record {
           many = some.1 ∙ after.many;
           come = λ capacity start.
-          let t = is_turn capacity blocks words k v later are (after.come capacity start) in
-          let done = taken capacity (chosen (length later) capacity blocks words k) t in
-          let word : words_to_come rest 1 ≡ words (k + 1) = after.order 0 in
-          subst (λ n. StandsFor capacity blocks (chosen n capacity blocks words (k + 1)) v' later') (sym some.1)
-          (subst (λ r. StandsFor capacity blocks r v' later') (ap (λ d. turn d (chosen (length later) capacity blocks words k)) word ∙ sym (chosen_on (length later) capacity blocks words k are).next) done.0);
+              let t = is_turn capacity blocks words k v later are (after.come capacity start) in
+              let done = taken capacity (chosen (length later) capacity blocks words k) t in
+              let word : words_to_come rest 1 ≡ words (k + 1) = after.order 0 in
+              subst (λ n. StandsFor capacity blocks (chosen n capacity blocks words (k + 1)) v' later') (sym some.1)
+              (subst (λ r. StandsFor capacity blocks r v' later') (ap (λ d. turn d (chosen (length later) capacity blocks words k)) word ∙ sym (chosen_on (length later) capacity blocks words k are).next) done.0);
           order = λ p. let same : k + suc (suc p) ≡ (k + 1) + suc p = omega arith in some.2 p ∙ after.order (suc p) ∙ ap words same;
         }
 

@@ -1,5 +1,5 @@
 -- A choice of a turn: what it needs, and the run after it.
-use Rattle.std.proofs.Common.{◌≡◌, ◌∙◌, sym, ap, refl, ◌+◌, ◌<◌, ◌^◌, true, false, Option, Some, None, ℕ, zero, suc, List, [], ◌∷◌, length, drop, set, get_or, subst, arith}
+use Rattle.std.proofs.Common.{◌≡◌, ◌∙◌, sym, ap, refl, ◌<◌, ◌^◌, true, Option, Some, None, ℕ, zero, suc, List, [], ◌∷◌, length, drop, set, get_or, subst, arith}
 use Rattle.std.specs.List.{All}
 use Rattle.std.proofs.lemmas.List.{length-set}
 use Rattle.crl_model.specs.declared.call.Call.{Call}
@@ -19,13 +19,12 @@ use Rattle.crl_world.specs.Stepping.{GoesElsewhere}
 use Rattle.crl_run.specs.declared.act.Act.{Act}
 use Rattle.crl_run.specs.declared.act.Act.TheVariants as act
 use Rattle.crl_run.specs.PlayerState.{PlayerState}
-use Rattle.crl_run.specs.Players.{guards_given}
 use Rattle.crl_run.specs.Acting.{IsShort, Acts}
 use Rattle.crl_run.specs.Actors.{asked_call, call_made}
-use Rattle.crl_run.specs.Staging.{IsOnItsWay, AllStand, AfterTaken, CallsMayCome}
-use Rattle.crl_run.specs.Making.{IsKeptFrom, CallOfAct, MayBeMade, IsMade, MayTake, HasTaken}
+use Rattle.crl_run.specs.Staging.{AfterTaken}
+use Rattle.crl_run.specs.Making.{IsKeptFrom, CallOfAct, IsMade, MayTake, HasTaken}
 use Rattle.crl_run.specs.Playing.{player_of, StandsFor, IsPossible, CanChoose, SomeCanChoose, HasChosen, AreShort}
-use Rattle.crl_run.proofs.Playing.{counted, all_safe, piece_safe, piece_leaves, collect_node, handle_node, carry_node, all_put, after_answer, after_handle, after_carry}
+use Rattle.crl_run.proofs.Playing.{counted, all_safe, piece_safe, piece_leaves, all_put, after_answer, after_handle, after_carry}
 use Rattle.crl_run.proofs.Taken.{AfterMade, statement_can, statement_fits, statement_taken, statement_made}
 use Rattle.crl_run.proofs.Unguarded.{IsUnguarded, act_unguarded}
 
@@ -55,19 +54,25 @@ module _ (blocks : List (List Statement)) (w : World) (players : List PlayerStat
   carry_may i place e (capacity, r, k) = subst (λ (x : World). is_enabled (event.Carry i place) x ≡ true) (sym k.stands.world) (possible_of capacity r k (choice.Carry i place) e)
 
   pub answer_chosen : (v : World) (i : ℕ) (q : PlayerState) → c ≡ choice.Collect i → IsKeptFrom (event.Collect i) w v (player_of players i).place (player_of players i).guards q → HasChosen blocks w players c v (set players i q)
-  answer_chosen v i q e kept capacity r k =
-      (subst (λ d. StandsFor capacity blocks (takes_choice d r) v (set players i q)) (sym e)
-      (after_answer capacity blocks r w players k.stands k.way v i q (collect_may i e (capacity, r, k)) kept), length-set players i q)
+  answer_chosen v i q e kept capacity r k = (
+    subst (λ d. StandsFor capacity blocks (takes_choice d r) v (set players i q)) (sym e)
+        (after_answer capacity blocks r w players k.stands k.way v i q (collect_may i e (capacity, r, k)) kept),
+    length-set players i q,
+  )
 
   pub handle_chosen : (v : World) (i place : ℕ) → c ≡ choice.Handle i place → v ≡ (step (event.Handle i place) w).world → HasChosen blocks w players c v players
-  handle_chosen v i place e is capacity r k =
-      (subst (λ d. StandsFor capacity blocks (takes_choice d r) v players) (sym e)
-      (after_handle capacity blocks r w players k.stands k.way v i place (handle_may i place e (capacity, r, k)) is), refl)
+  handle_chosen v i place e is capacity r k = (
+    subst (λ d. StandsFor capacity blocks (takes_choice d r) v players) (sym e)
+        (after_handle capacity blocks r w players k.stands k.way v i place (handle_may i place e (capacity, r, k)) is),
+    refl,
+  )
 
   pub carry_chosen : (v : World) (i place : ℕ) → c ≡ choice.Carry i place → v ≡ (step (event.Carry i place) w).world → HasChosen blocks w players c v players
-  carry_chosen v i place e is capacity r k =
-      (subst (λ d. StandsFor capacity blocks (takes_choice d r) v players) (sym e)
-      (after_carry capacity blocks r w players k.stands k.way v i place (carry_may i place e (capacity, r, k)) is), refl)
+  carry_chosen v i place e is capacity r k = (
+    subst (λ d. StandsFor capacity blocks (takes_choice d r) v players) (sym e)
+        (after_carry capacity blocks r w players k.stands k.way v i place (carry_may i place e (capacity, r, k)) is),
+    refl,
+  )
 
 -- The next statement of a node.
 free_of : (a : Activity) → a ≡ Free → is_free a ≡ true

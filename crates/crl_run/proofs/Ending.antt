@@ -1,13 +1,13 @@
 -- A run that is over: its report.
-use Rattle.std.proofs.Common.{◌≡◌, ◌∙◌, sym, ap, ap₂, refl, ◌+◌, ◌*◌, ◌<◌, ◌≤◌, ◌^◌, Bool, true, false, if◌then◌else◌, ℕ, List, [], ◌∷◌, ◌++◌, length, subst, append_assoc, arith}
+use Rattle.std.proofs.Common.{◌≡◌, ◌∙◌, sym, ap, ap₂, ◌*◌, ◌<◌, ◌≤◌, ◌^◌, if◌then◌else◌, ℕ, List, [], ◌++◌, length, subst, append_assoc, arith}
 use Rattle.std.proofs.Math.Nat.{mul-le-mul_right}
 use Rattle.crl_model.specs.Reports.{Reported}
 use Rattle.crl_model.specs.declared.event.Event.{Event}
 use Rattle.crl_model.specs.declared.event.Event.TheVariants as event
 use Rattle.crl_model.specs.declared.statement.Statement.{Statement}
 use Rattle.crl_protocol.specs.World.{World, new_world, step, world_of, messages_sent, account, account_from}
-use Rattle.crl_protocol.specs.Chosen.{Running, running, block_of, IsChosen}
-use Rattle.crl_protocol.specs.Ends.{report, is_stuck, regions, blocked_from}
+use Rattle.crl_protocol.specs.Chosen.{Running}
+use Rattle.crl_protocol.specs.Ends.{report, is_stuck, regions}
 use Rattle.crl_deeds.specs.Laws.{AreStatements, chosen, Follows, ended, changes, calls, happens, next_call}
 use Rattle.crl_deeds.proofs.Laws.{follow_turns, append_nil}
 use Rattle.crl_stuck.specs.Ends.{statements_in, most_messages, most_turns}
@@ -16,8 +16,8 @@ use Rattle.crl_journal.specs.Told.{AreRecordsOf}
 use Rattle.crl_world.specs.Records.{records_by_node}
 use Rattle.crl_run.specs.PlayerState.{PlayerState}
 use Rattle.crl_run.specs.Staging.{IsOnItsWay}
-use Rattle.crl_run.specs.Playing.{player_of, StandsFor}
-use Rattle.crl_run.specs.Turning.{IsAtStart, IsAtSomeStart, IsOver, RunIsOver}
+use Rattle.crl_run.specs.Playing.{player_of}
+use Rattle.crl_run.specs.Turning.{IsAtStart, IsOver}
 use Rattle.crl_run.specs.Reporting.{running_seen, PrintsWhatIs, IsReportOf}
 use Rattle.crl_run.specs.Runs.{AreNewPlayers}
 use Rattle.crl_run.proofs.Lasting.{chosen_on}

@@ -1,23 +1,18 @@
 -- What a choice of a turn needs of the world, and that the players stand for the run after it.
-use Rattle.std.proofs.Common.{◌≡◌, ◌≢◌, ◌∙◌, sym, ap, ap₂, refl, ◌+◌, ◌==◌, ◌<◌, ◌≤◌, ◌^◌, Bool, true, false, if◌then◌else◌, Option, Some, None, ℕ, suc, List, [], ◌∷◌, ◌++◌, length, drop, set, get_or, subst, arith}
-use Rattle.std.proofs.lemmas.Bool.{and_parts, ltb-true, cond-true, cond-false, eqb-true, eqb-false, eq-eqb}
+use Rattle.std.proofs.Common.{◌≡◌, ◌∙◌, sym, ap, refl, ◌==◌, ◌<◌, ◌≤◌, ◌^◌, Bool, true, false, if◌then◌else◌, Option, Some, None, ℕ, List, [], ◌++◌, length, set, get_or, subst, arith}
+use Rattle.std.proofs.lemmas.Bool.{and_parts, ltb-true, eqb-true, eqb-false}
 use Rattle.std.proofs.lemmas.List.{length-set, get_or-set_same, get_or-set_other}
-use Rattle.crl_model.specs.declared.call.Call as calls
 use Rattle.crl_model.specs.declared.call.Call.TheVariants as call
-use Rattle.crl_model.specs.declared.choice.Choice.{Choice}
 use Rattle.crl_model.specs.declared.choice.Choice.TheVariants as choice
-use Rattle.crl_model.specs.declared.event.Event.{Event}
 use Rattle.crl_model.specs.declared.event.Event.TheVariants as event
 use Rattle.crl_model.specs.declared.statement.Statement.{Statement}
 use Rattle.crl_model.specs.Names.{at_node}
 use Rattle.crl_protocol.specs.Parcels.{Piece}
 use Rattle.crl_protocol.specs.Places.{Taken, take_out}
 use Rattle.crl_protocol.specs.Sections.{Guard}
-use Rattle.crl_protocol.specs.Node.{Node, Answer, Done, Free}
-use Rattle.crl_protocol.specs.Calls.{node_calls}
-use Rattle.crl_protocol.specs.Verdict.{verdict}
-use Rattle.crl_protocol.specs.World.{World, step, is_enabled, is_free, world_of, IsRun}
-use Rattle.crl_protocol.specs.Chosen.{Running, takes_choice, block_of}
+use Rattle.crl_protocol.specs.Node.{Answer, Done}
+use Rattle.crl_protocol.specs.World.{World, step, is_enabled, world_of}
+use Rattle.crl_protocol.specs.Chosen.{Running, takes_choice}
 use Rattle.crl_safety.specs.Safety.{IsSafe, PieceIsSafe}
 use Rattle.crl_regions.proofs.Laws.{count_in_run}
 use Rattle.crl_sound.proofs.Laws.{nodes_safe, pieces_safe, pieces_leave}
@@ -29,17 +24,15 @@ use Rattle.crl_run.specs.declared.act.Act.{Act}
 use Rattle.crl_run.specs.declared.act.Act.TheVariants as act
 use Rattle.crl_run.specs.PlayerState.{PlayerState}
 use Rattle.crl_run.specs.Players.{guards_given}
-use Rattle.crl_run.specs.Acting.{Acts}
-use Rattle.crl_run.specs.Actors.{asked_call, call_made}
+use Rattle.crl_run.specs.Actors.{call_made}
 use Rattle.crl_run.specs.Fits.{GuardFits}
-use Rattle.crl_run.specs.Staging.{IsOnItsWay, PlayerStands, AllStand, CallsMayCome}
-use Rattle.crl_run.specs.Making.{IsKeptFrom, CallOfAct, MayBeMade, IsMade, MayTake, HasTaken}
-use Rattle.crl_run.specs.Playing.{player_of, StandsFor, IsPossible, CanChoose}
+use Rattle.crl_run.specs.Staging.{IsOnItsWay, PlayerStands, AllStand}
+use Rattle.crl_run.specs.Making.{IsKeptFrom, IsMade}
+use Rattle.crl_run.specs.Playing.{player_of, StandsFor}
 use Rattle.crl_run.proofs.Counting.{events_counted}
 use Rattle.crl_run.proofs.Heard.{read_answer, write_answer}
 use Rattle.crl_run.proofs.Stages.{collect_stands, handle_stands, carry_stands}
-use Rattle.crl_run.proofs.Taken.{call_answer, statement_can, statement_fits, statement_taken, statement_made}
-use Rattle.crl_run.proofs.Unguarded.{IsUnguarded, act_unguarded}
+use Rattle.crl_run.proofs.Taken.{call_answer}
 
 -- The end of a section by its guard is the node's call, whose answer gives no guard.
 done_gives : (answer : Answer) (gs : List Given) → answer ≡ Done → gs ≡ guards_given answer ++ gs

@@ -1,14 +1,14 @@
 -- What is read of the nodes of a run that is over, node by node.
-use Rattle.std.proofs.Common.{◌≡◌, ◌∙◌, sym, ap, ap₂, refl, ◌+◌, ◌-◌, ◌<◌, Bool, true, false, if◌then◌else◌, ◌&&◌, ℕ, zero, suc, List, [], ◌∷◌, ◌++◌, append_assoc, zero-add, length, arith}
+use Rattle.std.proofs.Common.{◌≡◌, ◌∙◌, sym, ap, ap₂, refl, ◌+◌, ◌-◌, ◌<◌, Bool, true, if◌then◌else◌, ◌&&◌, ℕ, zero, suc, List, [], ◌++◌, append_assoc, zero-add, length, arith}
 use Rattle.std.specs.Prelude.{not}
 use Rattle.crl_model.specs.declared.blocked.Blocked.{Blocked}
 use Rattle.crl_model.specs.declared.statement.Statement.{Statement}
 use Rattle.crl_protocol.specs.Home.{is_empty}
 use Rattle.crl_protocol.specs.World.{World, is_free}
-use Rattle.crl_protocol.specs.Chosen.{Running, block_of}
+use Rattle.crl_protocol.specs.Chosen.{Running}
 use Rattle.crl_protocol.specs.Ends.{is_finished, all_finished, blocked_from, blocked_line, blocked_at, is_stuck}
 use Rattle.crl_run.specs.PlayerState.{PlayerState}
-use Rattle.crl_run.specs.Playing.{player_of, StandsFor}
+use Rattle.crl_run.specs.Playing.{StandsFor}
 use Rattle.crl_run.specs.Reporting.{running_seen}
 
 pub finished_more : (whole : Bool) (i n : ℕ) (r : Running) → i < n → is_finished i r ≡ true → whole ≡ all_finished i (n - i) r → whole ≡ all_finished (i + 1) (n - (i + 1)) r

@@ -182,6 +182,7 @@ module _ (count capacity : ℕ) (blocks : List (List Statement)) (r : Running) (
       go None (flag, stands) = ap (λ (x : Running). x.world) (taken_choice true flag)
       go (Some c) (flag, is, stands) =
           let same : c ≡ next_call r i s = is ∙ same_call node (r.actors i) rest s in
-          let out : is_inside r i s ≡ false = subst (λ d. (is_change s && is_allowed (verdict node d)) ≡ false) (same_call node (r.actors i) rest s) flag in
-          (ap (λ (x : Running). x.world) (taken_choice false flag ∙ ap (λ d. goes_on i (event.Call i d) past) (sym is)),
-          λ come below. subst (λ d. is_enabled (event.Call i d) r.world ≡ true) (sym same) (come i s rest below free (own.actor.left ∙ next) out))
+          let out : is_inside r i s ≡ false = subst (λ d. (is_change s && is_allowed (verdict node d)) ≡ false) (same_call node (r.actors i) rest s) flag in (
+            ap (λ (x : Running). x.world) (taken_choice false flag ∙ ap (λ d. goes_on i (event.Call i d) past) (sym is)),
+            λ come below. subst (λ d. is_enabled (event.Call i d) r.world ≡ true) (sym same) (come i s rest below free (own.actor.left ∙ next) out),
+          )

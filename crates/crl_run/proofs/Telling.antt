@@ -1,5 +1,5 @@
 -- What the nodes of a run recorded is what the run told.
-use Rattle.std.proofs.Common.{◌≡◌, ◌∙◌, sym, ap, ap₂, refl, ◌+◌, ◌<◌, ◌≤◌, ◌==◌, ◌&&◌, Bool, true, false, if◌then◌else◌, Option, Some, None, ℕ, zero, suc, List, [], ◌∷◌, ◌++◌, length, get_or, subst, append_assoc, zero-add, arith}
+use Rattle.std.proofs.Common.{◌≡◌, ◌∙◌, sym, ap, refl, ◌+◌, ◌<◌, ◌≤◌, ◌==◌, ◌&&◌, Bool, true, false, if◌then◌else◌, Option, Some, None, ℕ, zero, suc, List, [], ◌∷◌, ◌++◌, length, get_or, subst, append_assoc, zero-add, arith}
 use Rattle.std.proofs.lemmas.Bool.{eqb-true, and_parts, ltb-true}
 use Rattle.crl_model.specs.declared.event.Event.{Event}
 use Rattle.crl_model.specs.declared.event.Event.TheVariants as event
@@ -14,7 +14,7 @@ use Rattle.crl_protocol.specs.Node.{Node, Activity, Free, Waiting, Ready, Done, 
 use Rattle.crl_protocol.specs.Calls.{node_calls}
 use Rattle.crl_protocol.specs.Handlers.{ignores, node_handles}
 use Rattle.crl_protocol.specs.Receiving.{receives, receives_as, receives_part, gathers_piece, size_for, slots_with}
-use Rattle.crl_protocol.specs.World.{World, new_world, step, steps_node, commits, collects, handles_at, carries, stays, records_of, note, put_in, is_enabled, world_after, world_of, account_from, account, IsRunFrom}
+use Rattle.crl_protocol.specs.World.{World, new_world, step, steps_node, commits, collects, handles_at, carries, records_of, note, put_in, is_enabled, world_after, world_of, account_from, account, IsRunFrom}
 use Rattle.crl_deeds.specs.Laws.{node_of}
 use Rattle.crl_deeds.specs.Deeds.{Cause, Calls, Hears, Copies, Lives, Rounds, Notes, Deed}
 use Rattle.crl_deeds.specs.Deeds as deed
@@ -150,9 +150,11 @@ node_there (event.Carry i place) w may = ltb-true _ _ (and_parts _ _ may).0
 told_ascends : (count p : ℕ) (w : World) (es : List Event) → w.count ≡ count → p ≤ w.events → IsRunFrom w es → Ascends count p (told_from w es)
 told_ascends count p w [] same below r = tt
 told_ascends count p w (e ∷ es) same below r =
-    let one = one_more e w r.0 in
-    (subst (λ n. node_of e < n) same (node_there e w r.0), below,
-    told_ascends count (w.events + 1) (step e w).world es (turn_count w _ (turn_of w e r.0) ∙ same) (omega arith) r.1)
+    let one = one_more e w r.0 in (
+      subst (λ n. node_of e < n) same (node_there e w r.0),
+      below,
+      told_ascends count (w.events + 1) (step e w).world es (turn_count w _ (turn_of w e r.0) ∙ same) (omega arith) r.1,
+    )
 
 listed_length : (i k : ℕ) (nodes : ℕ → Node) → length (records_from i k nodes) ≡ k
 listed_length i zero nodes = refl

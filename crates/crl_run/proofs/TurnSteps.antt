@@ -1,23 +1,21 @@
 -- The choices of a turn, and the turn that is taken.
-use Rattle.std.proofs.Common.{◌≡◌, ◌∙◌, sym, ap, refl, ◌+◌, ◌<◌, ◌≤◌, ◌%◌, Bool, true, false, Some, None, ℕ, zero, suc, List, [], ◌∷◌, ◌++◌, length, drop, get_or, subst, arith}
+use Rattle.std.proofs.Common.{◌≡◌, ◌∙◌, sym, ap, refl, ◌+◌, ◌<◌, ◌%◌, Bool, true, false, Some, ℕ, zero, suc, List, [], ◌∷◌, length, get_or, subst, arith}
 use Rattle.std.specs.Prelude.{not, slice_get}
 use Rattle.std.specs.List.{AllByRecursion}
 use Rattle.std.proofs.lemmas.Bool.{and_from, lt-ltb}
 use Rattle.crl_model.specs.declared.choice.Choice.{Choice}
-use Rattle.crl_model.specs.declared.choice.Choice.TheVariants as choice
-use Rattle.crl_model.specs.declared.event.Event.TheVariants as event
 use Rattle.crl_model.specs.declared.statement.Statement.{Statement}
 use Rattle.crl_protocol.specs.Parcels.{Piece}
 use Rattle.crl_protocol.specs.Home.{is_empty}
 use Rattle.crl_protocol.specs.Node.{Activity, Free, Waiting, Ready}
 use Rattle.crl_protocol.specs.World.{World, is_enabled, is_ready}
-use Rattle.crl_protocol.specs.Chosen.{Running, next_of, nexts_from, handles_of, handles_from, carries_of, carries_from, choices, takes_choice, takes_choice_at, turn, block_of}
+use Rattle.crl_protocol.specs.Chosen.{Running, next_of, nexts_from, handles_of, handles_from, carries_of, choices, takes_choice, takes_choice_at, turn}
 use Rattle.crl_deeds.proofs.Laws.{all_append, all_gathered, nexts_gather, handles_gather, carries_gather}
 use Rattle.crl_world.specs.Choosing.{choices_by, left_in, has_some}
 use Rattle.crl_world.proofs.Laws.{choices_of_run}
 use Rattle.crl_run.specs.PlayerState.{PlayerState}
-use Rattle.crl_run.specs.Playing.{player_of, IsPossible, CanChoose, SomeCanChoose, HasChosen, StandsFor}
-use Rattle.crl_run.specs.Turning.{SayWhatIsLeft, IsTurn, SomeTurn, AfterTurn, TurnIsTaken, HasGiven}
+use Rattle.crl_run.specs.Playing.{IsPossible, CanChoose, SomeCanChoose, HasChosen, StandsFor}
+use Rattle.crl_run.specs.Turning.{SayWhatIsLeft, IsTurn, SomeTurn, TurnIsTaken, HasGiven}
 use Rattle.crl_run.proofs.Playing.{counted}
 use Rattle.crl_order.specs.declared.order.Order.{Order}
 use Rattle.crl_order.specs.Words.{words_to_come}

@@ -1,6 +1,5 @@
 -- The call that a node makes for a statement isn't the end of a section that is allowed: such an end goes by its guard.
-use Rattle.std.proofs.Common.{◌≡◌, ◌∙◌, sym, ap, refl, true, false, Option, Some, None, List, subst}
-use Rattle.crl_model.specs.declared.name.Name.{Name}
+use Rattle.std.proofs.Common.{◌≡◌, ◌∙◌, sym, refl, true, false, Option, Some, None, List, subst}
 use Rattle.crl_model.specs.declared.call.Call as calls
 use Rattle.crl_model.specs.declared.call.Call.TheVariants as call
 use Rattle.crl_model.specs.declared.call.Refusal.{Refusal}
@@ -9,10 +8,10 @@ use Rattle.crl_model.specs.declared.statement.Statement.TheVariants as statement
 use Rattle.crl_protocol.specs.Node.{Node}
 use Rattle.crl_protocol.specs.Verdict.{verdict}
 use Rattle.crl_talk.specs.Guards.{Given}
-use Rattle.crl_member.specs.Fitting.{goes_by_guard, is_end}
+use Rattle.crl_member.specs.Fitting.{goes_by_guard}
 use Rattle.crl_run.specs.declared.act.Act.{Act}
 use Rattle.crl_run.specs.declared.act.Act.TheVariants as act
-use Rattle.crl_run.specs.Players.{newest, IsOfKind}
+use Rattle.crl_run.specs.Players.{IsOfKind}
 use Rattle.crl_run.specs.Acting.{plain_call, CanAct, Acts, guard_spent}
 use Rattle.crl_run.specs.Actors.{asked_call}
 use Rattle.crl_run.proofs.Heard.{plain_verdict}

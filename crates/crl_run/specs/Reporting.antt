@@ -1,5 +1,5 @@
 -- What is printed of a run that is over.
-use Rattle.std.specs.Prelude.{◌≡◌, ℕ, Bool, true, false, if◌then◌else◌, List, [], drop}
+use Rattle.std.specs.Prelude.{◌≡◌, ℕ, Bool, if◌then◌else◌, List, [], drop}
 use Rattle.crl_model.specs.Reports.{Reported}
 use Rattle.crl_model.specs.declared.statement.Statement.{Statement}
 use Rattle.crl_protocol.specs.World.{World, messages_sent}

@@ -4,7 +4,6 @@ use Rattle.crl_model.specs.Reports.{Reported}
 use Rattle.crl_model.specs.declared.statement.Statement.{Statement}
 use Rattle.crl_run.specs.PlayerState.{PlayerState}
 use Rattle.crl_run.specs.Playing.{player_of}
-use Rattle.crl_run.specs.Staging.{AreNew}
 use Rattle.crl_run.specs.Reporting.{IsReportOf}
 use Rattle.crl_run.specs.declared.running.Printed.{Printed}
 use Rattle.crl_run.specs.declared.running.RunFault.{RunFault}

@@ -91,7 +91,15 @@ fn run_to_end<N: Member>(
     ensures { IfOk result (IsPrinted nodes capacity (map (λ b. b.items) blocks.now) (words_to_come order.old)) }
 {
     let mut players = new_players(alloc, nodes)?;
-    play(alloc, blocks, nodes, capacity, order, world, players.as_mut_slice())
+    play(
+        alloc,
+        blocks,
+        nodes,
+        capacity,
+        order,
+        world,
+        players.as_mut_slice(),
+    )
 }
 
 /// The run to its end by these players, and its report.

@@ -1,4 +1,4 @@
-use Rattle.std.proofs.Common.{◌≡◌, ◌<◌, ◌≤◌, ◌+◌, ◌∙◌, ap, sym, subst, length, map, drop, suc, [], ◌∷◌, List, arith, get_or}
+use Rattle.std.proofs.Common.{◌≡◌, ◌<◌, ◌∙◌, ap, sym, subst, length, map, drop, suc, [], ◌∷◌, List, arith, get_or}
 use Rattle.std.proofs.lemmas.List.{length-map, get_or_default, get_or-map}
 use Rattle.std.proofs.lemmas.Result.{on_ok_weaker}
 use Rattle.crl_model.specs.declared.choice.Choice.TheVariants as choice
@@ -8,7 +8,7 @@ use Rattle.crl_run.specs.Making.{MayTake, HasTaken}
 use Rattle.crl_run.specs.PlayerState.{PlayerState}
 use Rattle.crl_run.specs.Playing.{player_of}
 use Rattle.crl_world.specs.Seen.{world_seen}
-use Rattle.crl_run.proofs.Choices.{some_counted, some_safe, some_below, some_within, some_take, statement_done, short_there}
+use Rattle.crl_run.proofs.Choices.{some_safe, some_below, some_within, some_take, statement_done, short_there}
 use Rattle.crl_run.proofs.choosing.choose_statement.Goals as goal
 
 pub bounds-players-i : goal.bounds-players-i
