@@ -40,12 +40,12 @@ impl Order {
     }
 
     /// The place that the next word chooses among so many choices, from 0. It takes no memory.
-    pub fn next(&mut self, count: usize) -> usize
+    pub fn next(&mut self, count: u128) -> u128
         requires { 0 < count }
         ensures place { result ≡ words_to_come self.old 1 % count }
         ensures rest { (p : ℕ) → words_to_come self.new (suc p) ≡ words_to_come self.old (suc (suc p)) }
     {
-        self.next_word() as usize % count
+        self.next_word() as u128 % count
     }
 
     /// The next word.

@@ -5,7 +5,7 @@ use crate::Order;
 use crl_model::OutOfMemory;
 
 /// As many choices as there are words of 32 bits.
-const ALL: usize = 4_294_967_296;
+const ALL: u128 = 4_294_967_296;
 
 #[test]
 fn the_first_is_always_taken(rt: HostRuntime) {

@@ -16,7 +16,7 @@ use Rattle.crl_protocol.specs.Node.{Node, Free}
 use Rattle.crl_protocol.specs.Calls.{node_calls}
 use Rattle.crl_protocol.specs.Verdict.{verdict}
 use Rattle.crl_protocol.specs.Talk.{Heard, hears}
-use Rattle.crl_protocol.specs.World.{World, new_world, step, world_of}
+use Rattle.crl_protocol.specs.World.{World, new_world, step, is_enabled, world_of}
 use Rattle.crl_protocol.specs.Chosen.{Actor, new_actor, Running, running, call_of, draft_of, is_change, is_allowed, after_change, eight_at, with_sum, goes_on, with_actor, makes_call, takes_statement, takes_choice, block_of}
 use Rattle.crl_talk.specs.Guards.{Given}
 use Rattle.crl_run.specs.declared.act.Act.{Act}
@@ -26,7 +26,8 @@ use Rattle.crl_run.specs.Acting.{CanAct, Acts}
 use Rattle.crl_run.specs.Actors.{IsActor, IsExclusive, guards_of, asked_call, call_made, IsTakenBy}
 use Rattle.crl_run.specs.Fits.{GuardFits}
 use Rattle.crl_run.specs.Hearing.{HoldsHeard, Spends}
-use Rattle.crl_run.specs.Staging.{IsOnItsWay, PlayerStands, AllStand, AfterTaken}
+use Rattle.crl_deeds.specs.Laws.{is_inside, next_call}
+use Rattle.crl_run.specs.Staging.{IsOnItsWay, PlayerStands, AllStand, AfterTaken, CallsMayCome}
 use Rattle.crl_run.proofs.ActorLemmas.{begins, takes}
 use Rattle.crl_run.proofs.Likeness.{with_of, like_chain, KeepsSize}
 use Rattle.crl_run.proofs.Heard.{none_held, act_spends, SpendsOne}
@@ -72,7 +73,7 @@ same_call n a left (statement.Call (call.Add name offset)) = refl
 same_call n a left (statement.Call (call.Flush name)) = refl
 same_call n a left (statement.Call (call.Come part)) = refl
 
-call_answer : (i : ℕ) (c : calls.Call) (w : World) → (step (event.Call i c) w).answer ≡ (node_calls c (w.nodes i)).answer
+pub call_answer : (i : ℕ) (c : calls.Call) (w : World) → (step (event.Call i c) w).answer ≡ (node_calls c (w.nodes i)).answer
 unfolding step
 call_answer i c w = refl
 
@@ -168,3 +169,20 @@ module _ (count capacity : ℕ) (blocks : List (List Statement)) (r : Running) (
           (call_stands count capacity blocks past past_way players p i few c new may past_others own.heard
           (subst (λ (a : Actor). IsActor (block_of blocks i) p.place new a) (sym past_actor) (subst (λ k. IsActor (block_of blocks i) k new actor) (sym place) stands))
           (subst (λ answer. Spends c answer old new) (sym (call_answer i c r.world)) spends) guards)
+
+  -- The world after it, and that a call that is made may come.
+  abbrev pub AfterMade : Option calls.Call → Type 0
+  AfterMade None = (takes_choice (choice.Statement i) r).world ≡ r.world
+  AfterMade (Some c) = ((takes_choice (choice.Statement i) r).world ≡ (step (event.Call i c) r.world).world) × (CallsMayCome count capacity blocks r → i < r.world.count → is_enabled (event.Call i c) r.world ≡ true)
+
+  pub statement_made : (does : Act) (new : List Given) → Acts (verdict node (asked_call s)) s (players i).guards does new → AfterMade (call_made does)
+  statement_made does new acts = go (call_made does) (takes (block_of blocks i) (players i).place old new node s does (r.actors i) next own.actor apart statement_can acts)
+    where
+      go : (o : Option calls.Call) → IsTakenBy (block_of blocks i) (suc (players i).place) new node s actor o → AfterMade o
+      go None (flag, stands) = ap (λ (x : Running). x.world) (taken_choice true flag)
+      go (Some c) (flag, is, stands) =
+          let same : c ≡ next_call r i s = is ∙ same_call node (r.actors i) rest s in
+          let out : is_inside r i s ≡ false = subst (λ d. (is_change s && is_allowed (verdict node d)) ≡ false) (same_call node (r.actors i) rest s) flag in (
+            ap (λ (x : Running). x.world) (taken_choice false flag ∙ ap (λ d. goes_on i (event.Call i d) past) (sym is)),
+            λ come below. subst (λ d. is_enabled (event.Call i d) r.world ≡ true) (sym same) (come i s rest below free (own.actor.left ∙ next) out),
+          )

@@ -4,6 +4,11 @@ pub mod Fits
 pub mod Hearing
 pub mod Holders
 pub mod Holding
+pub mod Making
 pub mod PlayerState
 pub mod Players
+pub mod Playing
+pub mod Reporting
+pub mod Runs
 pub mod Staging
+pub mod Turning

@@ -3,12 +3,18 @@
 
 mod act;
 pub mod actors;
+mod choosing;
 mod guards;
 mod held;
 mod player;
+mod reporting;
+mod running;
+mod taking;
+mod turning;
 pub mod turns;
 
 pub use act::Act;
 pub use guards::{Reading, Writing};
 pub use held::Held;
 pub use player::Player;
+pub use running::{RunFault, run};

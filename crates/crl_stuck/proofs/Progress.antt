@@ -192,3 +192,27 @@ runs_on count words p (suc k) r same = go (choices r) refl (λ e. runs_on count 
     go : (cs : List Choice) → choices r ≡ cs → (next.world.count ≡ count → (Stops words (p + 1) k next) ⊎ (Took count k next (turns_from words (p + 1) k next))) → (Stops words p (suc k) r) ⊎ (Took count (suc k) r (turns_from words p (suc k) r))
     go [] e later = inl (record { turns = 0; fewer = omega arith; none = e })
     go (c ∷ cs) e later = let one = some_turn count (words p) r same c cs e in then_on one (later (one.nodes ∙ same))
+
+abbrev weight : ℕ → Running → ℕ
+weight count x = count_calls x.events + statements_from 0 count x.actors
+
+-- Whatever is taken, no more calls are made than statements are gone.
+pub calls_on : (count : ℕ) (words : ℕ → ℕ) (p k : ℕ) (r : Running) → r.world.count ≡ count
+    → count_calls (turns_from words p k r).events + statements_from 0 count (turns_from words p k r).actors ≤ count_calls r.events + statements_from 0 count r.actors
+calls_on count words p zero r same = omega arith
+calls_on count words p (suc k) r same = go (choices r) refl (λ e. calls_on count words (p + 1) k (turn (words p) r) e)
+  where
+    next : Running
+    next = turn (words p) r
+
+    go : (cs : List Choice) → choices r ≡ cs → (next.world.count ≡ count → weight count (turns_from words (p + 1) k next) ≤ weight count next) → weight count (turns_from words (p + 1) k next) ≤ weight count r
+    go [] e later =
+        let stays : next ≡ r = ap (λ cs. takes_choice_at (words p) cs r) e in
+        let rest = later (ap (λ (x : Running). x.world.count) stays ∙ same) in
+        let kept : weight count next ≡ weight count r = ap (weight count) stays in
+        omega arith
+    go (c ∷ cs) e later =
+        let one = some_turn count (words p) r same c cs e in
+        let rest = later (one.nodes ∙ same) in
+        let gone = one.calls in
+        omega arith

@@ -13,7 +13,7 @@ use Rattle.crl_bound.specs.Counters.{count_calls, count_collects}
 use Rattle.crl_bound.proofs.Laws.{messages_bounded, events_few}
 use Rattle.crl_stuck.specs.Ends.{statements_from, statements_in, most_messages, most_turns, RunEnds, ForEachScript, LastIsStuck}
 use Rattle.crl_stuck.proofs.Sizes.{bound_few}
-use Rattle.crl_stuck.proofs.Progress.{Took, Stops, runs_on}
+use Rattle.crl_stuck.proofs.Progress.{Took, Stops, runs_on, calls_on}
 use Rattle.crl_stuck.proofs.Waiters.{ends_stuck}
 
 pub chosen_run : (count capacity : ℕ) (blocks : List (List Statement)) (words : ℕ → ℕ) (k : ℕ) → AreStatements blocks → IsRunFrom (new_world count capacity) (chosen count capacity blocks words k).events
@@ -80,3 +80,19 @@ run_ends count capacity blocks words are = go (runs_on count words 1 (suc most) 
       stuck = stuck_chosen count capacity blocks words are s.turns s.none;
     }
     go (inr t) = absurd (too_many t)
+
+-- each statement leads to so many messages at most
+pub messages_most : (count capacity : ℕ) (blocks : List (List Statement)) (words : ℕ → ℕ) (k : ℕ) → AreStatements blocks → messages_sent (chosen count capacity blocks words k).world ≤ statements_in count blocks * most_messages count
+messages_most count capacity blocks words k are =
+    let run = (chosen count capacity blocks words k).events in
+    let r = chosen_run count capacity blocks words k are in
+    let calls = calls_on count words 1 k (running count capacity blocks) refl in
+    let few : count_calls run ≤ statements_in count blocks = omega arith in
+    let sent = messages_bounded count capacity run r in
+    let bounded = bound_few (new_world count capacity) [] run r tt in
+    let most = mul-le-mul_right (most_messages count) few in
+    let same = ap messages_sent (follow_world (follow_turns count capacity blocks words k)) in
+    by_numbers _ _ _ _ _ same sent bounded most
+  where
+    by_numbers : (a b c d e : ℕ) → a ≡ b → b ≤ c → c ≤ d → d ≤ e → a ≤ e
+    by_numbers a b c d e h k l m = omega arith

@@ -1,0 +1,96 @@
+-- A run that is over: its report.
+use Rattle.std.proofs.Common.{◌≡◌, ◌∙◌, sym, ap, ap₂, ◌*◌, ◌<◌, ◌≤◌, ◌^◌, if◌then◌else◌, ℕ, List, [], ◌++◌, length, subst, append_assoc, arith}
+use Rattle.std.proofs.Math.Nat.{mul-le-mul_right}
+use Rattle.crl_model.specs.Reports.{Reported}
+use Rattle.crl_model.specs.declared.event.Event.{Event}
+use Rattle.crl_model.specs.declared.event.Event.TheVariants as event
+use Rattle.crl_model.specs.declared.statement.Statement.{Statement}
+use Rattle.crl_protocol.specs.World.{World, new_world, step, world_of, messages_sent, account, account_from}
+use Rattle.crl_protocol.specs.Chosen.{Running}
+use Rattle.crl_protocol.specs.Ends.{report, is_stuck, regions}
+use Rattle.crl_deeds.specs.Laws.{AreStatements, chosen, Follows, ended, changes, calls, happens, next_call}
+use Rattle.crl_deeds.proofs.Laws.{follow_turns, append_nil}
+use Rattle.crl_stuck.specs.Ends.{statements_in, most_messages, most_turns}
+use Rattle.crl_stuck.proofs.Laws.{messages_most}
+use Rattle.crl_journal.specs.Told.{AreRecordsOf}
+use Rattle.crl_world.specs.Records.{records_by_node}
+use Rattle.crl_run.specs.PlayerState.{PlayerState}
+use Rattle.crl_run.specs.Staging.{IsOnItsWay}
+use Rattle.crl_run.specs.Playing.{player_of}
+use Rattle.crl_run.specs.Turning.{IsAtStart, IsOver}
+use Rattle.crl_run.specs.Reporting.{running_seen, PrintsWhatIs, IsReportOf}
+use Rattle.crl_run.specs.Runs.{AreNewPlayers}
+use Rattle.crl_run.proofs.Lasting.{chosen_on}
+use Rattle.crl_run.proofs.Taken.{players_begin}
+use Rattle.crl_run.proofs.Playing.{counted, as_many}
+use Rattle.crl_run.proofs.ReportSums.{stuck_same, blocked_same}
+use Rattle.crl_run.proofs.Telling.{told_from, told_by_run, account_told}
+
+-- the entries of what follows
+follow_account : {r end : Running} {es : List Event} → Follows r es end → end.entries ≡ r.entries ++ account_from r.world es
+follow_account (ended {r = r}) = sym (append_nil r.entries)
+follow_account (changes i s left h n e f) = follow_account f
+follow_account {r = r} (calls {es = es} i s left h n e f) =
+    let done = step (event.Call i (next_call r i s)) r.world in follow_account f ∙ append_assoc r.entries done.entries (account_from done.world es)
+follow_account {r = r} (happens {es = es} i e a b c f) =
+    let done = step e r.world in follow_account f ∙ append_assoc r.entries done.entries (account_from done.world es)
+
+same_reports : (a b : Reported) → a.entries ≡ b.entries → a.regions ≡ b.regions → a.blocked ≡ b.blocked → a.events ≡ b.events → a.messages ≡ b.messages → a ≡ b
+same_reports a b e f g h k = λ i. record { entries = e i; regions = f i; blocked = g i; events = h i; messages = k i }
+
+pub begins_there : (count capacity : ℕ) (blocks : List (List Statement)) (w : World) (players : List PlayerState) → w ≡ new_world count capacity → AreNewPlayers count players → IsAtStart capacity blocks w players
+begins_there count capacity blocks w players e new = record {
+  world = e ∙ ap (λ n. new_world n capacity) (sym new.many);
+  all = players_begin (length players) capacity blocks (player_of players) (λ i lt. new.are i (subst (λ n. i < n) new.many lt));
+}
+
+module _ (capacity : ℕ) (blocks : List (List Statement)) (words : ℕ → ℕ) (v : World) (players : List PlayerState) (are : AreStatements blocks) (over : IsOver capacity blocks words v players) where
+  at_end : (P : Running → Type 0) → P (chosen (length players) capacity blocks words over.chosen.turns) → P over.end
+  at_end P h = subst P (sym over.chosen.reached) h
+
+  end_way : IsOnItsWay (length players) capacity over.end
+  end_way = at_end (λ r. IsOnItsWay (length players) capacity r) (chosen_on (length players) capacity blocks words over.chosen.turns are).way
+
+  end_entries : over.end.entries ≡ account (length players) capacity over.end.events
+  end_entries = at_end (λ r. r.entries ≡ account (length players) capacity r.events) (follow_account (follow_turns (length players) capacity blocks words over.chosen.turns))
+
+  pub end_counted : v.count ≡ length players
+  end_counted = counted capacity blocks over.end v players over.stands end_way
+
+  pub end_messages : messages_sent v ≤ statements_in (length players) blocks * most_messages (length players)
+  end_messages = subst (λ (x : World). messages_sent x ≤ statements_in (length players) blocks * most_messages (length players)) (sym over.stands.world)
+      (at_end (λ r. messages_sent r.world ≤ statements_in (length players) blocks * most_messages (length players)) (messages_most (length players) capacity blocks words over.chosen.turns are))
+
+  pub end_reported : (printed : Reported) → PrintsWhatIs blocks v players printed → IsReportOf (length players) capacity blocks words (is_stuck (running_seen blocks v players)) printed
+  end_reported printed is =
+      let stuck = stuck_same capacity blocks over.end v players over.stands end_counted in
+      let same : world_of (length players) capacity over.end.events ≡ v = sym (over.stands.world ∙ end_way.world) in
+      record {
+        end = over.end;
+        chosen = over.chosen;
+        reported = same_reports printed (report over.end)
+            (is.entries (told_from (new_world (length players) capacity) over.end.events) (subst (λ (x : World). AreRecordsOf (told_from (new_world (length players) capacity) over.end.events) (records_by_node x)) same (told_by_run (length players) capacity over.end.events end_way.run))
+            ∙ account_told (length players) capacity over.end.events end_way.run ∙ sym end_entries)
+            (is.regions ∙ ap₂ (λ b (x : World). if b then [] else regions x) stuck over.stands.world)
+            (is.blocked ∙ ap₂ (λ b l. if b then l else []) stuck (blocked_same capacity blocks over.end v players over.stands end_counted))
+            (is.events ∙ as_many capacity blocks over.end v players over.stands end_way)
+            (is.messages ∙ ap messages_sent over.stands.world);
+        is_so = sym stuck;
+      }
+
+-- The numbers fit.
+module _ (count statements : ℕ) (few : count ≤ 64) (script : statements ≤ 2 ^ 40) where
+  most_few : most_messages count ≤ 2000
+  most_few = omega arith
+
+  product : statements * most_messages count ≤ 2 ^ 40 * 2000
+  product =
+      let a = mul-le-mul_right (most_messages count) script in
+      let b = most_few in
+      omega arith
+
+  pub turns_fit : most_turns count statements ≤ 2 ^ 60
+  turns_fit = let p = product in omega arith
+
+  pub messages_fit : (sent : ℕ) → sent ≤ statements * most_messages count → sent < 2 ^ 64
+  messages_fit sent h = let p = product in omega arith

@@ -1,0 +1,172 @@
+//! The run of a script under an order.
+ghost use Rattle.std.specs.Prelude.{◌≡◌, ◌<◌, ◌≤◌, ◌^◌, false, length, map, IfOk, MatchResult};
+ghost use Rattle.crl_deeds.specs.Laws.{AreStatements};
+ghost use Rattle.crl_order.specs.Words.{words_to_come};
+ghost use Rattle.crl_stuck.specs.Ends.{statements_in};
+ghost use Rattle.crl_world.specs.Seen.{world_seen};
+ghost use Rattle.crl_protocol.specs.World.{new_world};
+ghost use Rattle.crl_run.specs.Playing.{AreShort};
+ghost use Rattle.crl_run.specs.Reporting.{IsReportOf};
+ghost use Rattle.crl_run.specs.Runs.{AreNewPlayers, IsPrinted, IsFaultOf, HasReport};
+
+use crate::player::Player;
+use crate::reporting::{is_stuck, report_of};
+use crate::turning::take_turns;
+use crl_member::Member;
+use crl_model::report::Report;
+use crl_model::statement::Statement;
+use crl_model::{NodeNo, OutOfMemory};
+use crl_order::Order;
+use crl_world::{StartFault, World};
+use std::alloc::Global;
+
+/// Why a run has no report of regions.
+#[derive(Debug, Drop)]
+pub enum RunFault {
+    /// The run is stuck: some nodes wait for each other. The report says what blocks each node that isn't finished.
+    Stuck(Report),
+    OutOfMemory,
+}
+
+/// A report, and whether its run is stuck.
+#[derive(Drop)]
+pub(crate) struct Printed {
+    pub stuck: bool,
+    pub report: Report,
+}
+
+/// The players of nodes that did nothing yet.
+///
+/// # Errors
+///
+/// `OutOfMemory`.
+fn new_players(alloc: Global, nodes: NodeNo) -> Result<Vec<Player>, OutOfMemory>
+    ensures { IfOk result (λ players. AreNewPlayers nodes players.items) }
+{
+    let mut players = Vec::with_capacity(alloc, nodes as usize)?;
+    for _ in 0..nodes {
+        players.push(Player::new(alloc))?;
+    }
+    Ok(players)
+}
+
+/// A new world.
+///
+/// # Errors
+///
+/// `OutOfMemory`.
+fn first_world<N: Member>(
+    alloc: Global,
+    nodes: NodeNo,
+    capacity: u16,
+) -> Result<World<N>, OutOfMemory>
+    requires { (0 < nodes) × (nodes ≤ 64) }
+    ensures { IfOk result (λ w. world_seen N.state w ≡ new_world nodes capacity) }
+{
+    match World::new(alloc, nodes, capacity) {
+        Ok(world) => Ok(world),
+        Err(StartFault::BadNodes) => unreachable!(),
+        Err(StartFault::OutOfMemory) => Err(OutOfMemory),
+    }
+}
+
+/// The run to its end, and its report.
+///
+/// # Errors
+///
+/// `OutOfMemory`.
+fn run_to_end<N: Member>(
+    alloc: Global,
+    blocks: &[Vec<Statement>],
+    nodes: NodeNo,
+    capacity: u16,
+    order: &mut Order,
+    world: &mut World<N>,
+) -> Result<Printed, OutOfMemory>
+    requires nodes { (0 < nodes) × (nodes ≤ 64) × (length blocks.now ≡ nodes) }
+    requires statements { AreStatements (map (λ b. b.items) blocks.now) }
+    requires short { AreShort (map (λ b. b.items) blocks.now) }
+    requires few { statements_in nodes (map (λ b. b.items) blocks.now) ≤ 2 ^ 40 }
+    requires start { world_seen N.state world.old ≡ new_world nodes capacity }
+    ensures { IfOk result (IsPrinted nodes capacity (map (λ b. b.items) blocks.now) (words_to_come order.old)) }
+{
+    let mut players = new_players(alloc, nodes)?;
+    play(
+        alloc,
+        blocks,
+        nodes,
+        capacity,
+        order,
+        world,
+        players.as_mut_slice(),
+    )
+}
+
+/// The run to its end by these players, and its report.
+///
+/// # Errors
+///
+/// `OutOfMemory`.
+fn play<N: Member>(
+    alloc: Global,
+    blocks: &[Vec<Statement>],
+    nodes: NodeNo,
+    capacity: u16,
+    order: &mut Order,
+    world: &mut World<N>,
+    players: &mut [Player],
+) -> Result<Printed, OutOfMemory>
+    requires nodes { (0 < nodes) × (nodes ≤ 64) × (length blocks.now ≡ nodes) }
+    requires statements { AreStatements (map (λ b. b.items) blocks.now) }
+    requires short { AreShort (map (λ b. b.items) blocks.now) }
+    requires few { statements_in nodes (map (λ b. b.items) blocks.now) ≤ 2 ^ 40 }
+    requires start { world_seen N.state world.old ≡ new_world nodes capacity }
+    requires players { AreNewPlayers nodes players.old }
+    ensures { IfOk result (IsPrinted nodes capacity (map (λ b. b.items) blocks.now) (words_to_come order.old)) }
+{
+    take_turns(alloc, blocks, world, players, order)?;
+    let stuck = is_stuck(blocks, world, players);
+    let report = report_of(alloc, blocks, world, players, stuck)?;
+    Ok(Printed { stuck, report })
+}
+
+/// The run that the script and the order choose, to its end: its report, in which no node is blocked. `blocks` has the
+/// statements of each node, and each cache has room for `capacity` names.
+///
+/// # Errors
+///
+/// `Stuck` with the report where the run ends with nodes that aren't finished; else `OutOfMemory`.
+pub fn run<N: Member>(
+    alloc: Global,
+    blocks: &[Vec<Statement>],
+    nodes: NodeNo,
+    capacity: u16,
+    order: Order,
+) -> Result<Report, RunFault>
+    requires nodes { (0 < nodes) × (nodes ≤ 64) × (length blocks.now ≡ nodes) }
+    requires statements { AreStatements (map (λ b. b.items) blocks.now) }
+    requires short { AreShort (map (λ b. b.items) blocks.now) }
+    requires few { statements_in nodes (map (λ b. b.items) blocks.now) ≤ 2 ^ 40 }
+    ensures { let all = map (λ b. b.items) blocks.now in
+        MatchResult result (IsReportOf nodes capacity all (words_to_come order) false) (IsFaultOf nodes capacity all (words_to_come order)) }
+{
+    let mut order = order;
+    let mut world: World<N> = match first_world(alloc, nodes, capacity) {
+        Ok(world) => world,
+        Err(_) => return Err(RunFault::OutOfMemory),
+    };
+    match run_to_end(alloc, blocks, nodes, capacity, &mut order, &mut world) {
+        Ok(printed) => printed_as(printed),
+        Err(_) => Err(RunFault::OutOfMemory),
+    }
+}
+
+/// The report, or the fault that has it.
+fn printed_as(printed: Printed) -> Result<Report, RunFault>
+    ensures { MatchResult result (λ report. (printed.stuck ≡ false) × (report ≡ printed.report)) (HasReport printed.stuck printed.report) }
+{
+    if printed.stuck {
+        return Err(RunFault::Stuck(printed.report));
+    }
+    Ok(printed.report)
+}

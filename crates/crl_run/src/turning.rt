@@ -1,0 +1,99 @@
+//! A turn of a run, and all of its turns.
+ghost use Rattle.std.specs.Prelude.{◌≡◌, ◌<◌, ◌≤◌, ◌^◌, length, map, IfOk, OnOk};
+ghost use Rattle.crl_deeds.specs.Laws.{AreStatements};
+ghost use Rattle.crl_order.specs.Words.{words_to_come};
+ghost use Rattle.crl_stuck.specs.Ends.{statements_in, most_turns};
+ghost use Rattle.crl_world.specs.Seen.{world_seen};
+ghost use Rattle.crl_run.specs.Playing.{AreShort};
+ghost use Rattle.crl_run.specs.Turning.{SayWhatIsLeft, SomeTurn, TurnIsTaken, IsAtSomeStart, RunIsOver};
+
+use crate::choosing::take_choice;
+use crate::player::Player;
+use crl_member::Member;
+use crl_model::OutOfMemory;
+use crl_model::statement::Statement;
+use crl_order::Order;
+use crl_world::World;
+use std::alloc::Global;
+
+/// Which nodes have a statement left.
+///
+/// # Errors
+///
+/// `OutOfMemory`.
+fn nodes_left(
+    alloc: Global,
+    blocks: &[Vec<Statement>],
+    players: &[Player],
+) -> Result<Vec<bool>, OutOfMemory>
+    requires nodes { length blocks.now ≡ length players.now }
+    ensures { IfOk result (λ left. SayWhatIsLeft (map (λ b. b.items) blocks.now) players.now left.items) }
+{
+    let mut left = Vec::with_capacity(alloc, players.len())?;
+    for i in 0..players.len() {
+        left.push(!players[i].is_done(blocks[i].as_slice()))?;
+    }
+    Ok(left)
+}
+
+/// One turn: the choice is taken at the place that the order's next word gives. Or there is no choice left.
+///
+/// # Errors
+///
+/// `OutOfMemory`.
+fn take_turn<N: Member>(
+    alloc: Global,
+    blocks: &[Vec<Statement>],
+    world: &mut World<N>,
+    players: &mut [Player],
+    order: &mut Order,
+) -> Result<bool, OutOfMemory>
+    requires nodes { length blocks.now ≡ length players.old }
+    requires short { AreShort (map (λ b. b.items) blocks.now) }
+    requires few { world.old.events < 2 ^ 62 }
+    requires some { SomeTurn (map (λ b. b.items) blocks.now) (world_seen N.state world.old) players.old }
+    ensures { let w = world_seen N.state world.old in
+        let v = world_seen N.state world.new in
+        IfOk result (λ more. TurnIsTaken (map (λ b. b.items) blocks.now) w players.old order.old more v players.new order.new) }
+{
+    let left = nodes_left(alloc, blocks, players)?;
+    let count = world.choice_count(left.as_slice());
+    if count == 0 {
+        return Ok(false);
+    }
+    let choice = world.choice(left.as_slice(), order.next(count));
+    take_choice(alloc, blocks, world, players, choice)?;
+    Ok(true)
+}
+
+/// The largest number of turns, 2^60. A script of at most 2^40 statements has fewer.
+const TURN_LIMIT: u64 = 0x1000_0000_0000_0000;
+
+/// All turns, until no choice is left.
+///
+/// # Errors
+///
+/// `OutOfMemory`.
+pub(crate) fn take_turns<N: Member>(
+    alloc: Global,
+    blocks: &[Vec<Statement>],
+    world: &mut World<N>,
+    players: &mut [Player],
+    order: &mut Order,
+) -> Result<(), OutOfMemory>
+    requires nodes { length blocks.now ≡ length players.old }
+    requires short { AreShort (map (λ b. b.items) blocks.now) }
+    requires statements { AreStatements (map (λ b. b.items) blocks.now) }
+    requires limit { most_turns (length players.old) (statements_in (length players.old) (map (λ b. b.items) blocks.now)) ≤ 2 ^ 60 }
+    requires start { IsAtSomeStart (map (λ b. b.items) blocks.now) (world_seen N.state world.old) players.old }
+    ensures { let w = world_seen N.state world.old in
+        let v = world_seen N.state world.new in
+        OnOk result (RunIsOver (map (λ b. b.items) blocks.now) (words_to_come order.old) w players.old v players.new) }
+{
+    for _ in 0..TURN_LIMIT {
+        if !take_turn(alloc, blocks, world, players, order)? {
+            return Ok(());
+        }
+    }
+    Ok(())
+}
