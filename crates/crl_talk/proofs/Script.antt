@@ -18,11 +18,10 @@ use Rattle.crl_deeds.specs.Laws.{IsNext, next_call, is_inside, node_of, is_call_
 use Rattle.crl_talk.specs.Script.{Drafts, no_drafts, drafts_given, Changes, puts, adds, IsPlain, CallsFor, plain, leaves, cant_leave, cant_change, calls_at, CallsAre, CallsAreThose}
 use Rattle.crl_talk.specs.Script as script
 
--- what is left of an actor's statements
-record Says (n : ℕ) (w : World) (a : Actor) (es : List Event) : Type 0 where
+-- of an actor's statements these are the last, and the others make the calls
+record Says (n : ℕ) (w : World) (a : Actor) (last : List Statement) (es : List Event) : Type 0 where
   reached : List Statement
-  rest : List Statement
-  parts : a.left ≡ reached ++ rest
+  parts : a.left ≡ reached ++ last
   calls : CallsAre n w a.drafts reached es
 
 here : (f : ℕ → Actor) (i n : ℕ) (x : Actor) → (i == n) ≡ true → at_node f i x n ≡ x
@@ -90,9 +89,9 @@ call_of_left n a left (statement.Put name offset bytes) = refl
 call_of_left n a left (statement.Add name offset number) = refl
 
 -- another node's event, and a call of this one
-said_passes : (n : ℕ) (r : Running) (i : ℕ) (e : Event) (es : List Event) (f : ℕ → Actor) → f n ≡ r.actors n → node_of e ≡ i → calls_at n e ≡ false → (b : Bool) → (i == n) ≡ b
-    → Says n (step e r.world).world (at_node f i (takes_guard (step e r.world).answer (f i)) n) es → Says n r.world (r.actors n) (e ∷ es)
-said_passes n r i e es f same own apart b k h = record { reached = h.reached; rest = h.rest; parts = left b k ∙ h.parts; calls = script.passes e apart (subst (λ d. CallsAre n (step e r.world).world d h.reached es) (drafts b k) h.calls) }
+said_passes : (n : ℕ) (r : Running) (i : ℕ) (e : Event) (es : List Event) (last : List Statement) (f : ℕ → Actor) → f n ≡ r.actors n → node_of e ≡ i → calls_at n e ≡ false → (b : Bool) → (i == n) ≡ b
+    → Says n (step e r.world).world (at_node f i (takes_guard (step e r.world).answer (f i)) n) last es → Says n r.world (r.actors n) last (e ∷ es)
+said_passes n r i e es last f same own apart b k h = record { reached = h.reached; parts = left b k ∙ h.parts; calls = script.passes e apart (subst (λ d. CallsAre n (step e r.world).world d h.reached es) (drafts b k) h.calls) }
   where
     answer : Answer
     answer = (step e r.world).answer
@@ -114,11 +113,11 @@ said_passes n r i e es f same own apart b k h = record { reached = h.reached; re
     drafts false k =
         ap (λ (a : Actor). a.drafts) (other f i n (takes_guard answer (f i)) k ∙ same) ∙ sym (cond-false (node_of e == n) _ _ (ap (λ x. x == n) own ∙ k))
 
-said_call : (r : Running) (i : ℕ) (s : Statement) (left : List Statement) (es : List Event) → IsNext r i s left → is_inside r i s ≡ false → (a : Actor) → a ≡ record (r.actors i) { left = left }
-    → Says i (step (event.Call i (next_call r i s)) r.world).world (takes_guard (step (event.Call i (next_call r i s)) r.world).answer a) es → Says i r.world (r.actors i) (event.Call i (next_call r i s) ∷ es)
-said_call r i s left es next out a same h = record {
+said_call : (r : Running) (i : ℕ) (s : Statement) (left : List Statement) (es : List Event) (last : List Statement) → IsNext r i s left → is_inside r i s ≡ false → (a : Actor)
+    → a ≡ record (r.actors i) { left = left } → Says i (step (event.Call i (next_call r i s)) r.world).world (takes_guard (step (event.Call i (next_call r i s)) r.world).answer a) last es
+    → Says i r.world (r.actors i) last (event.Call i (next_call r i s) ∷ es)
+said_call r i s left es last next out a same h = record {
   reached = s ∷ h.reached;
-  rest = h.rest;
   parts = next.0 ∙ ap (λ ss. s ∷ ss) (sym (left_same done.answer a ∙ ap (λ (x : Actor). x.left) same) ∙ h.parts);
   calls = script.made s (next_call r i s) next.1 (call_for (r.world.nodes i) (r.actors i) s out)
       (subst (λ d. CallsAre i done.world d h.reached es) (drafts_same done.answer a ∙ ap (λ (x : Actor). drafts_given done.answer x.drafts) same) h.calls);
@@ -127,13 +126,13 @@ said_call r i s left es next out a same h = record {
     done : WorldStep
     done = step (event.Call i (next_call r i s)) r.world
 
-said_change : (r : Running) (i : ℕ) (s : Statement) (left : List Statement) (es : List Event) → IsNext r i s left → is_inside r i s ≡ true
-    → Says i r.world (after_change s (record (r.actors i) { left = left })) es → Says i r.world (r.actors i) es
-said_change r i s left es next inside h =
+said_change : (r : Running) (i : ℕ) (s : Statement) (left : List Statement) (es : List Event) (last : List Statement) → IsNext r i s left → is_inside r i s ≡ true
+    → Says i r.world (after_change s (record (r.actors i) { left = left })) last es → Says i r.world (r.actors i) last es
+said_change r i s left es last next inside h =
     let a : Actor = record (r.actors i) { left = left } in
     let same = call_of_left (r.world.nodes i) (r.actors i) left s in
     let k = change_of (r.world.nodes i) a s (ap (λ c. is_change s && is_allowed (verdict (r.world.nodes i) c)) same ∙ inside) in
-    record { reached = s ∷ h.reached; rest = h.rest; parts = next.0 ∙ ap (λ ss. s ∷ ss) (sym k.2 ∙ h.parts); calls = script.left_out s (call_of (r.world.nodes i) a s) next.1 k.0 k.1 h.calls }
+    record { reached = s ∷ h.reached; parts = next.0 ∙ ap (λ ss. s ∷ ss) (sym k.2 ∙ h.parts); calls = script.left_out s (call_of (r.world.nodes i) a s) next.1 k.0 k.1 h.calls }
 
 not_call : (n : ℕ) (e : Event) → is_call_event e ≡ false → calls_at n e ≡ false
 not_call n (event.Call i c) h = cc
@@ -141,20 +140,26 @@ not_call n (event.Collect i) h = refl
 not_call n (event.Handle i place) h = refl
 not_call n (event.Carry i place) h = refl
 
-says : (n : ℕ) {r end : Running} {es : List Event} → Follows r es end → Says n r.world (r.actors n) es
-says n (ended {r = r}) = record { reached = []; rest = (r.actors n).left; parts = refl; calls = script.ended }
-says n {r = r} (changes {es = es} i s left few next inside f) = go (i == n) refl (says n f)
+says : (n : ℕ) {r end : Running} {es : List Event} → Follows r es end → Says n r.world (r.actors n) (end.actors n).left es
+says n (ended {r = r}) = record { reached = []; parts = refl; calls = script.ended }
+says n {r = r} {end = end} (changes {es = es} i s left few next inside f) = go (i == n) refl (says n f)
   where
+    last : List Statement
+    last = (end.actors n).left
+
     a : Actor
     a = after_change s (record (r.actors i) { left = left })
 
-    go : (b : Bool) → (i == n) ≡ b → Says n r.world (at_node r.actors i a n) es → Says n r.world (r.actors n) es
+    go : (b : Bool) → (i == n) ≡ b → Says n r.world (at_node r.actors i a n) last es → Says n r.world (r.actors n) last es
     go true k h =
         let own = eqb-true i n k in
-        subst (λ m. Says m r.world (r.actors m) es) own (said_change r i s left es next inside (subst (λ m. Says m r.world a es) (sym own) (subst (λ x. Says n r.world x es) (here r.actors i n a k) h)))
-    go false k h = subst (λ x. Says n r.world x es) (other r.actors i n a k) h
-says n {r = r} (calls {es = es} i s left few next out f) = go (i == n) refl (says n f)
+        subst (λ m. Says m r.world (r.actors m) last es) own (said_change r i s left es last next inside (subst (λ m. Says m r.world a last es) (sym own) (subst (λ x. Says n r.world x last es) (here r.actors i n a k) h)))
+    go false k h = subst (λ x. Says n r.world x last es) (other r.actors i n a k) h
+says n {r = r} {end = end} (calls {es = es} i s left few next out f) = go (i == n) refl (says n f)
   where
+    last : List Statement
+    last = (end.actors n).left
+
     e : Event
     e = event.Call i (next_call r i s)
 
@@ -164,16 +169,16 @@ says n {r = r} (calls {es = es} i s left few next out f) = go (i == n) refl (say
     p : ℕ → Actor
     p = at_node r.actors i a
 
-    go : (b : Bool) → (i == n) ≡ b → Says n (step e r.world).world (at_node p i (takes_guard (step e r.world).answer (p i)) n) es → Says n r.world (r.actors n) (e ∷ es)
+    go : (b : Bool) → (i == n) ≡ b → Says n (step e r.world).world (at_node p i (takes_guard (step e r.world).answer (p i)) n) last es → Says n r.world (r.actors n) last (e ∷ es)
     go true k h =
         let own = eqb-true i n k in
-        subst (λ m. Says m r.world (r.actors m) (e ∷ es)) own
-        (said_call r i s left es next out (p i) (here r.actors i i a (eq-eqb i i refl))
-        (subst (λ m. Says m (step e r.world).world (takes_guard (step e r.world).answer (p i)) es) (sym own)
-        (subst (λ x. Says n (step e r.world).world x es) (here p i n (takes_guard (step e r.world).answer (p i)) k) h)))
-    go false k h = said_passes n r i e es p (other r.actors i n a k) refl k false k h
-says n {r = r} (happens {es = es} i e own quiet may f) = said_passes n r i e es r.actors refl own (not_call n e quiet) (i == n) refl (says n f)
+        subst (λ m. Says m r.world (r.actors m) last (e ∷ es)) own
+        (said_call r i s left es last next out (p i) (here r.actors i i a (eq-eqb i i refl))
+        (subst (λ m. Says m (step e r.world).world (takes_guard (step e r.world).answer (p i)) last es) (sym own)
+        (subst (λ x. Says n (step e r.world).world x last es) (here p i n (takes_guard (step e r.world).answer (p i)) k) h)))
+    go false k h = said_passes n r i e es last p (other r.actors i n a k) refl k false k h
+says n {r = r} {end = end} (happens {es = es} i e own quiet may f) = said_passes n r i e es (end.actors n).left r.actors refl own (not_call n e quiet) (i == n) refl (says n f)
 
 pub calls_follow : (count capacity : ℕ) (blocks : List (List Statement)) (run : List Event) (end : Running) → Follows (running count capacity blocks) run end → (n : ℕ)
-    → CallsAreThose n (running count capacity blocks).world (block_of blocks n) run
-calls_follow count capacity blocks run end f n = let h = says n f in record { reached = h.reached; rest = h.rest; parts = h.parts; calls = h.calls }
+    → CallsAreThose n (running count capacity blocks).world (block_of blocks n) (end.actors n).left run
+calls_follow count capacity blocks run end f n = let h = says n f in record { reached = h.reached; parts = h.parts; calls = h.calls }

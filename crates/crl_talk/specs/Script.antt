@@ -65,9 +65,8 @@ pub data CallsAre (n : ℕ) : World → Drafts → List Statement → List Event
   passes : {w : World} {d : Drafts} {ss : List Statement} {es : List Event} (e : Event) → calls_at n e ≡ false
       → CallsAre n (step e w).world (if node_of e == n then drafts_given (step e w).answer d else d) ss es → CallsAre n w d ss (e ∷ es)
 
--- A prefix of the node's statements gives its calls; the rest wasn't reached.
-pub record CallsAreThose (n : ℕ) (w : World) (statements : List Statement) (run : List Event) : Type 0 where
+-- The node has these of its statements left, and those before them give its calls.
+pub record CallsAreThose (n : ℕ) (w : World) (statements left : List Statement) (run : List Event) : Type 0 where
   pub reached : List Statement
-  pub rest : List Statement
-  pub parts : statements ≡ reached ++ rest
+  pub parts : statements ≡ reached ++ left
   pub calls : CallsAre n w no_drafts reached run

@@ -10,10 +10,10 @@ ghost use Rattle.crl_talk.specs.Calls.{CallsStandOnce};
 ghost use Rattle.crl_talk.specs.Guards.{SectionsAreGuards, EndsShowGuards};
 ghost use Rattle.crl_talk.specs.Script.{CallsAreThose};
 
-/// A run that follows a script makes, at each node, the calls of a prefix of the node's statements, in order. Changes
-/// inside write sections that are allowed are left out; the end of the section leaves their bytes.
+/// A run that follows a script makes, at each node, the calls of the node's statements in order, up to those that the node
+/// has left. Changes inside write sections that are allowed are left out; the end of the section leaves their bytes.
 pub fn calls_are_the_statements()
-    ensures { (count capacity : ℕ) (blocks : List (List Statement)) (run : List Event) (end : Running) → Follows (running count capacity blocks) run end → (n : ℕ) → CallsAreThose n (new_world count capacity) (block_of blocks n) run }
+    ensures { (count capacity : ℕ) (blocks : List (List Statement)) (run : List Event) (end : Running) → Follows (running count capacity blocks) run end → (n : ℕ) → CallsAreThose n (new_world count capacity) (block_of blocks n) (end.actors n).left run }
 {}
 
 /// The sections that are open at a node are those whose guards it was given and that it hasn't ended, and that of the guard
