@@ -27,7 +27,7 @@ use Rattle.crl_run.proofs.ReportSums.{stuck_same, blocked_same}
 use Rattle.crl_run.proofs.Telling.{told_from, told_by_run, account_told}
 
 -- the entries of what follows
-follow_account : {r end : Running} {es : List Event} → Follows r es end → end.entries ≡ r.entries ++ account_from r.world es
+pub follow_account : {r end : Running} {es : List Event} → Follows r es end → end.entries ≡ r.entries ++ account_from r.world es
 follow_account (ended {r = r}) = sym (append_nil r.entries)
 follow_account (changes i s left h n e f) = follow_account f
 follow_account {r = r} (calls {es = es} i s left h n e f) =

@@ -7,6 +7,7 @@ mod Fitting
 mod Heard
 mod Holding
 mod Lasting
+pub mod Laws
 mod Likeness
 mod Playing
 mod ReportSums
