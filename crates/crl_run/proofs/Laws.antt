@@ -3,3 +3,5 @@
 pub use Rattle.crl_run.proofs.Lasting.{chosen_on}
 pub use Rattle.crl_run.proofs.AllTurns.{chosen_few}
 pub use Rattle.crl_run.proofs.Ending.{follow_account, turns_fit}
+-- What every script is to `run`.
+pub use Rattle.crl_run.proofs.Scripts.{are_statements, are_short, statements_in_sum}

@@ -11,6 +11,7 @@ pub mod Laws
 mod Likeness
 mod Playing
 mod ReportSums
+mod Scripts
 mod Shown
 mod Stages
 mod Taken
