@@ -1,0 +1,7 @@
+mod Effects
+mod Opened
+mod Places
+mod Moved
+mod Following
+mod Done
+pub mod Laws
