@@ -1,6 +1,5 @@
 pub mod Answers
 pub mod Codes
-pub mod CommandLine
-pub mod Commands
 pub mod Outcome
+pub mod Runs
 pub mod Texts

@@ -1,68 +1,52 @@
 -- What the program answers: for each status, where it comes and what is printed with it.
-use Rattle.std.specs.Prelude.{◌≡◌, ◌⊎◌, ℕ, ◌+◌, ◌<◌, ◌≤◌, List, length, slice_get, Ok, Err}
+use Rattle.std.specs.Prelude.{◌≡◌, ◌⊎◌, ℕ, ◌+◌, ◌<◌, ◌≤◌, Bool, true, false, List, [], length, Err}
 use Rattle.std.specs.declared.option.Option.{Option}
 use Rattle.std.specs.declared.option.Option.TheVariants.{None, Some}
 use Rattle.std.specs.Io.KnownBytes.{Consumes, IsAtEnd}
 use Rattle.crl_model.specs.declared.entry.Entry.{Entry}
-use Rattle.crl_machine.specs.SingleMachine.{start, IsHistory, after_all}
+use Rattle.crl_machine.specs.SingleMachine.{start, IsHistory}
 use Rattle.crl_outside.specs.Faults.{Rose}
-use Rattle.crl_model.specs.declared.statement.Statement.{Statement}
+use Rattle.crl_order.specs.Words.{words_to_come}
 use Rattle.crl_script.specs.Program.{Program, Fault}
 use Rattle.crl_script.specs.Sentence.{script_of}
 use Rattle.crl_account.specs.Account.{lines_of, IsAccount, IsFirstBad}
 use Rattle.crl_check.specs.Histories.{IsFirstIllegal}
+use Rattle.crl_commands.specs.declared.command.Command.{Command}
+use Rattle.crl_commands.specs.declared.command.Command.TheVariants as command
+use Rattle.crl_commands.specs.declared.command.Recipe.{Recipe}
+use Rattle.crl_commands.specs.Commands.{command_of}
 use Rattle.crl_cli.specs.declared.TheConstants.{SCRIPT_LIMIT, ACCOUNT_LIMIT}
-use Rattle.crl_cli.specs.declared.command.Command.{Command}
-use Rattle.crl_cli.specs.declared.command.Command.TheVariants.{OrderFirst, Check}
-use Rattle.crl_cli.specs.Commands.{command_of}
 use Rattle.crl_cli.specs.declared.status.Status.{Status}
 use Rattle.crl_cli.specs.declared.status.Status.TheVariants as status
-use Rattle.crl_alone.specs.OneNode.{CanRunAll}
-use Rattle.crl_alone.specs.Reports.{IsReportOf}
-use Rattle.crl_account.specs.Text.{report_text}
-use Rattle.crl_model.specs.Reports.{Reported}
-use Rattle.crl_cli.specs.Texts.{usage_text, read_fault_text, bad_script_text, why_word, too_long_text, not_yet_text, legal_text, illegal_text, bad_account_text}
+use Rattle.crl_cli.specs.Runs.{IsAccountOf, IsRun, IsMade, IsSummary}
+use Rattle.crl_cli.specs.Texts.{usage_text, read_fault_text, bad_script_text, why_word, too_long_text, legal_text, illegal_text, bad_account_text}
 
--- the most bytes of a text that the command reads
+-- whether the command reads a text, and the most bytes that it may have
+abbrev pub does_read : Command → Bool
+does_read (command.Order order) = true
+does_read (command.Check nodes) = true
+does_read (command.Gen recipe) = false
+does_read (command.Summary recipe) = false
+
+abbrev pub reads_any : Option Command → Bool
+reads_any None = false
+reads_any (Some c) = does_read c
+
 abbrev pub limit_of : Command → ℕ
-limit_of OrderFirst = SCRIPT_LIMIT
-limit_of (Check nodes) = ACCOUNT_LIMIT
+limit_of (command.Order order) = SCRIPT_LIMIT
+limit_of (command.Check nodes) = ACCOUNT_LIMIT
+limit_of (command.Gen recipe) = 0
+limit_of (command.Summary recipe) = 0
 
 -- the bytes that were read: all that the source had, or one more than the text may have
-pub record IsInput (command : Command) (left later : Option (List ℕ)) (bytes : List ℕ) : Type 0 where
+pub record IsInput (limit : ℕ) (left later : Option (List ℕ)) (bytes : List ℕ) : Type 0 where
   pub taken : Consumes left later bytes
-  pub whole : (length bytes ≡ limit_of command + 1) ⊎ IsAtEnd later
+  pub whole : (length bytes ≡ limit + 1) ⊎ IsAtEnd later
 
--- these are the statements of a script of one node
-abbrev pub IsAlone : Program → List Statement → Type 0
-IsAlone program statements = (program.nodes ≡ 1) × (slice_get program.blocks 0 ≡ Some statements)
-
--- What is printed of a script is one history of the single machine, and then its array: the run of its
--- statements is reported, the text has the report's lines, and `check` reads it as the report's entries.
-pub record IsAccountOf (program : Program) (text : List ℕ) : Type 0 where
-  pub statements : List Statement
-  pub alone : IsAlone program statements
-  pub report : Reported
-  pub reported : IsReportOf statements report
-  pub printed : text ≡ report_text report
-  pub judged : IsAccount (lines_of text) report.entries
-
--- the bytes are a script, and the text is its account
-pub record IsRun (bytes text : List ℕ) : Type 0 where
-  pub program : Program
-  pub within : length bytes ≤ SCRIPT_LIMIT
-  pub reads : script_of bytes ≡ Ok program
-  pub account : IsAccountOf program text
-
--- the script has more than one node, or a statement that can't be run yet
-abbrev pub IsNotYet : Program → Type 0
-IsNotYet program = (statements : List Statement) → IsAlone program statements → CanRunAll statements → ⊥
-
--- the bytes are too many, aren't a script, or are one that can't be run yet, and the text says so
+-- the bytes are too many, or aren't a script, and the text says so
 pub data IsBadScript (bytes : List ℕ) : List ℕ → Type 0 where
   too_long : SCRIPT_LIMIT < length bytes → IsBadScript bytes too_long_text
   unread : (fault : Fault) → length bytes ≤ SCRIPT_LIMIT → script_of bytes ≡ Err fault → IsBadScript bytes (bad_script_text fault.line (why_word fault.why))
-  not_yet : (program : Program) → length bytes ≤ SCRIPT_LIMIT → script_of bytes ≡ Ok program → IsNotYet program → IsBadScript bytes not_yet_text
 
 -- The bytes are the account of a history that is no legal one: this is the first entry that is no legal
 -- step, each on its line.
@@ -88,10 +72,11 @@ pub data IsBadAccount (bytes : List ℕ) : List ℕ → Type 0 where
   bad_line : (line : ℕ) → length bytes ≤ ACCOUNT_LIMIT → IsFirstBad (lines_of bytes) line → IsBadAccount bytes (bad_account_text line)
 
 -- what a command says of the bytes that were read
-abbrev pub SaysOrder : Status → List ℕ → List ℕ → Type 0
-SaysOrder status.Ok bytes text = IsRun bytes text
-SaysOrder status.BadScript bytes text = IsBadScript bytes text
-SaysOrder _ bytes text = ⊥
+abbrev pub SaysOrder : (ℕ → ℕ) → Status → List ℕ → List ℕ → Type 0
+SaysOrder words status.Ok bytes text = IsRun words false bytes text
+SaysOrder words status.Stuck bytes text = IsRun words true bytes text
+SaysOrder words status.BadScript bytes text = IsBadScript bytes text
+SaysOrder words _ bytes text = ⊥
 
 abbrev pub SaysCheck : ℕ → Status → List ℕ → List ℕ → Type 0
 SaysCheck nodes status.Ok bytes text = IsLegalAccount nodes bytes text
@@ -99,9 +84,19 @@ SaysCheck nodes status.Illegal bytes text = IsIllegal nodes bytes text
 SaysCheck nodes status.BadAccount bytes text = IsBadAccount bytes text
 SaysCheck nodes _ bytes text = ⊥
 
+abbrev pub SaysMade : Recipe → Status → List ℕ → Type 0
+SaysMade recipe status.Ok text = IsMade recipe text
+SaysMade recipe _ text = ⊥
+
+abbrev pub SaysSummary : Recipe → Status → List ℕ → Type 0
+SaysSummary recipe status.Ok text = IsSummary recipe text
+SaysSummary recipe _ text = ⊥
+
 abbrev pub Says : Command → Status → List ℕ → List ℕ → Type 0
-Says OrderFirst status bytes text = SaysOrder status bytes text
-Says (Check nodes) status bytes text = SaysCheck nodes status bytes text
+Says (command.Order order) status bytes text = SaysOrder (words_to_come order) status bytes text
+Says (command.Check nodes) status bytes text = SaysCheck nodes status bytes text
+Says (command.Gen recipe) status bytes text = SaysMade recipe status text
+Says (command.Summary recipe) status bytes text = SaysSummary recipe status text
 
 -- what is said of the entries of an account
 abbrev pub SaysEntries : ℕ → Status → List Entry → List ℕ → Type 0
@@ -109,11 +104,16 @@ SaysEntries nodes status.Ok entries text = IsHistory (start nodes) entries × (t
 SaysEntries nodes status.Illegal entries text = (place : ℕ) × IsFirstIllegal (start nodes) entries place × (text ≡ illegal_text (place + 1))
 SaysEntries nodes _ entries text = ⊥
 
+-- the status of a run that is stuck, or isn't
+abbrev pub status_of : Bool → Status
+status_of true = status.Stuck
+status_of false = status.Ok
+
 -- what is said of a script
-abbrev pub SaysOf : Status → Program → List ℕ → Type 0
-SaysOf status.Ok program text = IsAccountOf program text
-SaysOf status.BadScript program text = IsNotYet program × (text ≡ not_yet_text)
-SaysOf _ program text = ⊥
+abbrev pub SaysOf : (ℕ → ℕ) → Status → Program → List ℕ → Type 0
+SaysOf words status.Ok program text = IsAccountOf program words false text
+SaysOf words status.Stuck program text = IsAccountOf program words true text
+SaysOf words _ program text = ⊥
 
 -- what an answer rests on: the words, the bytes that the source has left before and after, and the counts
 -- of its faults before and after
@@ -127,9 +127,11 @@ pub record Asked : Type 0 where
 abbrev pub asked : List (List ℕ) → Option (List ℕ) → Option (List ℕ) → ℕ → ℕ → Asked
 asked words left later faults faults_later = record { words = words; left = left; later = later; faults = faults; faults_later = faults_later }
 
--- The status comes, with this text: the words are no command; the source failed; or the command says so of
--- the bytes that were read.
+-- The status comes, with this text: the words are no command; the source failed; or the command says so, of the bytes that
+-- were read if it reads any.
 pub data Comes (a : Asked) : Status → List ℕ → Type 0 where
   usage : command_of a.words ≡ None → Comes a status.Usage usage_text
-  read_fault : (command : Command) → command_of a.words ≡ Some command → Rose a.faults a.faults_later → Comes a status.ReadFault read_fault_text
-  said : (command : Command) (status : Status) (bytes text : List ℕ) → command_of a.words ≡ Some command → IsInput command a.left a.later bytes → Says command status bytes text → Comes a status text
+  read_fault : (c : Command) → command_of a.words ≡ Some c → does_read c ≡ true → Rose a.faults a.faults_later → Comes a status.ReadFault read_fault_text
+  said : (c : Command) (status : Status) (bytes text : List ℕ) → command_of a.words ≡ Some c → does_read c ≡ true → IsInput (limit_of c) a.left a.later bytes
+      → Says c status bytes text → Comes a status text
+  made : (c : Command) (status : Status) (text : List ℕ) → command_of a.words ≡ Some c → does_read c ≡ false → Says c status [] text → Comes a status text

@@ -29,9 +29,6 @@ bad_script_text line why = codes "bad script " ++ decimal line ++ codes " " ++ w
 abbrev pub too_long_text : List ℕ
 too_long_text = bad_script_text 0 (codes "TooLong")
 
-abbrev pub not_yet_text : List ℕ
-not_yet_text = bad_script_text 0 (codes "NotYet")
-
 abbrev pub legal_text : List ℕ
 legal_text = codes "legal\n"
 
@@ -42,3 +39,9 @@ illegal_text line = codes "illegal " ++ decimal line ++ codes "\n"
 -- `bad account LINE`: the line is 0 where the bytes are too many
 abbrev pub bad_account_text : ℕ → List ℕ
 bad_account_text line = codes "bad account " ++ decimal line ++ codes "\n"
+
+-- `nodes N regions R sections S events E messages M`
+abbrev pub summary_text : ℕ → ℕ → ℕ → ℕ → ℕ → List ℕ
+summary_text nodes regions sections events messages =
+    codes "nodes " ++ decimal nodes ++ codes " regions " ++ decimal regions ++ codes " sections " ++ decimal sections
+    ++ codes " events " ++ decimal events ++ codes " messages " ++ decimal messages ++ codes "\n"

@@ -3,12 +3,13 @@
 
 pub mod answer;
 mod check;
-pub mod command;
-mod command_line;
+mod generate;
 mod order;
 mod outcome;
 pub mod program;
+mod running;
 pub mod status;
+mod summary;
 
 /// The most bytes that a script may have.
 pub const SCRIPT_LIMIT: usize = 16_777_216;

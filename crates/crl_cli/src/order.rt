@@ -1,53 +1,55 @@
-//! `order first`: the run of a script, and its account.
+//! `order`: the run of a script, and its account.
 ghost use Rattle.std.specs.Prelude.{◌≡◌, ◌≤◌, ◌<◌, ◌^◌, ◌+◌, IfOk, length};
-ghost use Rattle.crl_cli.specs.Outcome.{SaysOrder, SaysOf};
-ghost use Rattle.crl_cli.specs.Texts.{bad_script_text, why_word, not_yet_text};
+ghost use Rattle.crl_order.specs.Words.{words_to_come};
+ghost use Rattle.crl_cli.specs.Outcome.{SaysOrder, SaysOf, status_of};
+ghost use Rattle.crl_cli.specs.Texts.{bad_script_text, why_word};
 
 use crate::SCRIPT_LIMIT;
 use crate::outcome::Outcome;
+use crate::running::run_script;
 use crate::status::Status;
 use crl_account::print_report;
 use crl_model::OutOfMemory;
+use crl_order::Order;
 use crl_script::{Script, ScriptFault, ScriptWhy, read_script};
 use std::alloc::Global;
 
-/// The run of the script that these bytes are.
-pub(crate) fn run_text(alloc: Global, bytes: &[u8]) -> Result<Outcome, OutOfMemory>
+/// The run of the script that these bytes are, under this order.
+pub(crate) fn order_text(
+    alloc: Global,
+    bytes: &[u8],
+    order: Order,
+) -> Result<Outcome, OutOfMemory>
     requires { length bytes.now ≤ SCRIPT_LIMIT + 1 }
-    ensures { IfOk result (λ o. SaysOrder o.status bytes.now o.text.items) }
+    ensures { IfOk result (λ o. SaysOrder (words_to_come order) o.status bytes.now o.text.items) }
 {
     if bytes.len() > SCRIPT_LIMIT {
         return bad_script(alloc, 0, "TooLong");
     }
     match read_script(alloc, bytes) {
-        Ok(script) => run_script(alloc, &script),
+        Ok(script) => account_of(alloc, &script, order),
         Err(ScriptFault::Bad { line, why }) => bad_script(alloc, line, why_of(why)),
         Err(ScriptFault::OutOfMemory) => Err(OutOfMemory),
     }
 }
 
-/// The run of a script.
-fn run_script(alloc: Global, script: &Script) -> Result<Outcome, OutOfMemory>
-    ensures { IfOk result (λ o. SaysOf o.status script.now o.text.items) }
+/// The account of a script's run under this order.
+fn account_of(alloc: Global, script: &Script, order: Order) -> Result<Outcome, OutOfMemory>
+    ensures { IfOk result (λ o. SaysOf (words_to_come order) o.status script.now o.text.items) }
 {
-    if script.nodes() != 1 {
-        return not_yet(alloc);
-    }
-    let Some(report) = crl_alone::run(alloc, script.statements(0))? else {
-        return not_yet(alloc);
-    };
+    let ended = run_script(alloc, script, order)?;
+    let text = print_report(alloc, &ended.report)?;
     Ok(Outcome {
-        status: Status::Ok,
-        text: print_report(alloc, &report)?,
+        status: status_of(ended.stuck),
+        text,
     })
 }
 
-/// The answer to a script that can't be run yet.
-fn not_yet(alloc: Global) -> Result<Outcome, OutOfMemory>
-    ensures status { IfOk result (λ o. o.status ≡ Status.BadScript) }
-    ensures text { IfOk result (λ o. o.text.items ≡ not_yet_text) }
+/// The status of a run that is stuck, or isn't.
+fn status_of(stuck: bool) -> Status
+    ensures { result ≡ status_of stuck }
 {
-    bad_script(alloc, 0, "NotYet")
+    if stuck { Status::Stuck } else { Status::Ok }
 }
 
 /// The answer to bytes that aren't a script: the line, from 1 or 0 for the whole, and what is wrong.

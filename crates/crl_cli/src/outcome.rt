@@ -1,14 +1,17 @@
 //! What a command ends with: its status, and the text to be printed with it.
-ghost use Rattle.std.specs.Prelude.{◌≡◌, ◌≤◌, ◌+◌, IfOk, None, length, map, string_bytes};
-ghost use Rattle.crl_cli.specs.Commands.{command_of, IsSound};
-ghost use Rattle.crl_cli.specs.Outcome.{Says, Comes, asked, limit_of};
+ghost use Rattle.std.specs.Prelude.{◌≡◌, ◌≤◌, ◌+◌, IfOk, None, false, length, map, string_bytes};
+ghost use Rattle.crl_commands.specs.Commands.{command_of, IsSound};
+ghost use Rattle.crl_cli.specs.Outcome.{Says, Comes, asked, limit_of, does_read, reads_any};
 ghost use Rattle.crl_cli.specs.Texts.{usage_text, read_fault_text};
 
 use crate::check::check_text;
-use crate::command::{Command, command_of};
-use crate::order::run_text;
+use crate::generate::generate;
+use crate::order::order_text;
 use crate::status::Status;
+use crate::summary::summarize;
 use crate::{ACCOUNT_LIMIT, SCRIPT_LIMIT};
+use crl_commands::command::Command;
+use crl_commands::command_of;
 use crl_model::OutOfMemory;
 use crl_outside::source::Source;
 use crl_outside::whole::{ReadFault, read_all};
@@ -28,26 +31,40 @@ pub(crate) fn outcome_of<S: Source>(
     source: &mut S,
 ) -> Result<Outcome, OutOfMemory>
     ensures comes { IfOk result (λ o. Comes (asked (map string_bytes words.now) (S.left source.old) (S.left source.new) (S.faults source.old) (S.faults source.new)) o.status o.text.items) }
-    ensures unpulled { command_of (map string_bytes words.now) ≡ None → source.new ≡ source.old }
+    ensures unpulled { reads_any (command_of (map string_bytes words.now)) ≡ false → source.new ≡ source.old }
     ensures later { S.faults source.old ≤ S.faults source.new }
 {
     let Some(command) = command_of(alloc, words)? else {
         return usage(alloc);
     };
-    match read_all(alloc, source, limit_of(command) + 1) {
+    if !does_read(&command) {
+        return say(alloc, command, &[]);
+    }
+    match read_all(alloc, source, limit_of(&command) + 1) {
         Ok(bytes) => say(alloc, command, bytes.as_slice()),
         Err(ReadFault::Failed) => read_fault(alloc),
         Err(ReadFault::OutOfMemory) => Err(OutOfMemory),
     }
 }
 
-/// The most bytes of a text that the command reads.
-fn limit_of(command: Command) -> usize
-    ensures { result ≡ limit_of command }
+/// Whether the command reads a text.
+fn does_read(command: &Command) -> bool
+    ensures { result ≡ does_read command.now }
 {
     match command {
-        Command::OrderFirst => SCRIPT_LIMIT,
+        Command::Order(_) | Command::Check(_) => true,
+        Command::Gen(_) | Command::Summary(_) => false,
+    }
+}
+
+/// The most bytes of a text that the command reads.
+fn limit_of(command: &Command) -> usize
+    ensures { result ≡ limit_of command.now }
+{
+    match command {
+        Command::Order(_) => SCRIPT_LIMIT,
         Command::Check(_) => ACCOUNT_LIMIT,
+        Command::Gen(_) | Command::Summary(_) => 0,
     }
 }
 
@@ -58,8 +75,10 @@ fn say(alloc: Global, command: Command, bytes: &[u8]) -> Result<Outcome, OutOfMe
     ensures { IfOk result (λ o. Says command o.status bytes.now o.text.items) }
 {
     match command {
-        Command::OrderFirst => run_text(alloc, bytes),
+        Command::Order(order) => order_text(alloc, bytes, order),
         Command::Check(nodes) => check_text(alloc, bytes, nodes),
+        Command::Gen(recipe) => generate(alloc, recipe),
+        Command::Summary(recipe) => summarize(alloc, recipe),
     }
 }
 

@@ -5,12 +5,14 @@ ghost use Rattle.crl_cli.specs.Codes.{code_of};
 /// How a command ended, and what it printed.
 #[derive(Clone, Copy, Debug, PartialEq, Eq)]
 pub enum Status {
-    /// The account of the run, the final regions and the counts; or `legal`.
+    /// The account of the run, the final regions and the counts; or `legal`; or a script; or a summary.
     Ok,
     /// The words are no command: `usage: crl COMMAND`.
     Usage,
-    /// The bytes aren't a script that can be run: `bad script LINE WHY`.
+    /// The bytes aren't a script: `bad script LINE WHY`.
     BadScript,
+    /// Some nodes wait for each other for ever: the account, a line for each of them, and the counts.
+    Stuck,
     /// A pull failed: `read fault`.
     ReadFault,
     /// A push failed: a first part of the text.
@@ -32,6 +34,7 @@ impl Status {
             Status::Ok => 0,
             Status::Usage => 1,
             Status::BadScript => 2,
+            Status::Stuck => 3,
             Status::ReadFault => 4,
             Status::WriteFault => 5,
             Status::OutOfMemory => 6,

@@ -275,12 +275,11 @@ fn canonical(alloc: Global, script: &Script) -> Result<Vec<u8>, OutOfMemory>
 /// # Errors
 ///
 /// `OutOfMemory`.
-pub fn print_script(alloc: Global, script: &Script) -> Result<Bytes, OutOfMemory>
-    ensures text { IfOk result (λ b. b ≡ canonical_of script.now) }
-    ensures again { IfOk result (λ b. IsPrintable script.now → script_of b ≡ Ok script.now) }
+pub fn print_script(alloc: Global, script: &Script) -> Result<Vec<u8>, OutOfMemory>
+    ensures text { IfOk result (λ text. text.items ≡ canonical_of script.now) }
+    ensures again { IfOk result (λ text. IsPrintable script.now → script_of text.items ≡ Ok script.now) }
 {
-    let text = canonical(alloc, script)?;
-    Ok(Bytes::from_vec(text))
+    canonical(alloc, script)
 }
 
 /// A printable script is read again from its canonical text.

@@ -1,3 +1,0 @@
-mod Answerable
-mod Runs
-mod Standing

@@ -1,4 +1,0 @@
-pub mod OneNode
-pub mod Refusals
-pub mod Reports
-pub mod Steps
