@@ -7,9 +7,11 @@ mod Fitting
 mod Heard
 mod Holding
 mod Lasting
+pub mod Laws
 mod Likeness
 mod Playing
 mod ReportSums
+mod Scripts
 mod Shown
 mod Stages
 mod Taken

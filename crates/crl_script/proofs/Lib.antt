@@ -11,3 +11,4 @@ pub mod SoundLemmas
 pub mod SpellLemmas
 pub mod StatementLemmas
 pub mod TextLemmas
+mod WordLengths

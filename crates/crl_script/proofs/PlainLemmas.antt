@@ -19,6 +19,7 @@ use Rattle.crl_script.specs.Again.{IsCall, IsStatement, IsPart, IsSomeBytes, IsV
 use Rattle.crl_script.specs.Labels.{Names}
 use Rattle.crl_script.specs.Reading.{◌>>=◌}
 use Rattle.crl_script.specs.Statements.{statement_of, one_of, about_of, call_of, region_of, three_of, put_of, add_of, alone_of, called, come}
+use Rattle.crl_script.proofs.WordLengths.{AllWithin}
 use Rattle.crl_script.specs.Words.{at_most, natural_of, number_of, positive, negative, value_of, decoded, bytes_of}
 
 -- the parts of what was read in two steps
@@ -70,16 +71,16 @@ decoded_ok : (r : Result (List ℕ) FromHexError) (bytes : List ℕ) → decoded
 decoded_ok (Ok bs) bytes h = let same : bs ≡ bytes = cc h in ap Ok same
 decoded_ok (Err why) bytes h = cc h
 
-bytes_some : (word bytes : List ℕ) → bytes_of word ≡ Ok bytes → IsSomeBytes bytes
+bytes_are : (word bytes : List ℕ) → bytes_of word ≡ Ok bytes → IsSomeBytes bytes × (length bytes ≤ length word)
 unfolding bytes_of
-bytes_some word bytes h = go (length word == 0) refl h where
-  go : (b : Bool) → (length word == 0) ≡ b → cond b (Err BadHex) (decoded (decode_of word)) ≡ Ok bytes → IsSomeBytes bytes
+bytes_are word bytes h = go (length word == 0) refl h where
+  go : (b : Bool) → (length word == 0) ≡ b → cond b (Err BadHex) (decoded (decode_of word)) ≡ Ok bytes → IsSomeBytes bytes × (length bytes ≤ length word)
   go true e h = cc h
   go false e h =
       let ok = decode_of-ok word bytes (decoded_ok (decode_of word) bytes h) in
       let some : 0 < length word = grind arith in
       let twice = ok.2 in
-      (omega arith, ok.3)
+      ((omega arith, ok.3), omega arith)
 
 -- calls about a region
 about_call : (k : CallKind) (name : Name) (c : calls.Call) → call_of k name ≡ Ok c → IsCall c
@@ -102,7 +103,7 @@ one_is : (known : Names) (k : CallKind) (word : List ℕ) (c : calls.Call) → o
 unfolding one_of
 one_is known kind.Send word c h =
     let r = bind_ok (bytes_of word) (λ bytes. Ok (call.Come (part.Send bytes))) c h in
-    let same : call.Come (part.Send r.0) ≡ c = cc r.2 in subst IsCall same (bytes_some word r.0 r.1)
+    let same : call.Come (part.Send r.0) ≡ c = cc r.2 in subst IsCall same (bytes_are word r.0 r.1).0
 one_is known kind.Sum word c h =
     let r = bind_ok (value_of word) (λ value. Ok (call.Come (part.Sum value))) c h in
     let same : call.Come (part.Sum r.0) ≡ c = cc r.2 in subst IsCall same (value_small word r.0 r.1)
@@ -114,15 +115,16 @@ one_is known kind.Max word c h =
     let same : call.Come (part.Max r.0) ≡ c = cc r.2 in subst IsCall same (value_small word r.0 r.1)
 one_is known k word c h = about_is known k word c h
 
-put_is : (known : Names) (label offset hex : List ℕ) (s : Statement) → put_of known label offset hex ≡ Ok s → IsStatement s
+put_is : (known : Names) (label offset hex : List ℕ) (s : Statement) → length hex ≤ 140000 → put_of known label offset hex ≡ Ok s → IsStatement s
 unfolding put_of
-put_is known label offset hex s h =
+put_is known label offset hex s short h =
     let a = bind_ok (region_of known label) (λ name. number_of 4294967295 BadNumber offset >>= λ n. bytes_of hex >>= λ bytes. Ok (Put name n bytes)) s h in
     let b = bind_ok (number_of 4294967295 BadNumber offset) (λ n. bytes_of hex >>= λ bytes. Ok (Put a.0 n bytes)) s a.2 in
     let c = bind_ok (bytes_of hex) (λ bytes. Ok (Put a.0 b.0 bytes)) s b.2 in
     let same : Put a.0 b.0 c.0 ≡ s = cc c.2 in
     let most = number_below 4294967295 BadNumber offset b.0 b.1 in
-    subst IsStatement same (omega arith, bytes_some hex c.0 c.1)
+    let bytes = bytes_are hex c.0 c.1 in
+    subst IsStatement same (omega arith, bytes.0, omega arith)
 
 add_is : (known : Names) (label offset number : List ℕ) (s : Statement) → add_of known label offset number ≡ Ok s → IsStatement s
 unfolding add_of
@@ -135,11 +137,11 @@ add_is known label offset number s h =
     let greatest = number_below 18446744073709551615 BadNumber number c.0 c.1 in
     subst IsStatement same (omega arith, omega arith)
 
-three_is : (known : Names) (k : CallKind) (a b c : List ℕ) (s : Statement) → three_of known k a b c ≡ Ok s → IsStatement s
+three_is : (known : Names) (k : CallKind) (a b c : List ℕ) (s : Statement) → length c ≤ 140000 → three_of known k a b c ≡ Ok s → IsStatement s
 unfolding three_of
-three_is known kind.Put a b c s h = put_is known a b c s h
-three_is known kind.Add a b c s h = add_is known a b c s h
-three_is known k a b c s h = cc h
+three_is known kind.Put a b c s short h = put_is known a b c s short h
+three_is known kind.Add a b c s short h = add_is known a b c s h
+three_is known k a b c s short h = cc h
 
 alone_is : (k : CallKind) (p : Part) → alone_of k ≡ Ok p → IsPart p
 unfolding alone_of
@@ -155,10 +157,10 @@ come_is : (r : Result Part ScriptWhy) (c : calls.Call) → ((p : Part) → r ≡
 come_is (Ok p) c is h = let same : call.Come p ≡ c = cc h in subst IsCall same (is p refl)
 come_is (Err why) c is h = cc h
 
-pub statement_is : (known : Names) (k : CallKind) (words : List (List ℕ)) (s : Statement) → statement_of known k words ≡ Ok s → IsStatement s
+pub statement_is : (known : Names) (k : CallKind) (words : List (List ℕ)) (s : Statement) → AllWithin 140000 words → statement_of known k words ≡ Ok s → IsStatement s
 unfolding statement_of
-statement_is known k [] s h = called_is (come (alone_of k)) s (λ c e. come_is (alone_of k) c (alone_is k) e) h
-statement_is known k (a ∷ []) s h = called_is (one_of known k a) s (one_is known k a) h
-statement_is known k (a ∷ b ∷ []) s h = cc h
-statement_is known k (a ∷ b ∷ c ∷ []) s h = three_is known k a b c s h
-statement_is known k (a ∷ b ∷ c ∷ d ∷ words) s h = cc h
+statement_is known k [] s short h = called_is (come (alone_of k)) s (λ c e. come_is (alone_of k) c (alone_is k) e) h
+statement_is known k (a ∷ []) s short h = called_is (one_of known k a) s (one_is known k a) h
+statement_is known k (a ∷ b ∷ []) s short h = cc h
+statement_is known k (a ∷ b ∷ c ∷ []) s short h = three_is known k a b c s short.1.1.0 h
+statement_is known k (a ∷ b ∷ c ∷ d ∷ words) s short h = cc h

@@ -1,5 +1,5 @@
 -- What is read of a text is a script.
-use Rattle.std.proofs.Common.{◌≡◌, ℕ, ◌+◌, Bool, true, false, cond, zero, suc, List, [], ◌∷◌, ◌++◌, length, replicate, set, get_or, Option, Some, None, Result, Ok, Err, refl, subst, arith}
+use Rattle.std.proofs.Common.{◌≡◌, ℕ, ◌+◌, Bool, true, false, cond, zero, suc, List, [], ◌∷◌, ◌++◌, length, replicate, set, get_or, Option, Some, None, Result, Ok, Err, refl, subst, arith, ◌≤◌}
 use Rattle.std.specs.Prelude.{codes, nat_lt, nat_le, ◌==◌, ◌&&◌, is_some}
 use Rattle.std.specs.List.{AllByRecursion, list_any}
 use Rattle.std.specs.Str.{bytes_eq}
@@ -21,6 +21,7 @@ use Rattle.crl_script.specs.Statements.{statement_of, kind_of}
 use Rattle.crl_script.specs.Text.{Line, lines_of, words_of, is_comment}
 use Rattle.crl_script.specs.Words.{is_label, number_of}
 use Rattle.crl_script.proofs.PlainLemmas.{bind_ok, chosen, chosen_yes, number_below, statement_is}
+use Rattle.crl_script.proofs.WordLengths.{AllWithin, AllSized, words_within, lines_sized}
 
 -- each statement so far is one that a line makes
 abbrev pub AllMade : Progress → Type 0
@@ -94,12 +95,12 @@ create_made p q node (label ∷ size ∷ []) i h =
     made_same (with_region node label r.0 p) q (put_made node (Call (Create r.0)) p i (omega arith)) r.2
 create_made p q node (label ∷ size ∷ more ∷ words) i h = cc h
 
-other_made : (known : Names) (p q : Progress) (node : ℕ) (k : Option CallKind) (words : List (List ℕ)) → AllMade p → other_line known p node k words ≡ Ok q → AllMade q
+other_made : (known : Names) (p q : Progress) (node : ℕ) (k : Option CallKind) (words : List (List ℕ)) → AllWithin 140000 words → AllMade p → other_line known p node k words ≡ Ok q → AllMade q
 unfolding other_line
-other_made known p q node None words i h = cc h
-other_made known p q node (Some k) words i h =
+other_made known p q node None words short i h = cc h
+other_made known p q node (Some k) words short i h =
     let r = bind_ok (statement_of known k words) (λ s. Ok (with_statement node s p)) q h in
-    made_same (with_statement node r.0 p) q (put_made node r.0 p i (statement_is known k words r.0 r.1)) r.2
+    made_same (with_statement node r.0 p) q (put_made node r.0 p i (statement_is known k words r.0 short r.1)) r.2
 
 -- either of two lines
 either_made : (b : Bool) (r t : Result Progress ScriptWhy) (q : Progress) → (r ≡ Ok q → AllMade q) → (t ≡ Ok q → AllMade q) → cond b r t ≡ Ok q → AllMade q
@@ -109,37 +110,39 @@ either_made false r t q f g h = g h
 refused : (why : ScriptWhy) (q : Progress) → ◌≡◌ {A = Result Progress ScriptWhy} (Err why) (Ok q) → AllMade q
 refused why q h = cc h
 
-statement_made : (known : Names) (p q : Progress) (node : ℕ) (word : List ℕ) (words : List (List ℕ)) → AllMade p → statement_line known p node word words ≡ Ok q → AllMade q
+statement_made : (known : Names) (p q : Progress) (node : ℕ) (word : List ℕ) (words : List (List ℕ)) → AllWithin 140000 words → AllMade p → statement_line known p node word words ≡ Ok q → AllMade q
 unfolding statement_line
-statement_made known p q node word words i h =
+statement_made known p q node word words short i h =
     either_made (bytes_eq word (codes "create")) (create_line p node words) (other_line known p node (kind_of word) words) q
-    (create_made p q node words i) (other_made known p q node (kind_of word) words i) h
+    (create_made p q node words i) (other_made known p q node (kind_of word) words short i) h
 
-at_made : (known : Names) (p q : Progress) (place : Place) (word : List ℕ) (words : List (List ℕ)) → AllMade p → line_at known p place word words ≡ Ok q → AllMade q
+at_made : (known : Names) (p q : Progress) (place : Place) (word : List ℕ) (words : List (List ℕ)) → AllWithin 140000 words → AllMade p → line_at known p place word words ≡ Ok q → AllMade q
 unfolding line_at
-at_made known p q Start word words i h =
+at_made known p q Start word words short i h =
     either_made (bytes_eq word (codes "nodes")) (nodes_line p words) (Err NoNodes) q (nodes_made p q words) (refused NoNodes q) h
-at_made known p q Head word words i h =
+at_made known p q Head word words short i h =
     either_made (bytes_eq word (codes "node")) (node_line p words) (cond (bytes_eq word (codes "cache")) (cache_line p words) (Err BadWord)) q (node_made p q words i)
     (either_made (bytes_eq word (codes "cache")) (cache_line p words) (Err BadWord) q (cache_made p q words i) (refused BadWord q)) h
-at_made known p q Outside word words i h =
+at_made known p q Outside word words short i h =
     either_made (bytes_eq word (codes "node")) (node_line p words) (Err BadWord) q (node_made p q words i) (refused BadWord q) h
-at_made known p q (Inside node) word words i h =
-    either_made (bytes_eq word (codes "node")) (node_line p words) (statement_line known p node word words) q (node_made p q words i) (statement_made known p q node word words i) h
+at_made known p q (Inside node) word words short i h =
+    either_made (bytes_eq word (codes "node")) (node_line p words) (statement_line known p node word words) q (node_made p q words i) (statement_made known p q node word words short i) h
 
-words_made : (known : Names) (p q : Progress) (words : List (List ℕ)) → AllMade p → words_line known p words ≡ Ok q → AllMade q
-words_made known p q [] i h = made_same p q i h
-words_made known p q (word ∷ words) i h =
-    either_made (is_comment word) (Ok p) (line_at known p p.place word words) q (made_same p q i) (at_made known p q p.place word words i) h
+words_made : (known : Names) (p q : Progress) (words : List (List ℕ)) → AllWithin 140000 words → AllMade p → words_line known p words ≡ Ok q → AllMade q
+words_made known p q [] short i h = made_same p q i h
+words_made known p q (word ∷ words) short i h =
+    either_made (is_comment word) (Ok p) (line_at known p p.place word words) q (made_same p q i) (at_made known p q p.place word words short.1 i) h
 
-line_made : (known : Names) (p q : Progress) (line : Line) → AllMade p → line_of known p line ≡ Ok q → AllMade q
+line_made : (known : Names) (p q : Progress) (line : Line) → length line.bytes ≤ line.size → AllMade p → line_of known p line ≡ Ok q → AllMade q
 unfolding line_of
-line_made known p q line i h =
-    either_made (nat_lt 140000 line.size) (Err LineTooLong) (words_line known p (words_of line.bytes)) q (refused LineTooLong q) (words_made known p q (words_of line.bytes) i) h
+line_made known p q line sized i h = go (nat_lt 140000 line.size) refl h where
+  go : (b : Bool) → nat_lt 140000 line.size ≡ b → cond b (Err LineTooLong) (words_line known p (words_of line.bytes)) ≡ Ok q → AllMade q
+  go true e h = refused LineTooLong q h
+  go false e h = let most : line.size ≤ 140000 = grind arith in words_made known p q (words_of line.bytes) (words_within 140000 line.bytes (omega arith)) i h
 
-lines_made : (known : Names) (lines : List Line) (p q : Progress) (n : ℕ) → AllMade p → lines_from known p n lines ≡ Ok q → AllMade q
-lines_made known [] p q n i h = end_same p q i h
-lines_made known (line ∷ lines) p q n i h = go (line_of known p line) (λ next. line_made known p next line i) (λ next. lines_made known lines next q (n + 1)) h where
+lines_made : (known : Names) (lines : List Line) (p q : Progress) (n : ℕ) → AllSized lines → AllMade p → lines_from known p n lines ≡ Ok q → AllMade q
+lines_made known [] p q n sized i h = end_same p q i h
+lines_made known (line ∷ lines) p q n sized i h = go (line_of known p line) (λ next. line_made known p next line sized.0 i) (λ next. lines_made known lines next q (n + 1) sized.1) h where
   go : (r : Result Progress ScriptWhy) → ((next : Progress) → r ≡ Ok next → AllMade next) → ((next : Progress) → AllMade next → lines_from known next (n + 1) lines ≡ Ok q → AllMade q)
       → (at_line n r >=> (λ next. lines_from known next (n + 1) lines)) ≡ Ok q → AllMade q
   go (Ok next) made more h = more next (made next refl) h
@@ -148,4 +151,4 @@ lines_made known (line ∷ lines) p q n i h = go (line_of known p line) (λ next
 -- what is read of a text
 pub text_made : (known : Names) (text : List ℕ) (q : Progress) → read_with known text ≡ Ok q → AllStatements q.blocks
 unfolding read_with
-text_made known text q h = lines_made known (lines_of text) start q 1 tt h
+text_made known text q h = lines_made known (lines_of text) start q 1 (lines_sized text) tt h

@@ -45,10 +45,10 @@ IsCall (call.EndRead name) = Unit {0}
 IsCall (call.StartWrite name) = Unit {0}
 IsCall (call.Flush name) = Unit {0}
 
--- a statement that a line makes
+-- a statement that a line makes, which has at most 140,000 bytes
 abbrev pub IsStatement : Statement → Type 0
 IsStatement (Call c) = IsCall c
-IsStatement (Put name offset bytes) = (offset < 2 ^ 32) × IsSomeBytes bytes
+IsStatement (Put name offset bytes) = (offset < 2 ^ 32) × IsSomeBytes bytes × (length bytes < 2 ^ 32)
 IsStatement (Add name offset number) = (offset < 2 ^ 32) × (number < 2 ^ 64)
 
 abbrev pub AllStatements : List (List Statement) → Type 0

@@ -29,8 +29,8 @@ impl Model for Script {
 }
 
 impl Script {
-    /// The script with these blocks, one per node.
-    pub(crate) fn new(cache: u16, blocks: Vec<Vec<Statement>>) -> Script
+    /// The script of these statements, a block for each node, 1 to 64. Each statement is one that a line makes.
+    pub fn new(cache: u16, blocks: Vec<Vec<Statement>>) -> Script
         requires some { 1 ≤ length blocks.items }
         requires limit { length blocks.items ≤ 64 }
         requires statements { AllStatements (map (λ b. b.items) blocks.items) }
@@ -63,6 +63,13 @@ impl Script {
         ensures { slice_get self.now.blocks node ≡ Some result.now }
     {
         self.blocks[node as usize].as_slice()
+    }
+
+    /// The statements of each node, by ascending node.
+    pub fn blocks(&self) -> &[Vec<Statement>]
+        ensures { map (λ b. b.items) result.now ≡ self.now.blocks }
+    {
+        self.blocks.as_slice()
     }
 
     /// Whether the script has at most 2^40 statements in all.
