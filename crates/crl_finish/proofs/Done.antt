@@ -23,7 +23,7 @@ use Rattle.crl_stuck.specs.Ends.{ForEachScript}
 use Rattle.crl_stuck.specs.Stuck.{stuck_node, IsCause, EndsStuck}
 use Rattle.crl_stuck.proofs.Laws.{stuck_chosen, run_ends}
 use Rattle.crl_finish.specs.Unnested.{Within, Outside, Inside, is_unnested_from, rounds_in, IsUnnested, AreUnnested, AreAligned}
-use Rattle.crl_finish.specs.Finish.{IsDone, Finishes, ComesToBeDone}
+use Rattle.crl_finish.specs.Finish.{EndsFinished, Finishes, ComesToFinish}
 use Rattle.crl_finish.proofs.Opened.{AreWithin}
 use Rattle.crl_finish.proofs.Places.{Shut, IsAt}
 use Rattle.crl_finish.proofs.Following.{AllAt, start_all, follow_all}
@@ -117,7 +117,7 @@ finished_from : (i k : ℕ) (r : Running) → ((j : ℕ) → j < i + k → is_fi
 finished_from i zero r h = refl
 finished_from i (suc k) r h = and_from _ _ (h i (omega arith)) (finished_from (i + 1) k r (λ j few. h j (omega arith)))
 
-done_of : (r : Running) → ((i : ℕ) → i < r.world.count → is_finished i r ≡ true) → IsDone r
+done_of : (r : Running) → ((i : ℕ) → i < r.world.count → is_finished i r ≡ true) → EndsFinished r
 done_of r h =
     let none : is_stuck r ≡ false = ap not (finished_from 0 r.world.count r (λ j few. h j (omega arith))) in
     record { nodes = h; not_stuck = none; none_blocked = cond-false (is_stuck r) (blocked_from 0 r.world.count r) [] none }
@@ -128,7 +128,7 @@ block_unnested (b ∷ blocks) zero h = h.0
 block_unnested (b ∷ blocks) (suc i) h = block_unnested blocks i h.1
 
 done_chosen : (count capacity : ℕ) (blocks : List (List Statement)) (words : ℕ → ℕ) (k : ℕ) → AreStatements blocks → AreUnnested blocks → AreAligned count blocks → choices (chosen count capacity blocks words k) ≡ []
-    → IsDone (chosen count capacity blocks words k)
+    → EndsFinished (chosen count capacity blocks words k)
 done_chosen count capacity blocks words k are unnested aligned none =
     done_of end
     (all_done totals end (machine_of count capacity end.events) (stuck_chosen count capacity blocks words are k none)
@@ -153,8 +153,8 @@ done_chosen count capacity blocks words k are unnested aligned none =
 
 pub finishes : ForEachScript Finishes
 finishes count capacity blocks words are unnested aligned end h =
-    subst IsDone (sym h.reached) (done_chosen count capacity blocks words h.turns are unnested aligned (subst (λ r. choices r ≡ []) h.reached h.finished))
+    subst EndsFinished (sym h.reached) (done_chosen count capacity blocks words h.turns are unnested aligned (subst (λ r. choices r ≡ []) h.reached h.finished))
 
-pub comes_to_be_done : ForEachScript ComesToBeDone
-comes_to_be_done count capacity blocks words are unnested aligned =
+pub comes_to_finish : ForEachScript ComesToFinish
+comes_to_finish count capacity blocks words are unnested aligned =
     let r = run_ends count capacity blocks words are in record { end = r.end; chosen = r.chosen; few = r.few; done = finishes count capacity blocks words are unnested aligned r.end r.chosen }

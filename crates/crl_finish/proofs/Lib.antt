@@ -4,4 +4,5 @@ mod Places
 mod Moved
 mod Following
 mod Done
+mod Joined
 pub mod Laws

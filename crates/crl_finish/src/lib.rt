@@ -3,7 +3,7 @@
 #![tactic(auto)]
 
 ghost use Rattle.crl_stuck.specs.Ends.{ForEachScript};
-ghost use Rattle.crl_finish.specs.Finish.{Finishes, ComesToBeDone};
+ghost use Rattle.crl_finish.specs.Finish.{Finishes, ComesToFinish};
 
 /// Where each section of a script is ended before another is started or a collective call is made, and all nodes come to
 /// equally many rounds, every run of it that has no choice left is done: each node is finished, and none is blocked.
@@ -14,5 +14,5 @@ pub fn unnested_scripts_finish()
 /// Under every order such a script comes to that end, after at most two turns for each statement and two for each message
 /// that the statements may lead to.
 pub fn unnested_scripts_end()
-    ensures { ForEachScript ComesToBeDone }
+    ensures { ForEachScript ComesToFinish }
 {}

@@ -1,3 +1,4 @@
 mod Each
+mod Unnested
 mod Statements
 mod WordLemmas

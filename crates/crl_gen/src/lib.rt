@@ -1,12 +1,14 @@
 //! Scripts that are made from a seed.
 #![tactic(auto)]
 
+mod finishing;
 mod making;
 mod rounds;
 #[cfg(test)]
 mod tests;
 mod words;
 
+pub use finishing::made_scripts_finish;
 pub use making::make;
 
 /// The size of each region, in bytes.

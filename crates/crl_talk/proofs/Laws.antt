@@ -7,5 +7,5 @@ pub use Rattle.crl_talk.proofs.Ends.{ends_show_guards}
 -- answer taken.
 pub use Rattle.crl_talk.proofs.Asking.{AskedAs, hears_as, granted_as, served_own_as}
 pub use Rattle.crl_talk.proofs.Guards.{call_begins}
-pub use Rattle.crl_talk.proofs.Heard.{with_rest, is_away, may_call}
-pub use Rattle.crl_talk.proofs.Moves.{Moves, handle_moves, carry_moves, Blind, each_moved}
+pub use Rattle.crl_talk.proofs.Heard.{with_rest, is_away}
+pub use Rattle.crl_talk.proofs.Moves.{Moves, handle_moves, carry_moves, each_moved}

@@ -1,5 +1,5 @@
-use Rattle.crl_finish.proofs.Laws.{comes_to_be_done}
+use Rattle.crl_finish.proofs.Laws.{comes_to_finish}
 use Rattle.crl_finish.proofs.unnested_scripts_end.Goals as goal
 
 pub returns : goal.returns
-returns c = comes_to_be_done
+returns c = comes_to_finish
