@@ -1,4 +1,0 @@
-mod Agrees
-mod Parses
-mod Values
-mod Walks
