@@ -28,7 +28,7 @@ impl Picks {
     /// # Errors
     ///
     /// `OutOfMemory`.
-    pub(crate) fn new(alloc: Global, values: &[u32]) -> Result<Picks, OutOfMemory>
+    pub fn new(alloc: Global, values: &[u32]) -> Result<Picks, OutOfMemory>
         ensures { IfOk result (λ picks. picks ≡ values.now) }
     {
         let mut list = Vec::with_capacity(alloc, values.len())?;

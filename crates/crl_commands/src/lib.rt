@@ -1,0 +1,10 @@
+//! The commands, as their words say.
+#![tactic(auto)]
+
+pub mod command;
+mod command_line;
+mod items;
+mod recipe;
+mod table;
+
+pub use table::command_of;
