@@ -1,5 +1,5 @@
 -- What clap makes of words that don't begin with a hyphen: a command's name and the words behind it, or a fault.
-use Rattle.std.proofs.Common.{◌≡◌, ◌&&◌, ◌∙◌, ◌++◌, Bool, cond, true, false, List, [], ◌∷◌, refl, codes, Some, None, is_some, sym, ap, ap₂, subst}
+use Rattle.std.proofs.Common.{◌≡◌, ◌&&◌, ◌∙◌, ◌++◌, Bool, cond, true, false, List, [], ◌∷◌, refl, codes, Some, None, is_some, sym, ap, ap₂}
 use Rattle.std.specs.Prelude.{option_map, find, fold}
 use Rattle.std.specs.Option.{option_map_or}
 use Rattle.std.specs.Str.{bytes_eq}

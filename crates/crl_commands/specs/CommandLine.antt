@@ -1,5 +1,5 @@
 -- The command line as `clap` is told it, and what is read of its answer.
-use Rattle.std.specs.Prelude.{true, List, ◌∷◌, codes, Option, Some, None, option_map, option_and_then}
+use Rattle.std.specs.Prelude.{true, List, codes, Option, Some, None, option_map, option_and_then}
 use Rattle.clap.specs.Words.{App, Row, Text, all_of, new_app, new_rule, with_rule, with_subcommand}
 use Rattle.clap.specs.declared.builder.action.ArgAction.TheVariants.{Append}
 use Rattle.crl_commands.specs.declared.command.Command.{Command}

@@ -1,5 +1,5 @@
 //! The list of `order picks`: values joined by commas, each of which may say how often it stands.
-ghost use Rattle.std.specs.Prelude.{◌≡◌, ◌==◌, IfOk, IfSome, OnOk, map, option_map, ◌≤◌, ◌+◌, ◌<◌, ◌^◌, vec_len, ◌++◌, replicate};
+ghost use Rattle.std.specs.Prelude.{◌≡◌, ◌==◌, IfOk, map, option_map};
 ghost use Rattle.std.specs.List.{slice_split};
 ghost use Rattle.crl_script.specs.Words.{natural_of};
 ghost use Rattle.crl_commands.specs.Picks.{item_of, picks_of, value_times};

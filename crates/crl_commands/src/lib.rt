@@ -6,5 +6,7 @@ mod command_line;
 mod items;
 mod recipe;
 mod table;
+#[cfg(test)]
+mod tests;
 
 pub use table::command_of;

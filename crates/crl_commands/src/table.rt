@@ -1,5 +1,5 @@
 //! The table of the commands.
-ghost use Rattle.std.specs.Prelude.{◌≡◌, ◌∷◌, [], map, string_bytes, IfOk, IfSome};
+ghost use Rattle.std.specs.Prelude.{◌≡◌, map, string_bytes, IfOk, IfSome};
 ghost use Rattle.clap.specs.Words.{subcommand_rows_of};
 ghost use Rattle.crl_commands.specs.Commands.{command_of, command_named, order_of, order_by, first_of, check_of, IsSound};
 ghost use Rattle.crl_commands.specs.CommandLine.{command_in, named_words};
@@ -19,10 +19,7 @@ use std::alloc::Global;
 /// # Errors
 ///
 /// `OutOfMemory`.
-pub fn command_of<'a>(
-    alloc: Global,
-    words: &'a [String],
-) -> Result<Option<Command>, OutOfMemory>
+pub fn command_of<'a>(alloc: Global, words: &'a [String]) -> Result<Option<Command>, OutOfMemory>
     ensures command { IfOk result (λ r. r ≡ command_of (map string_bytes words.entry.now)) }
     ensures sound { IfOk result (λ r. IfSome r IsSound) }
 {

@@ -21,7 +21,7 @@ returns-in-Ok-clause-command c =
     let found_is : subcommand_rows_of c.in-Ok.matches ≡ subcommand_of command_line words = (c.in-Ok.ensures.matches (ap is_simple line_is ∙ is_plain)).1 ∙ ap (λ (a : App). subcommand_of a words) line_is in
     let fits : fault_of command_line words ≡ [] = sym (ap (λ (a : App). fault_of a words) line_is) ∙ c.in-Ok.ensures.kinds (ap is_simple_and_free line_is ∙ is_free) in
     let all : command_in (named_words (subcommand_rows_of c.in-Ok.matches)) ≡ command_of words =
-        ap command_in (ap named_words found_is) ∙ (well words plain fits ∙ sym (ap (λ b. cond b None (command_by words)) plain)) in
+    ap command_in (ap named_words found_is) ∙ (well words plain fits ∙ sym (ap (λ b. cond b None (command_by words)) plain)) in
     IfOk-weaker c.command_in.result _ _ (λ r h. h ∙ all) c.command_in.ensures.command
 
 pub returns-clause-command : goal.returns-clause-command
