@@ -19,7 +19,7 @@ use std::alloc::Global;
 /// # Errors
 ///
 /// `OutOfMemory`.
-pub fn command_of<'a>(alloc: Global, words: &'a [String]) -> Result<Option<Command>, OutOfMemory>
+pub fn command_of(alloc: Global, words: &[String]) -> Result<Option<Command>, OutOfMemory>
     ensures command { IfOk result (λ r. r ≡ command_of (map string_bytes words.entry.now)) }
     ensures sound { IfOk result (λ r. IfSome r IsSound) }
 {
