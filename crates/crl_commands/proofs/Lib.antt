@@ -1,0 +1,4 @@
+mod Agrees
+mod Parses
+mod Values
+mod Walks
