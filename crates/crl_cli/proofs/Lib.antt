@@ -1,4 +1,1 @@
-mod Agrees
-mod Parses
 mod Says
-mod Walks
