@@ -8,7 +8,7 @@ use Rattle.crl_script.specs.Text.{Line, lines_of, lines_in, ended, is_blank, is_
 abbrev pub AllWithin : ℕ → List (List ℕ) → Type 0
 AllWithin n words = AllByRecursion (λ word. length word ≤ n) words
 
-abbrev FirstWithin : ℕ → List (List ℕ) → Type 0
+abbrev pub FirstWithin : ℕ → List (List ℕ) → Type 0
 FirstWithin n [] = Unit {0}
 FirstWithin n (word ∷ words) = length word ≤ n
 
