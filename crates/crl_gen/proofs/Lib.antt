@@ -1,3 +1,6 @@
 mod Each
+pub mod Laws
+mod Named
+mod Printable
 mod Statements
 mod WordLemmas
