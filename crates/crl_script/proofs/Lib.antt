@@ -1,17 +1,17 @@
-pub mod AgainLemmas
-pub mod BlockLemmas
-pub mod BlockRun
+mod AgainLemmas
+mod BlockLemmas
+mod BlockRun
 pub mod Laws
-pub mod NumberLemmas
-pub mod PlainLemmas
-pub mod PlainRun
+mod NumberLemmas
+mod PlainLemmas
+mod PlainRun
 mod PlainTexts
-pub mod ReadingLemmas
-pub mod RunLemmas
-pub mod ScriptRun
+mod ReadingLemmas
+mod RunLemmas
+mod ScriptRun
 mod ShortTexts
-pub mod SoundLemmas
-pub mod SpellLemmas
-pub mod StatementLemmas
-pub mod TextLemmas
+mod SoundLemmas
+mod SpellLemmas
+mod StatementLemmas
+mod TextLemmas
 mod WordLengths
