@@ -11,7 +11,7 @@ use crate::outcome::Outcome;
 use crate::running::run_script;
 use crate::status::Status;
 use crl_commands::command::Recipe;
-use crl_finish::unnested_scripts_finish;
+use crl_gen::made_scripts_finish;
 use crl_model::OutOfMemory;
 use crl_model::entry::{Entry, What};
 use crl_model::report::Report;
@@ -32,7 +32,7 @@ fn report_of(alloc: Global, recipe: Recipe) -> Result<Report, OutOfMemory>
     requires { IsRecipe recipe }
     ensures { IfOk result (λ report. IsHistoryOf (made_of recipe) (words_of_seed recipe.seed) false report) }
 {
-    unnested_scripts_finish();
+    made_scripts_finish();
     let script = made_of(alloc, recipe)?;
     let ended = run_script(alloc, &script, Order::seed(recipe.seed))?;
     if ended.stuck {
@@ -50,7 +50,9 @@ fn line_of(alloc: Global, recipe: Recipe, report: &Report) -> Result<Outcome, Ou
     let sections = sections_in(report.entries.as_slice());
     let events = report.events;
     let messages = report.messages;
-    let text = format!(in alloc; "nodes {nodes} regions {regions} sections {sections} events {events} messages {messages}\n")?;
+    let text = format!(in alloc;
+        "nodes {nodes} regions {regions} sections {sections} events {events} messages {messages}\n"
+    )?;
     Ok(Outcome {
         status: Status::Ok,
         text: text.into_bytes(),
