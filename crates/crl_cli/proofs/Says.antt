@@ -1,11 +1,10 @@
 -- What is said of the bytes that were read, from what is said of their parts.
-use Rattle.std.proofs.Common.{◌≡◌, ◌≤◌, ◌<◌, ◌+◌, ◌∙◌, ◌^◌, ℕ, suc, Bool, true, false, if◌then◌else◌, List, [], ◌∷◌, length, sym, subst, ap, arith, length-append, Ok, Err}
-use Rattle.std.specs.Prelude.{IfOk, Result, None, Some, map, sum}
+use Rattle.std.proofs.Common.{◌≡◌, ◌≤◌, ◌<◌, ◌+◌, ◌∙◌, ℕ, suc, Bool, true, false, if◌then◌else◌, List, [], ◌∷◌, length, sym, subst, ap, arith, length-append, Ok, Err}
+use Rattle.std.specs.Prelude.{IfOk, Result, None, Some}
 use Rattle.std.specs.declared.option.Option.{Option}
 use Rattle.std.specs.Io.KnownBytes.{Appends}
 use Rattle.std.specs.List.{AllByRecursion}
 use Rattle.crl_model.specs.declared.entry.Entry.{Entry}
-use Rattle.crl_model.specs.declared.report.FinalRegion.{FinalRegion}
 use Rattle.crl_model.specs.Reports.{Reported}
 use Rattle.crl_machine.specs.SingleMachine.{State, start, after_all}
 use Rattle.crl_machine.specs.FinalRegions.{final_regions}
@@ -29,7 +28,7 @@ use Rattle.crl_cli.specs.declared.status.Status.{Status}
 use Rattle.crl_cli.specs.declared.status.Status.TheVariants as status
 use Rattle.crl_cli.specs.Answers.{HasHeadline}
 use Rattle.crl_cli.specs.Outcome.{SaysOrder, SaysCheck, SaysEntries, Says, SaysOf, status_of, does_read, limit_of, IsBadScript, IsBadAccount, Asked, IsInput, Comes, usage, read_fault, said, made}
-use Rattle.crl_cli.specs.Runs.{IsHistoryOf, IsAccountOf, IsRun}
+use Rattle.crl_cli.specs.Runs.{IsHistoryOf}
 use Rattle.crl_cli.specs.Texts.{usage_text, read_fault_text}
 
 bad_one : (words : ℕ → ℕ) (bytes text given : List ℕ) (s : Status) → IsBadScript bytes text → s ≡ status.BadScript → given ≡ text → SaysOrder words s bytes given
@@ -113,6 +112,31 @@ pub made_comes : {E : Type 0} (r : Result Outcome E) (a : Asked) (c : Command) �
     → IfOk r (λ o. Says c o.status [] o.text.items) → IfOk r (λ o. Comes a o.status o.text.items)
 made_comes (Ok o) a c some reads h = made c o.status o.text.items some reads h
 made_comes (Err e) a c some reads h = tt
+
+-- No command says that a push failed, or that memory was wanting.
+says_no_fault : (c : Command) (bytes text : List ℕ) → Says c status.WriteFault bytes text → ⊥
+says_no_fault (command.Order order) bytes text h = h
+says_no_fault (command.Check nodes) bytes text h = h
+says_no_fault (command.Gen recipe) bytes text h = h
+says_no_fault (command.Summary recipe) bytes text h = h
+
+says_no_want : (c : Command) (bytes text : List ℕ) → Says c status.OutOfMemory bytes text → ⊥
+says_no_want (command.Order order) bytes text h = h
+says_no_want (command.Check nodes) bytes text h = h
+says_no_want (command.Gen recipe) bytes text h = h
+says_no_want (command.Summary recipe) bytes text h = h
+
+pub comes_no_fault : (a : Asked) (s : Status) (text : List ℕ) → Comes a s text → s ≡ status.WriteFault → ⊥
+comes_no_fault a s text (usage none) e = cc
+comes_no_fault a s text (read_fault c some reads rose) e = cc
+comes_no_fault a s text (said c status bytes told some reads input says) e = says_no_fault c bytes told (subst (λ (x : Status). Says c x bytes told) e says)
+comes_no_fault a s text (made c status told some reads says) e = says_no_fault c [] told (subst (λ (x : Status). Says c x [] told) e says)
+
+pub comes_no_want : (a : Asked) (s : Status) (text : List ℕ) → Comes a s text → s ≡ status.OutOfMemory → ⊥
+comes_no_want a s text (usage none) e = cc
+comes_no_want a s text (read_fault c some reads rose) e = cc
+comes_no_want a s text (said c status bytes told some reads input says) e = says_no_want c bytes told (subst (λ (x : Status). Says c x bytes told) e says)
+comes_no_want a s text (made c status told some reads says) e = says_no_want c [] told (subst (λ (x : Status). Says c x [] told) e says)
 
 -- ---- the headline
 
