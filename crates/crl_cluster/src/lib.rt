@@ -1,0 +1,14 @@
+//! The nodes of one region library behind turns, which several threads share. What they did together is one history.
+#![tactic(auto)]
+
+mod behind;
+mod cluster;
+mod faults;
+mod held;
+mod holding;
+mod luggage;
+
+pub use cluster::{Cluster, Pass};
+pub use faults::{Busy, NotDone, StepFault};
+pub use held::Held;
+pub use luggage::Luggage;
