@@ -18,25 +18,26 @@ use Rattle.crl_cluster.specs.Standing.{world_at, heard_at}
 abbrev pub view_of : Pass → View
 view_of pass = turns.view_of pass.turns
 
-module _ {N T : Type 0} where
+-- A is what the type of a member makes ready for a call, and B for a piece.
+module _ {N A B T : Type 0} where
   -- the number of nodes, and for how many names each node's cache has room
-  abbrev pub shape_of : Cluster N T → Shape
+  abbrev pub shape_of : Cluster N A B T → Shape
   shape_of cluster = turns.common_shape cluster.turns
 
-  abbrev pub node_count : Cluster N T → ℕ
+  abbrev pub node_count : Cluster N A B T → ℕ
   node_count cluster = (shape_of cluster).parts
 
   -- the pass is of this cluster
-  pub record IsOf (cluster : Cluster N T) (pass : Pass) : Type 0 where
+  pub record IsOf (cluster : Cluster N A B T) (pass : Pass) : Type 0 where
     pub turns_are : turns.IsOf cluster.turns pass.turns
     pub shape_is : pass.shape ≡ shape_of cluster
 
-  -- The pass has this node, which is the one of its number after the pass's front.
-  pub record IsHeld (state : N → Node) (s : Shape) (view : View) (held : Held N T) : Type 0 where
-    pub node_is : state held.behind.node ≡ (world_at s view.front).nodes held.number
-    pub shape_is : held.behind.shape ≡ s
-    pub inside : held.number < s.parts
-    pub has : HasValue held.number view
+-- The pass has this node, which is the one of its number after the pass's front.
+pub record IsHeld {N T : Type 0} (state : N → Node) (s : Shape) (view : View) (held : Held N T) : Type 0 where
+  pub node_is : state held.behind.node ≡ (world_at s view.front).nodes held.number
+  pub shape_is : held.behind.shape ≡ s
+  pub inside : held.number < s.parts
+  pub has : HasValue held.number view
 
 -- The front has grown, and no event that came touches one of these nodes.
 pub record GrowsPast (these : ℕ → Type 0) (s : Shape) (old new : List Event) : Type 0 where

@@ -1,7 +1,8 @@
 //! The cluster and its passes.
 ghost use Rattle.std.specs.Prelude.{◌≡◌, ◌<◌, ◌≤◌, ◌^◌, length};
-ghost use Rattle.crl_protocol.specs.World.{IsRun};
 ghost use Rattle.crl_turns.specs.Passes.{view_of, part_count, common_shape};
+ghost use Rattle.crl_turns.specs.Fronts.{Runs};
+ghost use Rattle.crl_cluster.specs.Standing.{MayCome};
 
 use crate::behind::Behind;
 use crate::luggage::Luggage;
@@ -24,5 +25,5 @@ pub struct Cluster<N: Member, T: Luggage> {
 pub struct Pass {
     pub(crate) turns: crl_turns::Pass,
     pub(crate) shape: Shape,
-    ghost runs: { IsRun shape.parts shape.extra (view_of turns).front },
+    ghost runs: { Runs (MayCome shape) (view_of turns).front },
 }

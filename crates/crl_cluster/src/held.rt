@@ -1,4 +1,6 @@
 //! A node that is held.
+ghost use Rattle.std.specs.Prelude.{◌≡◌};
+
 use crate::behind::Behind;
 use crl_model::NodeNo;
 

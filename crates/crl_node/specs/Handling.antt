@@ -118,9 +118,9 @@ IsWholeTaken n None = ⊥
 IsWholeTaken n (Some p) = IsWhole n p
 
 -- The piece is ready to be handled: as a whole message, or as a part of one that is gathered.
-abbrev pub IsPartReady : Option Piece → HandleKit → Option PartKit → Desk → Type 0
-IsPartReady o kit None d = IsWholeTaken (state d) o × IsReadyToTake o kit d
-IsPartReady o kit (Some part) d = (key_taken o ≡ Some (key_of_parcel part.key)) × IsReadyToTake o kit d × IsReadyToGather (key_of_parcel part.key) part.size part.blank d
+abbrev pub IsReadyAs : Option Piece → HandleKit → Option PartKit → Desk → Type 0
+IsReadyAs o kit None d = IsWholeTaken (state d) o × IsReadyToTake o kit d
+IsReadyAs o kit (Some part) d = (key_taken o ≡ Some (key_of_parcel part.key)) × IsReadyToTake o kit d × IsReadyToGather (key_of_parcel part.key) part.size part.blank d
 
 abbrev pub IsPieceReady : Option Piece → PieceKit → Desk → Type 0
-IsPieceReady o kit d = IsPartReady o kit.message kit.part d
+IsPieceReady o kit d = IsReadyAs o kit.message kit.part d
