@@ -41,6 +41,11 @@ pub record Comes (s : Shape) (e : Event) (old new : View) : Type 0 where
   pub front : new.front ≡ before ++ e ∷ []
   pub view : new ≡ after_append before e (after_load before old)
 
+-- the same, at this position
+pub record ComesAt (at : ℕ) (s : Shape) (e : Event) (old new : View) : Type 0 where
+  pub comes : Comes s e old new
+  pub at_is : at ≡ length comes.before
+
 -- The event is done, with the answer that the protocol gives there. The node heard it.
 pub record IsDone (s : Shape) (e : Event) (old : View) (answer : Answer) (new : View) : Type 0 where
   pub comes : Comes s e old new

@@ -39,6 +39,11 @@ pub record IsHeld {N T : Type 0} (state : N → Node) (s : Shape) (view : View) 
   pub inside : held.number < s.parts
   pub has : HasValue held.number view
 
+-- It is the same node, with the same luggage.
+pub record IsSameHeld {N T : Type 0} (old new : Held N T) : Type 0 where
+  pub number : new.number ≡ old.number
+  pub luggage : new.behind.luggage ≡ old.behind.luggage
+
 -- The front has grown, and no event that came touches one of these nodes.
 pub record GrowsPast (these : ℕ → Type 0) (s : Shape) (old new : List Event) : Type 0 where
   pub begins : Begins old new

@@ -1,8 +1,11 @@
 //! The nodes of one region library behind turns, which several threads share. What they did together is one history.
 #![tactic(auto)]
 
+mod acting;
+mod appending;
 mod behind;
 mod cluster;
+mod events;
 mod faults;
 mod held;
 mod holding;
