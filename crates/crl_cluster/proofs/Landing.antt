@@ -10,18 +10,17 @@ use Rattle.crl_protocol.specs.Node.{Node, Answer, Outcome}
 use Rattle.crl_protocol.specs.Verdict.{verdict}
 use Rattle.crl_protocol.specs.Calls.{node_calls}
 use Rattle.crl_protocol.specs.Receiving.{receives}
-use Rattle.crl_protocol.specs.World.{World, new_world, step, commits, noted_call, without_bytes, collects, handles_at}
+use Rattle.crl_protocol.specs.World.{World, new_world, step, commits, noted_call, without_bytes, collects, handles_at, IsRunFrom}
 use Rattle.crl_member.specs.Members.{CallIsDone, CollectIsDone, node_after_handle, after_taken}
 use Rattle.crl_history.proofs.Laws.{world_then}
 use Rattle.crl_turns.specs.declared.turned.Shape.{Shape}
-use Rattle.crl_turns.specs.Fronts.{Runs}
-use Rattle.crl_cluster.specs.Standing.{world_at, MayCome}
+use Rattle.crl_cluster.specs.Standing.{world_at}
 use Rattle.crl_cluster.proofs.Worlds.{events_at, me_at}
 
 at_here : {A : Type 0} (f : ℕ → A) (i : ℕ) (v : A) → at_node f i v i ≡ v
 at_here f i v = ap (λ b. if b then v else f i) (eq-eqb i i refl)
 
-module _ (s : Shape) (i : ℕ) (before : List Event) (runs : Runs (MayCome s) before) (at : ℕ) (place : at ≡ length before) (n : Node) (is : n ≡ (world_at s before).nodes i) where
+module _ (s : Shape) (i : ℕ) (before : List Event) (run : IsRunFrom (new_world s.parts s.extra) before) (at : ℕ) (place : at ≡ length before) (n : Node) (is : n ≡ (world_at s before).nodes i) where
   abbrev w : World
   w = world_at s before
 
@@ -29,8 +28,8 @@ module _ (s : Shape) (i : ℕ) (before : List Event) (runs : Runs (MayCome s) be
   lands_as : (E : ℕ → Event) (e : Event) (o : Node → Outcome) (new : Node) → (step e w).world.nodes i ≡ at_node w.nodes i (commits w.events (E i) (o (w.nodes i))) i
       → new ≡ commits at (E n.me) (o n) → new ≡ (world_at s (before ++ e ∷ [])).nodes i
   lands_as E e o new there did =
-      did ∙ ap₂ (λ (k : ℕ) (m : Node). commits k (E m.me) (o m)) (place ∙ sym (events_at s before runs)) is
-      ∙ ap (λ k. commits w.events (E k) (o (w.nodes i))) (me_at s before runs i)
+      did ∙ ap₂ (λ (k : ℕ) (m : Node). commits k (E m.me) (o m)) (place ∙ sym (events_at s before run)) is
+      ∙ ap (λ k. commits w.events (E k) (o (w.nodes i))) (me_at s before run i)
       ∙ sym (there ∙ at_here w.nodes i _) ∙ sym (ap (λ (u : World). u.nodes i) (world_then (new_world s.parts s.extra) before e))
 
   pub call_lands : (c : Call) (new : Node) (answer : Answer) → CallIsDone at c n new answer → new ≡ (world_at s (before ++ event.Call i c ∷ [])).nodes i
@@ -39,8 +38,8 @@ module _ (s : Shape) (i : ℕ) (before : List Event) (runs : Runs (MayCome s) be
     where
       lands_as_call : (c : Call) (new : Node) → new ≡ commits at (event.Call n.me (noted_call (verdict n c) c)) (node_calls c n) → new ≡ (world_at s (before ++ event.Call i c ∷ [])).nodes i
       lands_as_call c new did =
-          did ∙ ap₂ (λ (k : ℕ) (m : Node). commits k (event.Call m.me (noted_call (verdict m c) c)) (node_calls c m)) (place ∙ sym (events_at s before runs)) is
-          ∙ ap (λ k. commits w.events (event.Call k (noted_call (verdict (w.nodes i) c) c)) (node_calls c (w.nodes i))) (me_at s before runs i)
+          did ∙ ap₂ (λ (k : ℕ) (m : Node). commits k (event.Call m.me (noted_call (verdict m c) c)) (node_calls c m)) (place ∙ sym (events_at s before run)) is
+          ∙ ap (λ k. commits w.events (event.Call k (noted_call (verdict (w.nodes i) c) c)) (node_calls c (w.nodes i))) (me_at s before run i)
           ∙ sym (at_here w.nodes i _) ∙ sym (ap (λ (u : World). u.nodes i) (world_then (new_world s.parts s.extra) before (event.Call i c)))
 
   pub call_answers : (c : Call) (new : Node) (answer : Answer) → CallIsDone at c n new answer → answer ≡ (step (event.Call i c) w).answer
@@ -67,7 +66,7 @@ module _ (s : Shape) (i : ℕ) (before : List Event) (runs : Runs (MayCome s) be
   pub handle_lands : (place_in : ℕ) (new : Node) → (take_out place_in (w.nodes i).inbox ≡ None → ⊥) → new ≡ node_after_handle at place_in n → new ≡ (world_at s (before ++ event.Handle i place_in ∷ [])).nodes i
   unfolding step
   handle_lands place_in new there did =
-      did ∙ ap₂ (λ (k : ℕ) (m : Node). node_after_handle k place_in m) (place ∙ sym (events_at s before runs)) is
-      ∙ ap (λ k. after_taken w.events (event.Handle k place_in) (take_out place_in (w.nodes i).inbox) (w.nodes i)) (me_at s before runs i)
+      did ∙ ap₂ (λ (k : ℕ) (m : Node). node_after_handle k place_in m) (place ∙ sym (events_at s before run)) is
+      ∙ ap (λ k. after_taken w.events (event.Handle k place_in) (take_out place_in (w.nodes i).inbox) (w.nodes i)) (me_at s before run i)
       ∙ sym (handled_here (event.Handle i place_in) (take_out place_in (w.nodes i).inbox) there)
       ∙ sym (ap (λ (u : World). u.nodes i) (world_then (new_world s.parts s.extra) before (event.Handle i place_in)))

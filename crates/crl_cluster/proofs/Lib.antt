@@ -1,3 +1,5 @@
 mod Growing
 mod Worlds
 mod Landing
+mod Coming
+mod Nodes

@@ -55,24 +55,21 @@ events_from w (e ∷ es) r =
     let one = one_more e w r.0 in
     let rest = events_from (step e w).world es r.1 in omega (arith, one, rest)
 
-module _ (s : Shape) (front : List Event) (runs : Runs (MayCome s) front) where
-  pub run_of : IsRunFrom (new_world s.parts s.extra) front
-  run_of = runs_from (new_world s.parts s.extra) front runs
+pub run_of : (s : Shape) (front : List Event) → Runs (MayCome s) front → IsRunFrom (new_world s.parts s.extra) front
+run_of s front runs = runs_from (new_world s.parts s.extra) front runs
 
+module _ (s : Shape) (front : List Event) (run : IsRunFrom (new_world s.parts s.extra) front) where
   pub count_at : (world_at s front).count ≡ s.parts
-  count_at = count_from (new_world s.parts s.extra) front run_of
+  count_at = count_from (new_world s.parts s.extra) front run
 
   pub events_at : (world_at s front).events ≡ length front
-  events_at = let all = events_from (new_world s.parts s.extra) front run_of in omega (arith, all)
+  events_at = let all = events_from (new_world s.parts s.extra) front run in omega (arith, all)
 
   pub me_at : (i : ℕ) → ((world_at s front).nodes i).me ≡ i
-  me_at i = (numbers_known s.parts s.extra front run_of i).0
-
-  pub within_limit : length front ≤ 2 ^ 62 → IsRun s.parts s.extra front
-  within_limit limit = record { enabled = run_of; limit = limit }
+  me_at i = (numbers_known s.parts s.extra front run i).0
 
   pub safe_at : length front ≤ 2 ^ 62 → (i : ℕ) → i < s.parts → IsSafe ((world_at s front).nodes i)
-  safe_at limit i few = nodes_safe s.parts s.extra front (within_limit limit) i few
+  safe_at limit i few = nodes_safe s.parts s.extra front (record { enabled = run; limit = limit }) i few
 
 -- An event's nodes, and whether it may come, are seen at its node.
 pub touches_as : (e : Event) (v w : World) (m : ℕ) → v.nodes (node_of e) ≡ w.nodes (node_of e) → touches e v m ≡ touches e w m

@@ -1,3 +1,4 @@
 pub mod Standing
 pub mod Clusters
 pub mod Acting
+pub mod Faults

@@ -10,7 +10,7 @@ ghost use Rattle.crl_cluster.specs.Clusters.{view_of, shape_of, IsOf, IsHeld, Is
 ghost use Rattle.crl_cluster.specs.Acting.{Comes, IsDone, IsUndone};
 
 use crate::cluster::{Cluster, Pass};
-use crate::events::Calling;
+use crate::events::{Calling, Collecting, Handling};
 use crate::faults::{NotDone, StepFault};
 use crate::held::Held;
 use crate::luggage::Luggage;
@@ -18,7 +18,6 @@ use crl_guard::{Reading, Writing};
 use crl_member::Member;
 use crl_model::activity::Answer;
 use crl_model::call::Call;
-use crl_model::event::Event;
 
 impl<N: Member, T: Luggage> Cluster<N, T> {
     /// The held node makes the call. The end of a section that is allowed goes by its guard.
@@ -84,9 +83,10 @@ impl<N: Member, T: Luggage> Cluster<N, T> {
         let Ok(()) = held.behind.node.ready_collect() else {
             return Err(StepFault::OutOfMemory);
         };
-        let event = Event::Collect { node: held.number };
-        let at = self.append_next(pass, &event)?;
-        Ok(held.behind.node.make_collect(at))
+        match self.append_next(pass, &Collecting { node: held.number }) {
+            Ok(at) => Ok(held.behind.node.make_collect(at)),
+            Err(why) => Err(why),
+        }
     }
 
     /// The held node handles the piece at this place of its inbox.
@@ -113,12 +113,16 @@ impl<N: Member, T: Luggage> Cluster<N, T> {
         let Ok(kit) = held.behind.node.ready_handle(place) else {
             return Err(StepFault::OutOfMemory);
         };
-        let event = Event::Handle {
+        let event = Handling {
             node: held.number,
             place,
         };
-        let at = self.append_next(pass, &event)?;
-        held.behind.node.make_handle(at, place, kit);
-        Ok(())
+        match self.append_next(pass, &event) {
+            Ok(at) => {
+                held.behind.node.make_handle(at, place, kit);
+                Ok(())
+            }
+            Err(why) => Err(why),
+        }
     }
 }

@@ -6,11 +6,10 @@ ghost use Rattle.crl_cluster.specs.Clusters.{view_of, shape_of, node_count, IsOf
 ghost use Rattle.crl_cluster.specs.Acting.{ComesAt, IsUndone};
 
 use crate::cluster::{Cluster, Pass};
-use crate::faults::StepFault;
+use crate::faults::{StepFault, fault_of_append};
 use crate::luggage::Luggage;
 use crl_member::Member;
 use crl_model::event::Evented;
-use crl_turns::AppendFault;
 
 impl<N: Member, T: Luggage> Cluster<N, T> {
     /// Loads the count and appends the event there, whose position it answers. The pass has all nodes that the event
@@ -32,8 +31,7 @@ impl<N: Member, T: Luggage> Cluster<N, T> {
         let saw = self.turns.seen(&mut pass.turns);
         match self.turns.append(&mut pass.turns, saw, event) {
             Ok(()) => Ok(saw),
-            Err(AppendFault::Moved { saw, found }) => Err(StepFault::Moved { saw, found }),
-            Err(AppendFault::Spent) => Err(StepFault::Spent),
+            Err(fault) => Err(fault_of_append(fault)),
         }
     }
 }

@@ -1,4 +1,4 @@
-//! Events of which what was given is a part: it comes back where the event isn't done.
+//! Values that stand for the events. What was given for an event is a part of it, and comes back where it isn't done.
 ghost use Rattle.crl_model.specs.declared.call.Call.TheVariants as call;
 ghost use Rattle.crl_model.specs.declared.event.Event.TheVariants as event;
 
@@ -15,6 +15,38 @@ pub(crate) struct Calling {
 
 impl Evented for Calling {
     ghost event = { λ e. event.Call e.node e.call };
+}
+
+/// The node takes its answer.
+#[derive(Drop)]
+pub(crate) struct Collecting {
+    pub(crate) node: NodeNo,
+}
+
+impl Evented for Collecting {
+    ghost event = { λ e. event.Collect e.node };
+}
+
+/// The node handles the piece at this place of its inbox.
+#[derive(Drop)]
+pub(crate) struct Handling {
+    pub(crate) node: NodeNo,
+    pub(crate) place: usize,
+}
+
+impl Evented for Handling {
+    ghost event = { λ e. event.Handle e.node e.place };
+}
+
+/// The piece at this place of the node's outbox goes to its addressee.
+#[derive(Drop)]
+pub(crate) struct Carrying {
+    pub(crate) node: NodeNo,
+    pub(crate) place: usize,
+}
+
+impl Evented for Carrying {
+    ghost event = { λ e. event.Carry e.node e.place };
 }
 
 /// The node ends the read section of this guard.
