@@ -4,7 +4,9 @@
 mod acting;
 mod appending;
 mod behind;
+mod carrying;
 mod cluster;
+mod ends;
 mod events;
 mod faults;
 mod held;
