@@ -3,3 +3,4 @@ mod Worlds
 mod Landing
 mod Coming
 mod Nodes
+mod Fresh

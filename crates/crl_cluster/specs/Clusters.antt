@@ -19,16 +19,16 @@ abbrev pub view_of : Pass → View
 view_of pass = turns.view_of pass.turns
 
 -- A is what the type of a member makes ready for a call, and B for a piece.
-module _ {N A B T : Type 0} where
+module _ {N T A B : Type 0} where
   -- the number of nodes, and for how many names each node's cache has room
-  abbrev pub shape_of : Cluster N A B T → Shape
+  abbrev pub shape_of : Cluster N T A B → Shape
   shape_of cluster = turns.common_shape cluster.turns
 
-  abbrev pub node_count : Cluster N A B T → ℕ
+  abbrev pub node_count : Cluster N T A B → ℕ
   node_count cluster = (shape_of cluster).parts
 
   -- the pass is of this cluster
-  pub record IsOf (cluster : Cluster N A B T) (pass : Pass) : Type 0 where
+  pub record IsOf (cluster : Cluster N T A B) (pass : Pass) : Type 0 where
     pub turns_are : turns.IsOf cluster.turns pass.turns
     pub shape_is : pass.shape ≡ shape_of cluster
 

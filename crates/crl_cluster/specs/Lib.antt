@@ -2,3 +2,4 @@ pub mod Standing
 pub mod Clusters
 pub mod Acting
 pub mod Faults
+pub mod Starting

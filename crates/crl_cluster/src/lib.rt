@@ -12,6 +12,7 @@ mod faults;
 mod held;
 mod holding;
 mod luggage;
+mod starting;
 
 pub use cluster::{Cluster, Pass};
 pub use faults::{Busy, NotDone, StepFault};
