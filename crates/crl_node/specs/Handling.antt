@@ -24,6 +24,9 @@ use Rattle.crl_copying.specs.Calling.{remote_size_at}
 use Rattle.crl_naming.specs.Forgetting.{PurgeIsReady}
 use Rattle.crl_naming.specs.Readied.{InfoIsReady}
 use Rattle.crl_meeting.specs.Meetings.{IsPartReady, IsResultReady}
+use Rattle.crl_parcels.specs.ParcelKeys.{key_of_parcel}
+use Rattle.crl_node.specs.declared.kits.PartKit.{PartKit}
+use Rattle.crl_node.specs.declared.kits.PieceKit.{PieceKit}
 use Rattle.crl_node.specs.declared.kits.HandleKit.{HandleKit}
 use Rattle.crl_node.specs.declared.kits.HandleKit.TheVariants.{Room, Section, Sheets, Papers, Paper}
 
@@ -113,3 +116,11 @@ pub record IsWhole (n : Node) (p : Piece) : Type 0 where
 abbrev pub IsWholeTaken : Node → Option Piece → Type 0
 IsWholeTaken n None = ⊥
 IsWholeTaken n (Some p) = IsWhole n p
+
+-- The piece is ready to be handled: as a whole message, or as a part of one that is gathered.
+abbrev pub IsReadyAs : Option Piece → HandleKit → Option PartKit → Desk → Type 0
+IsReadyAs o kit None d = IsWholeTaken (state d) o × IsReadyToTake o kit d
+IsReadyAs o kit (Some part) d = (key_taken o ≡ Some (key_of_parcel part.key)) × IsReadyToTake o kit d × IsReadyToGather (key_of_parcel part.key) part.size part.blank d
+
+abbrev pub IsPieceReady : Option Piece → PieceKit → Desk → Type 0
+IsPieceReady o kit d = IsReadyAs o kit.message kit.part d

@@ -58,7 +58,7 @@ fn handle_in(desk: &mut Desk, at: u64, place: usize) -> Result<(), OutOfMemory>
 }
 
 /// The piece at this place.
-fn piece_at(inbox: &Mailbox, place: usize) -> &Piece
+pub(crate) fn piece_at(inbox: &Mailbox, place: usize) -> &Piece
     requires { place < length inbox.now.list }
     ensures { Some result.now ≡ piece_taken (take_out place inbox.now.list) }
 {
@@ -66,7 +66,7 @@ fn piece_at(inbox: &Mailbox, place: usize) -> &Piece
 }
 
 /// What the message of the piece at this place takes. It stays there: the inbox is off the desk meanwhile.
-fn ready_at(desk: &mut Desk, place: usize) -> Result<HandleKit, OutOfMemory>
+pub(crate) fn ready_at(desk: &mut Desk, place: usize) -> Result<HandleKit, OutOfMemory>
     requires node { IsNode desk.old }
     requires there { place < length desk.old.inbox.list }
     requires piece { TakenIsSafe (state desk.old) (take_out place desk.old.inbox.list) }
@@ -98,7 +98,7 @@ fn handle_whole(desk: &mut Desk, at: u64, place: usize) -> Result<(), OutOfMemor
 }
 
 /// The message is taken out and heard.
-fn take_whole(desk: &mut Desk, at: u64, place: usize, kit: HandleKit)
+pub(crate) fn take_whole(desk: &mut Desk, at: u64, place: usize, kit: HandleKit)
     requires node { IsNode desk.old }
     requires safe { IsSafe (state desk.old) }
     requires there { place < length desk.old.inbox.list }
@@ -181,7 +181,7 @@ fn handle_gathered(
 }
 
 /// The piece is taken out and heard.
-fn take_part(
+pub(crate) fn take_part(
     desk: &mut Desk,
     at: u64,
     place: usize,

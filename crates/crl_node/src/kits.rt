@@ -1,7 +1,30 @@
-//! What a message takes that comes.
+//! What a call takes, and a message that comes.
 use crl_desk::SectionKit;
-use crl_meeting::Papers;
+use crl_home::Home;
+use crl_meeting::{Papers, RoundKit};
+use crl_model::call::Refusal;
+use crl_model::collective::Part;
 use crl_outbox::{Paper, Sheets};
+use crl_parcels::ParcelKey;
+use crl_pieces::gather::Gather;
+
+/// What was readied for a call: that it is refused, and why, or what it takes.
+#[derive(Drop)]
+pub enum CallKit {
+    Refused(Refusal),
+    Taken(TakenKit),
+}
+
+/// What was readied for a call that isn't refused: nothing but room, the table of a new region, sheets for bytes that may go
+/// back, what a section takes that may open, or the part of a round as it is to be noted, with what the round takes.
+#[derive(Drop)]
+pub enum TakenKit {
+    Room,
+    Create(Home),
+    Sheets(Sheets),
+    Section(SectionKit),
+    Come { noted: Part, kit: RoundKit },
+}
 
 /// What was readied for a message: nothing but room, what a section takes that may open, sheets for bytes that may go back,
 /// papers for what the nodes of a round are told, or paper for what this one is told.
@@ -12,4 +35,19 @@ pub(crate) enum HandleKit {
     Sheets(Sheets),
     Papers(Papers),
     Paper(Paper),
+}
+
+/// What was readied for a piece: what its message takes, and, if the message is gathered, what the piece takes itself.
+#[derive(Drop)]
+pub struct PieceKit {
+    pub(crate) message: HandleKit,
+    pub(crate) part: Option<PartKit>,
+}
+
+/// The key of the message, its size, and the blank for its bytes, if this is the first piece.
+#[derive(Drop)]
+pub(crate) struct PartKit {
+    pub(crate) key: ParcelKey,
+    pub(crate) size: u32,
+    pub(crate) blank: Option<Gather>,
 }

@@ -13,6 +13,7 @@ mod kits;
 mod membership;
 mod names;
 mod node;
+mod readying;
 mod rounds;
 mod showing;
 

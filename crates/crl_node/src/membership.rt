@@ -1,8 +1,14 @@
 //! A node is a member of a world.
-ghost use Rattle.crl_desk.specs.Desks.{state};
+ghost use Rattle.crl_protocol.specs.Places.{take_out};
+ghost use Rattle.crl_desk.specs.Desks.{state, HasRoom};
+ghost use Rattle.crl_node.specs.Calling.{IsCallReady};
+ghost use Rattle.crl_node.specs.Handling.{piece_taken, IsPieceReady};
+ghost use Rattle.crl_node.specs.Nodes.{CanCarry};
 
-use crate::calling::{make_call, make_end_read, make_end_write};
+use crate::calling::{make_call, make_end_read, make_end_write, ready_call};
+use crate::kits::{CallKit, PieceKit};
 use crate::node::Node;
+use crate::readying::{make_handle, ready_piece};
 use crl_guard::{Reading, Writing};
 use crl_member::Member;
 use crl_model::activity::{Answer, Awaited};
@@ -15,7 +21,18 @@ use crl_verdict::verdict;
 use std::alloc::Global;
 
 impl Member for Node {
+    type CallKit = CallKit;
+    type PieceKit = PieceKit;
+
     ghost state = { λ node. state node };
+
+    ghost can_call = { λ call kit node. IsCallReady call kit node };
+
+    ghost can_collect = { λ node. HasRoom 0 0 1 node };
+
+    ghost can_handle = { λ place kit node. IsPieceReady (piece_taken (take_out place node.inbox.list)) kit node };
+
+    ghost can_carry = { λ node to. CanCarry node to };
 
     fn new(alloc: Global, me: NodeNo, nodes: NodeNo, capacity: u16) -> Result<Node, OutOfMemory> {
         Node::start(alloc, me, nodes, capacity)
@@ -65,8 +82,12 @@ impl Member for Node {
         self.has_writing(guard)
     }
 
-    fn call(&mut self, at: u64, call: Call) -> Result<Answer<Reading, Writing>, Call> {
-        make_call(&mut self.desk, at, call)
+    fn ready_call(&mut self, call: &Call) -> Result<CallKit, OutOfMemory> {
+        ready_call(&mut self.desk, call)
+    }
+
+    fn make_call(&mut self, at: u64, call: Call, kit: CallKit) -> Answer<Reading, Writing> {
+        make_call(&mut self.desk, at, call, kit)
     }
 
     fn end_read(&mut self, at: u64, guard: Reading) {
@@ -77,16 +98,28 @@ impl Member for Node {
         make_end_write(&mut self.desk, at, guard);
     }
 
-    fn collect(&mut self, at: u64) -> Result<Answer<Reading, Writing>, OutOfMemory> {
+    fn ready_collect(&mut self) -> Result<(), OutOfMemory> {
+        self.ready_to_take()
+    }
+
+    fn make_collect(&mut self, at: u64) -> Answer<Reading, Writing> {
         self.take_answer(at)
     }
 
-    fn handle(&mut self, at: u64, place: usize) -> Result<(), OutOfMemory> {
-        self.handle_at(at, place)
+    fn ready_handle(&mut self, place: usize) -> Result<PieceKit, OutOfMemory> {
+        ready_piece(&mut self.desk, place)
     }
 
-    fn carry(&mut self, to: &mut Node, at: u64, place: usize) -> Result<(), OutOfMemory> {
-        self.carry_to(to, at, place)
+    fn make_handle(&mut self, at: u64, place: usize, kit: PieceKit) {
+        make_handle(&mut self.desk, at, place, kit);
+    }
+
+    fn ready_carry(&mut self, to: &mut Node) -> Result<(), OutOfMemory> {
+        self.ready_to_send(to)
+    }
+
+    fn make_carry(&mut self, to: &mut Node, at: u64, place: usize) {
+        self.carry_to(to, at, place);
     }
 
     fn records(&self) -> &[Recorded] {
