@@ -1,14 +1,15 @@
 //! A piece of a message with bytes of a region. With the last missing one its message is heard.
-ghost use Rattle.std.specs.Prelude.{◌≡◌, Some, None, IfOk, OnOk};
-ghost use Rattle.crl_protocol.specs.Parcels.{key_of, load_of};
-ghost use Rattle.crl_protocol.specs.Receiving.{receives, size_for, home_size};
+ghost use Rattle.std.specs.Prelude.{◌≡◌, ℕ, Some, None, false, IfOk, OnOk, MatchBool};
+ghost use Rattle.crl_pieces.specs.Pieces.{is_complete};
+ghost use Rattle.crl_protocol.specs.Parcels.{key_of, load_of, slots_or};
+ghost use Rattle.crl_protocol.specs.Receiving.{receives, size_for, home_size, slots_with};
 ghost use Rattle.crl_protocol.specs.Node.{home_of};
 ghost use Rattle.crl_safety.specs.Safety.{IsSafe, PieceIsSafe};
 ghost use Rattle.crl_parcels.specs.ParcelKeys.{key_of_parcel, load_named};
 ghost use Rattle.crl_parcels.specs.ParcelsState.{parcels_of, sizes_of};
 ghost use Rattle.crl_parcels.specs.PieceComes.{IsReadyFor, IsOfSize};
 ghost use Rattle.crl_desk.specs.Desks.{state, acted, HasRoom};
-ghost use Rattle.crl_node.specs.Handling.{IsReadyToHear, IsReadyToGather, IsWhole};
+ghost use Rattle.crl_node.specs.Handling.{IsReadyToHear, IsReadyToGather, IsWhole, MissesAnother, MissesNoOther};
 
 use crate::hearing::hear;
 use crate::kits::HandleKit;
@@ -115,6 +116,19 @@ fn ready_first(
     Ok(Some(blank))
 }
 
+/// Whether a piece below this number, other than this one, is missing of the message with this key.
+pub(crate) fn misses_another(parcels: &Parcels, key: ParcelKey, index: u32, number: u32) -> bool
+    ensures { let slots = slots_or number (parcels_of parcels.now (key_of_parcel key)) in
+        MatchBool result (MissesAnother index number slots) (MissesNoOther index number slots) }
+{
+    for other in 0..number {
+        if other != index && parcels.is_missing(key, other, number) {
+            return true;
+        }
+    }
+    false
+}
+
 /// The piece is a whole message. It comes.
 pub(crate) fn hear_whole(desk: &mut Desk, at: u64, piece: Piece, kit: HandleKit)
     requires safe { IsSafe (state desk.old) }
@@ -153,4 +167,26 @@ pub(crate) fn hear_piece(
         Some(bytes) => hear(desk, at, sender, with_load(kind, bytes), kit),
         None => {}
     }
+}
+
+/// The piece comes of the message with this key, of so many bytes, of which another one is still missing.
+pub(crate) fn keep_piece(
+    desk: &mut Desk,
+    piece: Piece,
+    key: ParcelKey,
+    size: u32,
+    blank: Option<Gather>,
+)
+    requires room { HasRoom 0 0 1 desk.old }
+    requires piece { PieceIsSafe (state desk.old) piece }
+    requires key { key_of piece.message ≡ Some (key_of_parcel key) }
+    requires open { is_complete (slots_with piece ((state desk.old).parcels (key_of_parcel key))) ≡ false }
+    requires parcel { IsReadyToGather (key_of_parcel key) size blank desk.old }
+    ensures state { (at : ℕ) → state desk.new ≡ acted at (receives piece (state desk.old)) }
+    ensures room { HasRoom 0 0 1 desk.new }
+{
+    let Piece { message, index, .. } = piece;
+    let _ = desk
+        .parcels
+        .add(key, index, bytes_of(&message.kind), size, blank);
 }

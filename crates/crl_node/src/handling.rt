@@ -1,16 +1,18 @@
 //! A piece of the inbox is handled.
-ghost use Rattle.std.specs.Prelude.{◌≡◌, ◌<◌, ◌≤◌, Some, IfOk, OnOk, OnErr, length};
+ghost use Rattle.std.specs.Prelude.{◌≡◌, ◌<◌, ◌≤◌, Some, IfOk, OnOk, OnErr, MatchBool, length};
 ghost use Rattle.crl_protocol.specs.Places.{take_out};
 ghost use Rattle.crl_protocol.specs.Receiving.{size_for};
 ghost use Rattle.crl_safety.specs.Safety.{IsSafe};
 ghost use Rattle.crl_member.specs.Members.{node_after_handle, TakenIsSafe};
 ghost use Rattle.crl_parcels.specs.ParcelKeys.{key_of_parcel, load_named};
-ghost use Rattle.crl_desk.specs.Desks.{state};
-ghost use Rattle.crl_node.specs.Handling.{piece_taken, key_taken, IsReadyToTake, IsReadyToGather, IsWholeTaken};
-ghost use Rattle.crl_node.specs.Nodes.{IsNode};
+ghost use Rattle.crl_desk.specs.Desks.{state, HasRoom};
+ghost use Rattle.crl_node.specs.Handling.{piece_taken, key_taken, IsReadyToTake, IsReadyToGather, IsWholeTaken, LeavesOpen, IsLast};
+ghost use Rattle.crl_node.specs.Nodes.{IsNode, IsFew};
 
 use crate::concluding::conclude;
-use crate::gathering::{hear_piece, hear_whole, known_size, ready_parcel};
+use crate::gathering::{
+    hear_piece, hear_whole, keep_piece, known_size, misses_another, ready_parcel,
+};
 use crate::hearing::ready_to_hear;
 use crate::kits::HandleKit;
 use crate::node::Node;
@@ -156,7 +158,7 @@ fn handle_sized(
     handle_gathered(desk, at, place, key, size)
 }
 
-/// The piece is one of a message of so many bytes, which is gathered.
+/// The piece is one of a message of so many bytes, which is gathered. Only the last missing one needs what the message takes.
 fn handle_gathered(
     desk: &mut Desk,
     at: u64,
@@ -174,10 +176,74 @@ fn handle_gathered(
     ensures err { OnErr result (state desk.new ≡ state desk.old) }
     ensures node { IsNode desk.new }
 {
+    if leaves_open(desk, place, key) {
+        return handle_more(desk, at, place, key, size);
+    }
     let kit = ready_at(desk, place)?;
     let blank = ready_parcel(&mut desk.parcels, desk.alloc, key, size)?;
     take_part(desk, at, place, key, size, blank, kit);
     Ok(())
+}
+
+/// Whether a piece of the message is still missing once the one at this place has come.
+fn leaves_open(desk: &Desk, place: usize, key: ParcelKey) -> bool
+    requires there { place < length desk.now.inbox.list }
+    ensures { let piece = piece_taken (take_out place desk.now.inbox.list) in
+        MatchBool result (LeavesOpen (state desk.now) (key_of_parcel key) piece) (IsLast (state desk.now) (key_of_parcel key) piece) }
+{
+    let piece = piece_at(&desk.inbox, place);
+    misses_another(&desk.parcels, key, piece.index, piece.pieces)
+}
+
+/// The piece is one of a message of so many bytes, of which another one is missing too.
+fn handle_more(
+    desk: &mut Desk,
+    at: u64,
+    place: usize,
+    key: ParcelKey,
+    size: u32,
+) -> Result<(), OutOfMemory>
+    requires node { IsNode desk.old }
+    requires safe { IsSafe (state desk.old) }
+    requires there { place < length desk.old.inbox.list }
+    requires piece { TakenIsSafe (state desk.old) (take_out place desk.old.inbox.list) }
+    requires key { key_taken (piece_taken (take_out place desk.old.inbox.list)) ≡ Some (key_of_parcel key) }
+    requires known { size_for (load_named key.load) key.name (state desk.old) ≡ Some size }
+    requires open { LeavesOpen (state desk.old) (key_of_parcel key) (piece_taken (take_out place desk.old.inbox.list)) }
+    ensures ok { OnOk result (state desk.new ≡ node_after_handle at place (state desk.old)) }
+    ensures err { OnErr result (state desk.new ≡ state desk.old) }
+    ensures node { IsNode desk.new }
+{
+    desk.make_room(0, 0, 1)?;
+    let blank = ready_parcel(&mut desk.parcels, desk.alloc, key, size)?;
+    take_more(desk, at, place, key, size, blank);
+    Ok(())
+}
+
+/// The piece is taken out and kept.
+fn take_more(
+    desk: &mut Desk,
+    at: u64,
+    place: usize,
+    key: ParcelKey,
+    size: u32,
+    blank: Option<Gather>,
+)
+    requires few { IsFew (state desk.old) }
+    requires room { HasRoom 0 0 1 desk.old }
+    requires there { place < length desk.old.inbox.list }
+    requires piece { TakenIsSafe (state desk.old) (take_out place desk.old.inbox.list) }
+    requires key { key_taken (piece_taken (take_out place desk.old.inbox.list)) ≡ Some (key_of_parcel key) }
+    requires open { LeavesOpen (state desk.old) (key_of_parcel key) (piece_taken (take_out place desk.old.inbox.list)) }
+    requires parcel { IsReadyToGather (key_of_parcel key) size blank desk.old }
+    ensures state { state desk.new ≡ node_after_handle at place (state desk.old) }
+    ensures node { IsNode desk.new }
+{
+    let before = desk.outbox.len();
+    let node = desk.me;
+    let piece = desk.inbox.take(place);
+    keep_piece(desk, piece, key, size, blank);
+    conclude(desk, at, Event::Handle { node, place }, before);
 }
 
 /// The piece is taken out and heard.

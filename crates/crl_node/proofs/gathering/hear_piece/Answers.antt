@@ -3,7 +3,7 @@ use Rattle.crl_parcels.specs.ParcelKeys.{key_of_parcel}
 use Rattle.crl_parcels.specs.ParcelsState.{parcels_of}
 use Rattle.crl_desk.specs.Desks.{state}
 use Rattle.crl_node.proofs.Frames.{room_frame, safe_frame}
-use Rattle.crl_node.proofs.Gathers.{part_fits, missing_there, part_has_note, whole_is_safe, whole_law, part_law}
+use Rattle.crl_node.proofs.Gathers.{part_fits, missing_there, part_has_note, whole_is_safe, whole_law, kept_law, none_whole}
 use Rattle.crl_node.proofs.gathering.hear_piece.Goals as goal
 
 pub add-requires-clause-missing : goal.add-requires-clause-missing
@@ -34,9 +34,10 @@ returns-in-Some-clause-state c =
 
 pub returns-in-None-clause-state : goal.returns-in-None-clause-state
 returns-in-None-clause-state c =
-    part_law (state c.args.desk.now) c.args.piece (key_of_parcel c.args.key) c.args.size c.bytes_of.result.now c.args.at (parcels_of c.add.new.self) _ c.requires.key
-    (part_fits (state c.args.desk.now) c.args.piece (key_of_parcel c.args.key) c.args.size c.requires.piece c.requires.key c.requires.parcel.known)
-    c.bytes_of.ensures (sym c.add.ensures.whole ∙ c.in-None.is) c.requires.parcel.known c.add.ensures.parcels refl
+    let f = part_fits (state c.args.desk.now) c.args.piece (key_of_parcel c.args.key) c.args.size c.requires.piece c.requires.key c.requires.parcel.known in
+    kept_law (state c.args.desk.now) c.args.piece (key_of_parcel c.args.key) c.args.size c.bytes_of.result.now c.args.at (parcels_of c.add.new.self) _ c.requires.key f c.bytes_of.ensures
+    (none_whole (state c.args.desk.now) c.args.piece (key_of_parcel c.args.key) c.args.size c.bytes_of.result.now f c.bytes_of.ensures (sym c.add.ensures.whole ∙ c.in-None.is))
+    c.requires.parcel.known c.add.ensures.parcels refl
 
 pub returns-in-None-clause-room : goal.returns-in-None-clause-room
 returns-in-None-clause-room c =
