@@ -27,6 +27,7 @@ use Rattle.crl_meeting.specs.Meetings.{IsPartReady, IsResultReady}
 use Rattle.crl_parcels.specs.ParcelKeys.{key_of_parcel}
 use Rattle.crl_node.specs.declared.kits.PartKit.{PartKit}
 use Rattle.crl_node.specs.declared.kits.PieceKit.{PieceKit}
+use Rattle.crl_node.specs.declared.kits.PieceKit.TheVariants.{Whole, Last, More}
 use Rattle.crl_node.specs.declared.kits.HandleKit.{HandleKit}
 use Rattle.crl_node.specs.declared.kits.HandleKit.TheVariants.{Room, Section, Sheets, Papers, Paper}
 
@@ -137,10 +138,12 @@ abbrev pub IsWholeTaken : Node → Option Piece → Type 0
 IsWholeTaken n None = ⊥
 IsWholeTaken n (Some p) = IsWhole n p
 
--- The piece is ready to be handled: as a whole message, or as a part of one that is gathered.
-abbrev pub IsReadyAs : Option Piece → HandleKit → Option PartKit → Desk → Type 0
-IsReadyAs o kit None d = IsWholeTaken (state d) o × IsReadyToTake o kit d
-IsReadyAs o kit (Some part) d = (key_taken o ≡ Some (key_of_parcel part.key)) × IsReadyToTake o kit d × IsReadyToGather (key_of_parcel part.key) part.size part.blank d
+-- The piece is one of a message that is gathered, and may come with this kit.
+abbrev pub JoinsWith : Option Piece → PartKit → Desk → Type 0
+JoinsWith o part d = (key_taken o ≡ Some (key_of_parcel part.key)) × IsReadyToGather (key_of_parcel part.key) part.size part.blank d
 
+-- The piece is ready to be handled: as a whole message, as the last missing piece of one, or as one of which others are missing.
 abbrev pub IsPieceReady : Option Piece → PieceKit → Desk → Type 0
-IsPieceReady o kit d = IsReadyAs o kit.message kit.part d
+IsPieceReady o (Whole message) d = IsWholeTaken (state d) o × IsReadyToTake o message d
+IsPieceReady o (Last part message) d = JoinsWith o part d × IsLast (state d) (key_of_parcel part.key) o × IsReadyToTake o message d
+IsPieceReady o (More part) d = JoinsWith o part d × LeavesOpen (state d) (key_of_parcel part.key) o × HasRoom 0 0 1 d

@@ -29,7 +29,7 @@ pub enum TakenKit {
 /// What was readied for a message: nothing but room, what a section takes that may open, sheets for bytes that may go back,
 /// papers for what the nodes of a round are told, or paper for what this one is told.
 #[derive(Drop)]
-pub(crate) enum HandleKit {
+pub enum HandleKit {
     Room,
     Section(SectionKit),
     Sheets(Sheets),
@@ -37,16 +37,21 @@ pub(crate) enum HandleKit {
     Paper(Paper),
 }
 
-/// What was readied for a piece: what its message takes, and, if the message is gathered, what the piece takes itself.
+/// What was readied for a piece: what its message takes, if it is heard with this piece, and what the piece takes itself, if
+/// its message is gathered.
 #[derive(Drop)]
-pub struct PieceKit {
-    pub(crate) message: HandleKit,
-    pub(crate) part: Option<PartKit>,
+pub enum PieceKit {
+    /// The piece is a whole message.
+    Whole(HandleKit),
+    /// It is the last missing one of a message that is gathered.
+    Last { part: PartKit, message: HandleKit },
+    /// Another piece of its message is missing too.
+    More(PartKit),
 }
 
 /// The key of the message, its size, and the blank for its bytes, if this is the first piece.
 #[derive(Drop)]
-pub(crate) struct PartKit {
+pub struct PartKit {
     pub(crate) key: ParcelKey,
     pub(crate) size: u32,
     pub(crate) blank: Option<Gather>,

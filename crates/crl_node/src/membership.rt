@@ -22,6 +22,7 @@ use std::alloc::Global;
 
 impl Member for Node {
     type CallKit = CallKit;
+
     type PieceKit = PieceKit;
 
     ghost state = { λ node. state node };

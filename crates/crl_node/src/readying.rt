@@ -6,11 +6,11 @@ ghost use Rattle.crl_safety.specs.Safety.{IsSafe};
 ghost use Rattle.crl_member.specs.Members.{node_after_handle, TakenIsSafe};
 ghost use Rattle.crl_parcels.specs.ParcelKeys.{key_of_parcel, load_named};
 ghost use Rattle.crl_desk.specs.Desks.{state};
-ghost use Rattle.crl_node.specs.Handling.{piece_taken, key_taken, IsPieceReady, IsWholeTaken};
+ghost use Rattle.crl_node.specs.Handling.{piece_taken, key_taken, IsPieceReady, IsWholeTaken, LeavesOpen};
 ghost use Rattle.crl_node.specs.Nodes.{IsNode};
 
 use crate::gathering::{known_size, ready_parcel};
-use crate::handling::{piece_at, ready_at, take_part, take_whole};
+use crate::handling::{leaves_open, piece_at, ready_at, take_more, take_part, take_whole};
 use crate::kits::{PartKit, PieceKit};
 use crl_desk::Desk;
 use crl_model::OutOfMemory;
@@ -47,10 +47,7 @@ fn ready_whole(desk: &mut Desk, place: usize) -> Result<PieceKit, OutOfMemory>
     ensures node { IsNode desk.new }
 {
     let message = ready_at(desk, place)?;
-    Ok(PieceKit {
-        message,
-        part: None,
-    })
+    Ok(PieceKit::Whole(message))
 }
 
 /// The piece is one of a message with bytes of a region, which has this key. In a run the node knows the size.
@@ -91,7 +88,7 @@ fn ready_sized(
     ready_gathered(desk, place, key, size)
 }
 
-/// The piece is one of a message of so many bytes, which is gathered.
+/// The piece is one of a message of so many bytes, which is gathered. Only the last missing one needs what the message takes.
 fn ready_gathered(
     desk: &mut Desk,
     place: usize,
@@ -107,12 +104,36 @@ fn ready_gathered(
     ensures kit { IfOk result (λ kit. IsPieceReady (piece_taken (take_out place desk.new.inbox.list)) kit desk.new) }
     ensures node { IsNode desk.new }
 {
+    if leaves_open(desk, place, key) {
+        return ready_more(desk, place, key, size);
+    }
     let message = ready_at(desk, place)?;
     let blank = ready_parcel(&mut desk.parcels, desk.alloc, key, size)?;
-    Ok(PieceKit {
+    Ok(PieceKit::Last {
+        part: PartKit { key, size, blank },
         message,
-        part: Some(PartKit { key, size, blank }),
     })
+}
+
+/// The piece is one of a message of so many bytes, of which another one is missing too.
+fn ready_more(
+    desk: &mut Desk,
+    place: usize,
+    key: ParcelKey,
+    size: u32,
+) -> Result<PieceKit, OutOfMemory>
+    requires node { IsNode desk.old }
+    requires there { place < length desk.old.inbox.list }
+    requires key { key_taken (piece_taken (take_out place desk.old.inbox.list)) ≡ Some (key_of_parcel key) }
+    requires known { size_for (load_named key.load) key.name (state desk.old) ≡ Some size }
+    requires open { LeavesOpen (state desk.old) (key_of_parcel key) (piece_taken (take_out place desk.old.inbox.list)) }
+    ensures state { state desk.new ≡ state desk.old }
+    ensures kit { IfOk result (λ kit. IsPieceReady (piece_taken (take_out place desk.new.inbox.list)) kit desk.new) }
+    ensures node { IsNode desk.new }
+{
+    desk.make_room(0, 0, 1)?;
+    let blank = ready_parcel(&mut desk.parcels, desk.alloc, key, size)?;
+    Ok(PieceKit::More(PartKit { key, size, blank }))
 }
 
 /// Handles the piece at this place of the inbox, which was made ready.
@@ -125,9 +146,9 @@ pub(crate) fn make_handle(desk: &mut Desk, at: u64, place: usize, kit: PieceKit)
     ensures state { state desk.new ≡ node_after_handle at place (state desk.old) }
     ensures node { IsNode desk.new }
 {
-    let PieceKit { message, part } = kit;
-    match part {
-        Some(PartKit { key, size, blank }) => take_part(desk, at, place, key, size, blank, message),
-        None => take_whole(desk, at, place, message),
+    match kit {
+        PieceKit::Whole(message) => take_whole(desk, at, place, message),
+        PieceKit::Last { part, message } => take_part(desk, at, place, part, message),
+        PieceKit::More(part) => take_more(desk, at, place, part),
     }
 }

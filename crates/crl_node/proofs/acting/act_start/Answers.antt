@@ -1,4 +1,4 @@
-use Rattle.std.proofs.Common.{◌∙◌}
+use Rattle.std.proofs.Common.{◌∙◌, refl}
 use Rattle.crl_protocol.specs.Sectioning.{starts}
 use Rattle.crl_node.proofs.Acts.{act_done, start_taken, start_noted}
 use Rattle.crl_node.proofs.acting.act_start.Goals as goal

@@ -17,7 +17,7 @@ keep_piece-requires-clause-key c = sym (ap key_taken (ap piece_taken c.take-piec
 
 pub keep_piece-requires-clause-open : goal.keep_piece-requires-clause-open
 keep_piece-requires-clause-open c =
-    taken_open (state c.args.desk.now) (key_of_parcel c.args.key) c.take-piece.result _ (ap piece_taken c.take-piece.ensures.taken) c.requires.open
+    taken_open (state c.args.desk.now) (key_of_parcel c.args.part.key) c.take-piece.result _ (ap piece_taken c.take-piece.ensures.taken) c.requires.open
 
 pub conclude-requires-clause-before : goal.conclude-requires-clause-before
 conclude-requires-clause-before c =
