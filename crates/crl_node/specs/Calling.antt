@@ -16,7 +16,7 @@ use Rattle.crl_meeting.specs.Meetings.{IsComeReady}
 use Rattle.crl_node.specs.declared.kits.CallKit.{CallKit}
 use Rattle.crl_node.specs.declared.kits.CallKit.TheVariants.{Refused, Taken}
 use Rattle.crl_node.specs.declared.kits.TakenKit.{TakenKit}
-use Rattle.crl_node.specs.declared.kits.TakenKit.TheVariants.{Room, Create, Sheets, Section, Come}
+use Rattle.crl_node.specs.declared.kits.TakenKit.TheVariants.{Create, Sheets, Section, Come}
 
 -- a region of this size may be created with this kit
 abbrev pub CreatesWith : ℕ → TakenKit → Desk → Type 0

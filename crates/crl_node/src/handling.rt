@@ -5,7 +5,7 @@ ghost use Rattle.crl_safety.specs.Safety.{IsSafe};
 ghost use Rattle.crl_member.specs.Members.{node_after_handle, TakenIsSafe};
 ghost use Rattle.crl_parcels.specs.ParcelKeys.{key_of_parcel};
 ghost use Rattle.crl_desk.specs.Desks.{state, HasRoom};
-ghost use Rattle.crl_node.specs.Handling.{piece_taken, key_taken, IsReadyToTake, IsReadyToGather, IsWholeTaken, LeavesOpen, IsLast};
+ghost use Rattle.crl_node.specs.Handling.{piece_taken, IsReadyToTake, IsWholeTaken, JoinsWith, LeavesOpen, IsLast};
 ghost use Rattle.crl_node.specs.Nodes.{IsNode, IsFew};
 
 use crate::concluding::conclude;
@@ -78,9 +78,8 @@ pub(crate) fn take_more(desk: &mut Desk, at: u64, place: usize, part: PartKit)
     requires room { HasRoom 0 0 1 desk.old }
     requires there { place < length desk.old.inbox.list }
     requires piece { TakenIsSafe (state desk.old) (take_out place desk.old.inbox.list) }
-    requires key { key_taken (piece_taken (take_out place desk.old.inbox.list)) ≡ Some (key_of_parcel part.key) }
+    requires joins { JoinsWith (piece_taken (take_out place desk.old.inbox.list)) part desk.old }
     requires open { LeavesOpen (state desk.old) (key_of_parcel part.key) (piece_taken (take_out place desk.old.inbox.list)) }
-    requires parcel { IsReadyToGather (key_of_parcel part.key) part.size part.blank desk.old }
     ensures state { state desk.new ≡ node_after_handle at place (state desk.old) }
     ensures node { IsNode desk.new }
 {
@@ -98,9 +97,8 @@ pub(crate) fn take_part(desk: &mut Desk, at: u64, place: usize, part: PartKit, k
     requires safe { IsSafe (state desk.old) }
     requires there { place < length desk.old.inbox.list }
     requires piece { TakenIsSafe (state desk.old) (take_out place desk.old.inbox.list) }
-    requires key { key_taken (piece_taken (take_out place desk.old.inbox.list)) ≡ Some (key_of_parcel part.key) }
+    requires joins { JoinsWith (piece_taken (take_out place desk.old.inbox.list)) part desk.old }
     requires ready { IsReadyToTake (piece_taken (take_out place desk.old.inbox.list)) kit desk.old }
-    requires parcel { IsReadyToGather (key_of_parcel part.key) part.size part.blank desk.old }
     ensures state { state desk.new ≡ node_after_handle at place (state desk.old) }
     ensures node { IsNode desk.new }
 {

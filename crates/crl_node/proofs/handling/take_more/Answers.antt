@@ -13,7 +13,7 @@ keep_piece-requires-clause-piece c =
     piece_frame (state c.args.desk.now) _ c.take-piece.result (taken_safe (state c.args.desk.now) _ c.take-piece.result (sym (ap piece_taken c.take-piece.ensures.taken)) c.requires.piece)
 
 pub keep_piece-requires-clause-key : goal.keep_piece-requires-clause-key
-keep_piece-requires-clause-key c = sym (ap key_taken (ap piece_taken c.take-piece.ensures.taken)) ∙ c.requires.key
+keep_piece-requires-clause-key c = sym (ap key_taken (ap piece_taken c.take-piece.ensures.taken)) ∙ c.requires.joins.0
 
 pub keep_piece-requires-clause-open : goal.keep_piece-requires-clause-open
 keep_piece-requires-clause-open c =

@@ -14,7 +14,7 @@ hear_piece-requires-clause-piece c =
     piece_frame (state c.args.desk.now) _ c.take-piece.result (taken_safe (state c.args.desk.now) _ c.take-piece.result (sym (ap piece_taken c.take-piece.ensures.taken)) c.requires.piece)
 
 pub hear_piece-requires-clause-key : goal.hear_piece-requires-clause-key
-hear_piece-requires-clause-key c = sym (ap key_taken (ap piece_taken c.take-piece.ensures.taken)) ∙ c.requires.key
+hear_piece-requires-clause-key c = sym (ap key_taken (ap piece_taken c.take-piece.ensures.taken)) ∙ c.requires.joins.0
 
 pub hear_piece-requires-clause-ready : goal.hear_piece-requires-clause-ready
 hear_piece-requires-clause-ready c =
