@@ -185,7 +185,3 @@ pub leaves_open_if : (b : Bool) (n : Node) (key : Key) (p : Piece) (o : Option P
 leaves_open_if false n key p o e h = subst (IsLast n key) e h
 leaves_open_if true n key p o e h =
     subst (LeavesOpen n key) e (still_open p.index h.other (load_of p.message.kind) (slots_or p.pieces (n.parcels key)) h.missing h.apart)
-
--- the piece that is taken out
-pub taken_open : (n : Node) (key : Key) (p : Piece) (o : Option Piece) → o ≡ Some p → LeavesOpen n key o → is_complete (slots_with p (n.parcels key)) ≡ false
-taken_open n key p o e h = subst (LeavesOpen n key) e h

@@ -125,10 +125,8 @@ pub(crate) fn act_refused(desk: &mut Desk, at: u64, call: Call, why: Refusal) ->
     ensures { ActIsDone at call (state desk.old) desk.new result }
 {
     let answer = crl_naming::refuse(desk, at, &call, why);
-    Acted {
-        answer,
-        noted: call,
-    }
+    let noted = call;
+    Acted { answer, noted }
 }
 
 /// A create.
@@ -141,10 +139,8 @@ fn act_create(desk: &mut Desk, at: u64, size: u32, kit: TakenKit) -> Acted
     match kit {
         TakenKit::Create(home) => {
             let answer = crl_naming::create(desk, at, size, home);
-            Acted {
-                answer,
-                noted: Call::Create { size },
-            }
+            let noted = Call::Create { size };
+            Acted { answer, noted }
         }
         _ => unreachable!(),
     }
@@ -158,10 +154,8 @@ fn act_delete(desk: &mut Desk, at: u64, name: Name) -> Acted
     ensures { ActIsDone at (call.Delete name) (state desk.old) desk.new result }
 {
     let answer = crl_naming::delete(desk, at, name);
-    Acted {
-        answer,
-        noted: Call::Delete { name },
-    }
+    let noted = Call::Delete { name };
+    Acted { answer, noted }
 }
 
 /// A map.
@@ -172,10 +166,8 @@ fn act_map(desk: &mut Desk, at: u64, name: Name) -> Acted
     ensures { ActIsDone at (call.Map name) (state desk.old) desk.new result }
 {
     let answer = crl_naming::map(desk, at, name);
-    Acted {
-        answer,
-        noted: Call::Map { name },
-    }
+    let noted = Call::Map { name };
+    Acted { answer, noted }
 }
 
 /// An unmap.
@@ -188,10 +180,8 @@ fn act_unmap(desk: &mut Desk, at: u64, name: Name, kit: TakenKit) -> Acted
     match kit {
         TakenKit::Sheets(sheets) => {
             let answer = crl_naming::unmap(desk, at, name, sheets);
-            Acted {
-                answer,
-                noted: Call::Unmap { name },
-            }
+            let noted = Call::Unmap { name };
+            Acted { answer, noted }
         }
         _ => unreachable!(),
     }
@@ -207,10 +197,8 @@ fn act_flush(desk: &mut Desk, at: u64, name: Name, kit: TakenKit) -> Acted
     match kit {
         TakenKit::Sheets(sheets) => {
             let answer = crl_sectioning::flush(desk, at, name, sheets);
-            Acted {
-                answer,
-                noted: Call::Flush { name },
-            }
+            let noted = Call::Flush { name };
+            Acted { answer, noted }
         }
         _ => unreachable!(),
     }
@@ -238,10 +226,8 @@ fn act_start(desk: &mut Desk, at: u64, name: Name, write: bool, kit: TakenKit) -
     match kit {
         TakenKit::Section(kit) => {
             let answer = crl_sectioning::start(desk, at, name, write, kit);
-            Acted {
-                answer,
-                noted: call_to_start(write, name),
-            }
+            let noted = call_to_start(write, name);
+            Acted { answer, noted }
         }
         _ => unreachable!(),
     }
@@ -257,10 +243,8 @@ fn act_come(desk: &mut Desk, at: u64, part: Part, kit: TakenKit) -> Acted
     match kit {
         TakenKit::Come { noted, kit } => {
             let answer = crl_meeting::come(desk, at, part, kit);
-            Acted {
-                answer,
-                noted: Call::Come { part: noted },
-            }
+            let noted = Call::Come { part: noted };
+            Acted { answer, noted }
         }
         _ => unreachable!(),
     }

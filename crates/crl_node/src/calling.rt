@@ -106,15 +106,8 @@ pub(crate) fn make_end_read(desk: &mut Desk, at: u64, guard: Reading)
     let node = desk.me;
     let name = guard.name();
     spend(crl_sectioning::end_read(desk, at, name, guard.into_bytes()));
-    conclude(
-        desk,
-        at,
-        Event::Call {
-            node,
-            call: Call::EndRead { name },
-        },
-        before,
-    );
+    let call = Call::EndRead { name };
+    conclude(desk, at, Event::Call { node, call }, before);
 }
 
 /// Ends the write section of the guard.
@@ -131,13 +124,6 @@ pub(crate) fn make_end_write(desk: &mut Desk, at: u64, guard: Writing)
     let name = guard.name();
     let none = Bytes::from_vec(Vec::new(desk.alloc));
     spend(crl_sectioning::end_write(desk, at, name, guard.into_bytes()));
-    conclude(
-        desk,
-        at,
-        Event::Call {
-            node,
-            call: Call::EndWrite { name, after: none },
-        },
-        before,
-    );
+    let call = Call::EndWrite { name, after: none };
+    conclude(desk, at, Event::Call { node, call }, before);
 }

@@ -44,24 +44,6 @@ pub(crate) fn ready_at(desk: &mut Desk, place: usize) -> Result<HandleKit, OutOf
     kit
 }
 
-/// The message is taken out and heard.
-pub(crate) fn take_whole(desk: &mut Desk, at: u64, place: usize, kit: HandleKit)
-    requires node { IsNode desk.old }
-    requires safe { IsSafe (state desk.old) }
-    requires there { place < length desk.old.inbox.list }
-    requires piece { TakenIsSafe (state desk.old) (take_out place desk.old.inbox.list) }
-    requires whole { IsWholeTaken (state desk.old) (piece_taken (take_out place desk.old.inbox.list)) }
-    requires ready { IsReadyToTake (piece_taken (take_out place desk.old.inbox.list)) kit desk.old }
-    ensures state { state desk.new ≡ node_after_handle at place (state desk.old) }
-    ensures node { IsNode desk.new }
-{
-    let before = desk.outbox.len();
-    let node = desk.me;
-    let piece = desk.inbox.take(place);
-    hear_whole(desk, at, piece, kit);
-    conclude(desk, at, Event::Handle { node, place }, before);
-}
-
 /// Whether a piece of the message is still missing once the one at this place has come.
 pub(crate) fn leaves_open(desk: &Desk, place: usize, key: ParcelKey) -> bool
     requires there { place < length desk.now.inbox.list }
@@ -70,42 +52,4 @@ pub(crate) fn leaves_open(desk: &Desk, place: usize, key: ParcelKey) -> bool
 {
     let piece = piece_at(&desk.inbox, place);
     misses_another(&desk.parcels, key, piece.index, piece.pieces)
-}
-
-/// The piece is taken out and kept.
-pub(crate) fn take_more(desk: &mut Desk, at: u64, place: usize, part: PartKit)
-    requires few { IsFew (state desk.old) }
-    requires room { HasRoom 0 0 1 desk.old }
-    requires there { place < length desk.old.inbox.list }
-    requires piece { TakenIsSafe (state desk.old) (take_out place desk.old.inbox.list) }
-    requires joins { JoinsWith (piece_taken (take_out place desk.old.inbox.list)) part desk.old }
-    requires open { LeavesOpen (state desk.old) (key_of_parcel part.key) (piece_taken (take_out place desk.old.inbox.list)) }
-    ensures state { state desk.new ≡ node_after_handle at place (state desk.old) }
-    ensures node { IsNode desk.new }
-{
-    let before = desk.outbox.len();
-    let node = desk.me;
-    let piece = desk.inbox.take(place);
-    let PartKit { key, size, blank } = part;
-    keep_piece(desk, piece, key, size, blank);
-    conclude(desk, at, Event::Handle { node, place }, before);
-}
-
-/// The piece is taken out and heard.
-pub(crate) fn take_part(desk: &mut Desk, at: u64, place: usize, part: PartKit, kit: HandleKit)
-    requires node { IsNode desk.old }
-    requires safe { IsSafe (state desk.old) }
-    requires there { place < length desk.old.inbox.list }
-    requires piece { TakenIsSafe (state desk.old) (take_out place desk.old.inbox.list) }
-    requires joins { JoinsWith (piece_taken (take_out place desk.old.inbox.list)) part desk.old }
-    requires ready { IsReadyToTake (piece_taken (take_out place desk.old.inbox.list)) kit desk.old }
-    ensures state { state desk.new ≡ node_after_handle at place (state desk.old) }
-    ensures node { IsNode desk.new }
-{
-    let before = desk.outbox.len();
-    let node = desk.me;
-    let piece = desk.inbox.take(place);
-    let PartKit { key, size, blank } = part;
-    hear_piece(desk, at, piece, key, size, blank, kit);
-    conclude(desk, at, Event::Handle { node, place }, before);
 }

@@ -3,7 +3,6 @@
 
 mod acting;
 mod calling;
-mod carriage;
 mod concluding;
 mod copies;
 mod gathering;

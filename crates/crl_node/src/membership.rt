@@ -6,16 +6,20 @@ ghost use Rattle.crl_node.specs.Handling.{piece_taken, IsPieceReady};
 ghost use Rattle.crl_node.specs.Nodes.{CanCarry};
 
 use crate::calling::{make_call, make_end_read, make_end_write, ready_call};
+use crate::concluding::conclude;
 use crate::kits::{CallKit, PieceKit};
 use crate::node::Node;
 use crate::readying::{make_handle, ready_piece};
+use crate::showing::{addressee_in, table_bytes};
 use crl_guard::{Reading, Writing};
 use crl_member::Member;
 use crl_model::activity::{Answer, Awaited};
 use crl_model::call::{Call, Refusal};
 use crl_model::directory::Section;
+use crl_model::event::Event;
 use crl_model::journal::Recorded;
 use crl_model::name::Name;
+use crl_model::stage::Stage;
 use crl_model::{NodeNo, OutOfMemory};
 use crl_verdict::verdict;
 use std::alloc::Global;
@@ -68,7 +72,7 @@ impl Member for Node {
     }
 
     fn addressee(&self, place: usize) -> NodeNo {
-        self.addressee_at(place)
+        addressee_in(&self.desk.outbox, place)
     }
 
     fn verdict(&self, call: &Call) -> Option<Refusal> {
@@ -76,11 +80,11 @@ impl Member for Node {
     }
 
     fn fits_reading(&self, guard: &Reading) -> bool {
-        self.has_reading(guard)
+        guard.node() == self.desk.me && self.desk.sections.fits_reading(guard)
     }
 
     fn fits_writing(&self, guard: &Writing) -> bool {
-        self.has_writing(guard)
+        guard.node() == self.desk.me && self.desk.sections.fits_writing(guard)
     }
 
     fn ready_call(&mut self, call: &Call) -> Result<CallKit, OutOfMemory> {
@@ -100,11 +104,15 @@ impl Member for Node {
     }
 
     fn ready_collect(&mut self) -> Result<(), OutOfMemory> {
-        self.ready_to_take()
+        self.desk.make_room(0, 0, 1)
     }
 
     fn make_collect(&mut self, at: u64) -> Answer<Reading, Writing> {
-        self.take_answer(at)
+        let before = self.desk.outbox.len();
+        let answer = self.desk.standing.take();
+        let node = self.desk.me;
+        conclude(&mut self.desk, at, Event::Collect { node }, before);
+        answer.unwrap()
     }
 
     fn ready_handle(&mut self, place: usize) -> Result<PieceKit, OutOfMemory> {
@@ -116,11 +124,16 @@ impl Member for Node {
     }
 
     fn ready_carry(&mut self, to: &mut Node) -> Result<(), OutOfMemory> {
-        self.ready_to_send(to)
+        to.desk.inbox.reserve(1)?;
+        self.desk.make_room(0, 0, 1)
     }
 
     fn make_carry(&mut self, to: &mut Node, at: u64, place: usize) {
-        self.carry_to(to, at, place);
+        let piece = self.desk.outbox.take(place);
+        let before = self.desk.outbox.len();
+        let node = self.desk.me;
+        conclude(&mut self.desk, at, Event::Carry { node, place }, before);
+        to.desk.inbox.put(piece);
     }
 
     fn records(&self) -> &[Recorded] {
@@ -136,10 +149,19 @@ impl Member for Node {
     }
 
     fn home_bytes(&self, name: Name) -> Option<&[u8]> {
-        self.bytes_as_home(name)
+        if name.home != self.desk.me {
+            return None;
+        }
+        match self.desk.stages.stage(name.serial) {
+            Stage::Live | Stage::Going(_) => table_bytes(&self.desk, name),
+            Stage::Unknown | Stage::Gone => None,
+        }
     }
 
     fn exclusive_bytes(&self, name: Name) -> Option<&[u8]> {
-        self.bytes_if_exclusive(name)
+        if self.desk.remotes.is_exclusive(name) {
+            return self.desk.remotes.bytes(name);
+        }
+        None
     }
 }
