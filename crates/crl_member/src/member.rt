@@ -28,11 +28,33 @@ use std::alloc::Global;
 ///
 /// An event of the node has a position, the number of the events before it. Where memory is wanting for an event, the
 /// node stays as it was.
+///
+/// An event comes in two halves. The first makes ready what the event takes, and leaves the state. The second is the
+/// event: it takes no memory and can't fail. Between the two the node is left alone.
 pub trait Member: Sized + Drop {
+    ghost use Rattle.crl_model.specs.declared.call.Call.{Call};
     ghost use Rattle.crl_protocol.specs.Node.{Node};
+
+    /// What was made ready for a call.
+    type CallKit: Drop;
+
+    /// What was made ready for a piece of the inbox.
+    type PieceKit: Drop;
 
     // The protocol's node for which a value stands.
     ghost state: { Self → Node };
+
+    // The call can be made with this kit.
+    ghost can_call: { Call → Self.CallKit → Self → Type 0 };
+
+    // The answer can be taken.
+    ghost can_collect: { Self → Type 0 };
+
+    // The piece at this place of the inbox can be handled with this kit.
+    ghost can_handle: { ℕ → Self.PieceKit → Self → Type 0 };
+
+    // A piece can be carried from the first node to the second.
+    ghost can_carry: { Self → Self → Type 0 };
 
     /// The node of this number, of so many nodes, with room for so many names in its cache. Nothing was done yet.
     ///
@@ -88,6 +110,27 @@ pub trait Member: Sized + Drop {
     fn fits_writing(&self, guard: &Writing) -> bool
         ensures { result ≡ fitting.fits_writing (state self.now) guard.now };
 
+    /// Makes ready what the call takes.
+    ///
+    /// # Errors
+    ///
+    /// `OutOfMemory`.
+    fn ready_call(&mut self, call: &Call) -> Result<Self::CallKit, OutOfMemory>
+        requires safe { IsSafe (state self.old) }
+        requires free { world.is_free (state self.old).activity ≡ true }
+        requires may { MayCall (state self.old) call.now }
+        ensures state { state self.new ≡ state self.old }
+        ensures ready { IfOk result (λ kit. can_call call.now kit self.new) };
+
+    /// Makes the call for which this was made ready.
+    fn make_call(&mut self, at: u64, call: Call, kit: Self::CallKit) -> Answer<Reading, Writing>
+        requires safe { IsSafe (state self.old) }
+        requires position { at < 2 ^ 62 }
+        requires free { world.is_free (state self.old).activity ≡ true }
+        requires may { MayCall (state self.old) call }
+        requires ready { can_call call kit self.old }
+        ensures { CallIsDone at call (state self.old) (state self.new) result };
+
     /// Makes the call. The end of a section that is allowed goes by its guard.
     ///
     /// # Errors
@@ -98,7 +141,13 @@ pub trait Member: Sized + Drop {
         requires position { at < 2 ^ 62 }
         requires free { world.is_free (state self.old).activity ≡ true }
         requires may { MayCall (state self.old) call }
-        ensures { MatchResult result (CallIsDone at call (state self.old) (state self.new)) (λ back. CallIsBack call back (state self.old) (state self.new)) };
+        ensures { MatchResult result (CallIsDone at call (state self.old) (state self.new)) (λ back. CallIsBack call back (state self.old) (state self.new)) }
+    {
+        match self.ready_call(&call) {
+            Ok(kit) => Ok(self.make_call(at, call, kit)),
+            Err(_) => Err(call),
+        }
+    }
 
     /// Ends the newest read section of the guard's region. It takes no memory.
     fn end_read(&mut self, at: u64, guard: Reading)
@@ -118,6 +167,23 @@ pub trait Member: Sized + Drop {
         requires allowed { verdict.verdict (state self.old) (call.EndWrite guard.name guard.bytes) ≡ None }
         ensures { state self.new ≡ node_after_write at guard (state self.old) };
 
+    /// Makes ready what it takes to take an answer.
+    ///
+    /// # Errors
+    ///
+    /// `OutOfMemory`.
+    fn ready_collect(&mut self) -> Result<(), OutOfMemory>
+        ensures state { state self.new ≡ state self.old }
+        ensures ready { OnOk result (can_collect self.new) };
+
+    /// Takes the answer for which the node waited, where that was made ready.
+    fn make_collect(&mut self, at: u64) -> Answer<Reading, Writing>
+        requires safe { IsSafe (state self.old) }
+        requires position { at < 2 ^ 62 }
+        requires ready { world.is_ready (state self.old).activity ≡ true }
+        requires can { can_collect self.old }
+        ensures { CollectIsDone at (state self.old) (state self.new) result };
+
     /// Takes the answer for which the node waited.
     ///
     /// # Errors
@@ -127,7 +193,32 @@ pub trait Member: Sized + Drop {
         requires safe { IsSafe (state self.old) }
         requires position { at < 2 ^ 62 }
         requires ready { world.is_ready (state self.old).activity ≡ true }
-        ensures { MatchResult result (CollectIsDone at (state self.old) (state self.new)) (λ _. state self.new ≡ state self.old) };
+        ensures { MatchResult result (CollectIsDone at (state self.old) (state self.new)) (λ _. state self.new ≡ state self.old) }
+    {
+        self.ready_collect()?;
+        Ok(self.make_collect(at))
+    }
+
+    /// Makes ready what the piece at this place of the inbox takes.
+    ///
+    /// # Errors
+    ///
+    /// `OutOfMemory`.
+    fn ready_handle(&mut self, place: usize) -> Result<Self::PieceKit, OutOfMemory>
+        requires safe { IsSafe (state self.old) }
+        requires there { place < length (state self.old).inbox }
+        requires piece { TakenIsSafe (state self.old) (take_out place (state self.old).inbox) }
+        ensures state { state self.new ≡ state self.old }
+        ensures ready { IfOk result (λ kit. can_handle place kit self.new) };
+
+    /// Handles the piece at this place of the inbox, for which this was made ready.
+    fn make_handle(&mut self, at: u64, place: usize, kit: Self::PieceKit)
+        requires safe { IsSafe (state self.old) }
+        requires position { at < 2 ^ 62 }
+        requires there { place < length (state self.old).inbox }
+        requires piece { TakenIsSafe (state self.old) (take_out place (state self.old).inbox) }
+        requires ready { can_handle place kit self.old }
+        ensures { state self.new ≡ node_after_handle at place (state self.old) };
 
     /// Handles the piece at this place of the inbox.
     ///
@@ -140,7 +231,29 @@ pub trait Member: Sized + Drop {
         requires there { place < length (state self.old).inbox }
         requires piece { TakenIsSafe (state self.old) (take_out place (state self.old).inbox) }
         ensures ok { OnOk result (state self.new ≡ node_after_handle at place (state self.old)) }
-        ensures err { OnErr result (state self.new ≡ state self.old) };
+        ensures err { OnErr result (state self.new ≡ state self.old) }
+    {
+        let kit = self.ready_handle(place)?;
+        self.make_handle(at, place, kit);
+        Ok(())
+    }
+
+    /// Makes ready what it takes to carry a piece from this node to another.
+    ///
+    /// # Errors
+    ///
+    /// `OutOfMemory`.
+    fn ready_carry(&mut self, to: &mut Self) -> Result<(), OutOfMemory>
+        ensures state { (state self.new ≡ state self.old) × (state to.new ≡ state to.old) }
+        ensures ready { OnOk result (can_carry self.new to.new) };
+
+    /// Carries the piece at this place of the outbox into the inbox of `to`, where that was made ready.
+    fn make_carry(&mut self, to: &mut Self, at: u64, place: usize)
+        requires safe { IsSafe (state self.old) }
+        requires position { at < 2 ^ 62 }
+        requires there { place < length (state self.old).outbox }
+        requires ready { can_carry self.old to.old }
+        ensures { CarryIsDone at place (state self.old) (state to.old) (state self.new) (state to.new) };
 
     /// Carries the piece at this place of the outbox into the inbox of `to`.
     ///
@@ -152,7 +265,12 @@ pub trait Member: Sized + Drop {
         requires position { at < 2 ^ 62 }
         requires there { place < length (state self.old).outbox }
         ensures ok { OnOk result (CarryIsDone at place (state self.old) (state to.old) (state self.new) (state to.new)) }
-        ensures err { OnErr result ((state self.new ≡ state self.old) × (state to.new ≡ state to.old)) };
+        ensures err { OnErr result ((state self.new ≡ state self.old) × (state to.new ≡ state to.old)) }
+    {
+        self.ready_carry(to)?;
+        self.make_carry(to, at, place);
+        Ok(())
+    }
 
     /// What it recorded, the oldest first.
     fn records(&self) -> &[Recorded]

@@ -1,5 +1,5 @@
 -- A call that is taken, from its word in the protocol.
-use Rattle.std.proofs.Common.{◌≡◌, ◌∙◌, refl, sym, ap, subst, ℕ, Bool, true, false, if◌then◌else◌}
+use Rattle.std.proofs.Common.{◌≡◌, ◌∙◌, refl, sym, ap, ℕ, Bool, true, false}
 use Rattle.std.specs.declared.option.Option.TheVariants.{None}
 use Rattle.crl_model.specs.declared.name.Name.{Name}
 use Rattle.crl_model.specs.declared.call.Call.{Call}
@@ -12,7 +12,6 @@ use Rattle.crl_protocol.specs.World.{noted_call, without_bytes}
 use Rattle.crl_sectioning.specs.Starts.{start_call}
 use Rattle.crl_desk.specs.declared.desk.Desk.{Desk}
 use Rattle.crl_desk.specs.Desks.{state, acted, HasRoom}
-use Rattle.crl_node.specs.declared.acting.Acted.{Acted}
 use Rattle.crl_node.specs.Nodes.{ActIsDone}
 
 -- what a call does that isn't refused

@@ -1,8 +1,8 @@
 -- A node after a call: its counts, its outbox, and the event.
-use Rattle.std.proofs.Common.{◌≡◌, ◌∙◌, refl, sym, ap, subst, ℕ, ◌≤◌, ◌+◌, ◌*◌, ◌^◌, length, arith, ◌++◌}
+use Rattle.std.proofs.Common.{◌≡◌, ◌∙◌, refl, sym, ap, subst, ℕ, ◌≤◌, length, arith}
 use Rattle.std.proofs.lemmas.List.{length-append}
 use Rattle.std.specs.declared.option.Option.TheVariants.{None}
-use Rattle.std.proofs.Common.{List, []}
+use Rattle.std.proofs.Common.{List}
 use Rattle.crl_model.specs.declared.name.Name.{Name}
 use Rattle.crl_model.specs.declared.call.Call.{Call}
 use Rattle.crl_model.specs.declared.call.Call.TheVariants.{EndRead, EndWrite}
@@ -15,8 +15,7 @@ use Rattle.crl_member.specs.Members.{CallIsDone}
 use Rattle.crl_protocol.specs.Parcels.{pieces_in}
 use Rattle.crl_protocol.specs.Calls.{node_calls}
 use Rattle.crl_protocol.specs.Calls as calls
-use Rattle.crl_desk.specs.declared.desk.Desk.{Desk}
-use Rattle.crl_desk.specs.Desks.{state, acted}
+use Rattle.crl_desk.specs.Desks.{acted}
 use Rattle.crl_node.specs.Nodes.{IsFew, concluded, KeepsCounts}
 use Rattle.crl_node.proofs.Acts.{taken_is}
 use Rattle.crl_node.proofs.Concludes.{concluded_is}

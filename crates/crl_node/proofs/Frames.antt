@@ -24,7 +24,10 @@ use Rattle.crl_naming.specs.Forgetting.{purged_name, forgotten_size}
 use Rattle.crl_naming.specs.Readied.{InfoIsReady}
 use Rattle.crl_node.specs.declared.kits.HandleKit.{HandleKit}
 use Rattle.crl_node.specs.declared.kits.HandleKit.TheVariants.{Room, Section, Sheets, Papers, Paper}
-use Rattle.crl_node.specs.Handling.{OpensWith, GoesBackWith, PurgesWith, GathersWith, EndsRoundWith, IsReadyToHear}
+use Rattle.crl_node.specs.declared.kits.PartKit.{PartKit}
+use Rattle.crl_node.specs.declared.kits.PieceKit.{PieceKit}
+use Rattle.crl_node.specs.declared.kits.PieceKit.TheVariants.{Whole, Last, More}
+use Rattle.crl_node.specs.Handling.{OpensWith, GoesBackWith, PurgesWith, GathersWith, EndsRoundWith, IsReadyToHear, JoinsWith, IsPieceReady}
 
 -- ---- what is read of a node
 
@@ -169,3 +172,16 @@ piece_frame n inbox p s = record {
   part = λ key e. let f = s.part key e in record { size = f.size; known = size_frame n inbox n.parcels key.load key.name ∙ f.known; fits = f.fits; missing = f.missing };
   last = λ key e full. message_frame n inbox n.parcels _ _ (s.last key e full);
 }
+
+-- ---- a piece that is ready, when it is out of the inbox
+
+joins_frame : (p : Piece) (part : PartKit) (d : Desk) (inbox : MailboxState) → JoinsWith (Some p) part d → JoinsWith (Some p) part (record d { inbox = inbox })
+joins_frame p part d inbox h =
+    (h.0, record { known = size_frame (state d) inbox.list (state d).parcels _ _ ∙ h.1.known; agrees = h.1.agrees; ready = h.1.ready })
+
+pub ready_frame : (p : Piece) (kit : PieceKit) (d : Desk) (inbox : MailboxState) → IsPieceReady (Some p) kit d → IsPieceReady (Some p) kit (record d { inbox = inbox })
+ready_frame p (Whole message) d inbox h =
+    (record { heard = h.0.heard; safe = message_frame (state d) inbox.list (state d).parcels _ _ h.0.safe }, hear_frame d inbox d.parcels p.message.sender p.message.kind message h.1)
+ready_frame p (Last part message) d inbox h =
+    (joins_frame p part d inbox h.0, h.1, hear_frame d inbox d.parcels p.message.sender p.message.kind message h.2)
+ready_frame p (More part) d inbox h = (joins_frame p part d inbox h.0, h.1, room_frame d inbox d.parcels 0 0 1 h.2)

@@ -1,5 +1,6 @@
 -- A piece comes of a message with bytes of a region: what is gathered, and what the node does with the whole.
-use Rattle.std.proofs.Common.{◌≡◌, ◌∙◌, ℕ, Bool, true, false, if◌then◌else◌, List, append-nil, refl, sym, ap, subst, arith, length}
+use Rattle.std.proofs.Common.{◌≡◌, ◌∙◌, ℕ, zero, suc, Bool, true, false, if◌then◌else◌, List, [], ◌∷◌, append-nil, refl, sym, ap, subst, arith, length}
+use Rattle.std.specs.Prelude.{◌≢◌, MatchBool}
 use Rattle.std.specs.declared.option.Option.{Option}
 use Rattle.std.specs.declared.option.Option.TheVariants.{None, Some}
 use Rattle.crl_model.specs.declared.name.Name.{Name}
@@ -18,7 +19,7 @@ use Rattle.crl_desk.specs.declared.desk.Desk.{Desk}
 use Rattle.crl_desk.specs.Desks.{acted, HasRoom}
 use Rattle.crl_node.specs.declared.kits.HandleKit.{HandleKit}
 use Rattle.crl_node.specs.declared.kits.HandleKit.TheVariants.{Room, Section, Sheets, Papers, Paper}
-use Rattle.crl_node.specs.Handling.{OpensWith, IsReadyToHear}
+use Rattle.crl_node.specs.Handling.{OpensWith, IsReadyToHear, MissesAnother, MissesNoOther, LeavesOpen, IsLast}
 use Rattle.crl_node.proofs.Frames.{message_frame}
 
 -- ---- what is readied
@@ -145,14 +146,42 @@ module _ (n : Node) (p : Piece) (key : Key) (size : ℕ) (part bytes : List ℕ)
       last_is ∙ rw parcels_are (rw (slots_same n p key size part f part_is) (rw (gathers_if n p key size e known f) (rw last_came.0 (rw last_came.1 refl))))
 
 -- another one is missing
-pub part_law : (n : Node) (p : Piece) (key : Key) (size : ℕ) (part : List ℕ) (at : ℕ) (parcels : PartsGathered) (last : Node)
+pub kept_law : (n : Node) (p : Piece) (key : Key) (size : ℕ) (part : List ℕ) (at : ℕ) (parcels : PartsGathered) (last : Node)
     → key_of p.message ≡ Some key → Fits n p key size → part ≡ load_of p.message.kind
-    → whole_of (with_piece p.index part (slots_or (count size) (n.parcels key))) ≡ None
+    → is_complete (slots_with p (n.parcels key)) ≡ false
     → size_for key.load key.name n ≡ Some size
     → parcels ≡ at_key n.parcels key (kept_of (with_piece p.index part (slots_or (count size) (n.parcels key))))
     → last ≡ record n { parcels = parcels }
     → last ≡ acted at (receives p n)
-part_law n p key size part at parcels last e f part_is whole known parcels_are last_is =
-    let open_yet : is_complete (slots_with p (n.parcels key)) ≡ false =
-    whole_none (is_complete (slots_with p (n.parcels key))) (joined (slots_with p (n.parcels key))) (ap whole_of (sym (slots_same n p key size part f part_is)) ∙ whole) in
+kept_law n p key size part at parcels last e f part_is open_yet known parcels_are last_is =
     last_is ∙ rw parcels_are (rw (slots_same n p key size part f part_is) (rw (gathers_if n p key size e known f) (rw open_yet (rw (append-nil n.outbox) (rw (append-nil n.records) refl)))))
+
+pub none_whole : (n : Node) (p : Piece) (key : Key) (size : ℕ) (part : List ℕ) → Fits n p key size → part ≡ load_of p.message.kind
+    → whole_of (with_piece p.index part (slots_or (count size) (n.parcels key))) ≡ None → is_complete (slots_with p (n.parcels key)) ≡ false
+none_whole n p key size part f part_is whole =
+    whole_none (is_complete (slots_with p (n.parcels key))) (joined (slots_with p (n.parcels key))) (ap whole_of (sym (slots_same n p key size part f part_is)) ∙ whole)
+
+-- ---- another piece is missing
+
+open_at : (j : ℕ) (slots : List (Option (List ℕ))) → is_missing j slots ≡ true → is_complete slots ≡ false
+open_at j [] e = absurd (cc)
+open_at zero (None ∷ slots) e = refl
+open_at zero (Some part ∷ slots) e = absurd (cc)
+open_at (suc j) (None ∷ slots) e = refl
+open_at (suc j) (Some part ∷ slots) e = open_at j slots e
+
+still_open : (i j : ℕ) (part : List ℕ) (slots : List (Option (List ℕ))) → is_missing j slots ≡ true → j ≢ i → is_complete (with_piece i part slots) ≡ false
+still_open i j part [] e apart = absurd (cc)
+still_open zero zero part (s ∷ slots) e apart = absurd (apart refl)
+still_open (suc i) zero part (None ∷ slots) e apart = refl
+still_open (suc i) zero part (Some p ∷ slots) e apart = absurd (cc)
+still_open zero (suc j) part (s ∷ slots) e apart = open_at j slots e
+still_open (suc i) (suc j) part (None ∷ slots) e apart = refl
+still_open (suc i) (suc j) part (Some p ∷ slots) e apart = still_open i j part slots e (λ same. apart (ap suc same))
+
+pub leaves_open_if : (b : Bool) (n : Node) (key : Key) (p : Piece) (o : Option Piece) → Some p ≡ o
+    → MatchBool b (MissesAnother p.index p.pieces (slots_or p.pieces (n.parcels key))) (MissesNoOther p.index p.pieces (slots_or p.pieces (n.parcels key)))
+    → MatchBool b (LeavesOpen n key o) (IsLast n key o)
+leaves_open_if false n key p o e h = subst (IsLast n key) e h
+leaves_open_if true n key p o e h =
+    subst (LeavesOpen n key) e (still_open p.index h.other (load_of p.message.kind) (slots_or p.pieces (n.parcels key)) h.missing h.apart)

@@ -17,7 +17,7 @@ use Rattle.crl_parcels.proofs.Laws.{none_at_key}
 use Rattle.crl_safety.specs.Safety.{MessageIsSafe, PieceIsSafe}
 use Rattle.crl_member.specs.Members.{TakenIsSafe}
 use Rattle.crl_node.specs.Handling.{IsWhole, IsWholeTaken, piece_taken, key_taken}
-use Rattle.crl_node.proofs.Frames.{message_frame, piece_frame, size_frame}
+use Rattle.crl_node.proofs.Frames.{piece_frame, size_frame}
 use Rattle.crl_node.proofs.Gathers.{part_fits, gathers_if}
 
 -- ---- without bytes
@@ -96,12 +96,6 @@ pub whole_of_one : (n : Node) (o : Option (Taken Piece)) (key : Key) (size : ℕ
     → size_for key.load key.name n ≡ Some size → count size ≡ 1 → n.parcels key ≡ None → IsWholeTaken n (piece_taken o)
 whole_of_one n None key size s e known one none = absurd (cc)
 whole_of_one n (Some t) key size s e known one none = single_whole n t.taken key size s e known one none
-
--- the piece was taken out
-pub taken_whole : (n : Node) (o : Option Piece) (p : Piece) (inbox : List Piece) → o ≡ Some p → IsWholeTaken n o → IsWhole (record n { inbox = inbox }) p
-taken_whole n o p inbox e w =
-    let whole : IsWhole n p = subst (IsWholeTaken n) e w in
-    record { heard = whole.heard; safe = message_frame n inbox n.parcels _ _ whole.safe }
 
 pub none_came : {A : Type 0} (o : Option A) → is_some o ≡ false → o ≡ None
 none_came None e = refl

@@ -43,9 +43,6 @@ pub taken_safe : (n : Node) (o : Option (Taken Piece)) (p : Piece) → Some p �
 taken_safe n None p e h = absurd (cc)
 taken_safe n (Some t) p e h = let same : t.taken ≡ p = cc in subst (PieceIsSafe n) same h
 
-pub taken_ready : (p : Piece) (o : Option Piece) (kit : HandleKit) (d : Desk) → o ≡ Some p → IsReadyToTake o kit d → IsReadyToHear p.message.sender p.message.kind kit d
-taken_ready p o kit d e h = subst (λ (o : Option Piece). IsReadyToTake o kit d) e h
-
 -- the inbox was off the desk while the message was readied
 pub ready_law : {E : Type 0} (o : Option Piece) (p : Piece) (d : Desk) (inbox : MailboxState) (result : Result HandleKit E) → Some p ≡ o
     → IfOk result (λ kit. IsReadyToHear p.message.sender p.message.kind kit d) → IfOk result (λ kit. IsReadyToTake o kit (record d { inbox = inbox }))

@@ -1,5 +1,5 @@
 -- What is ready for a message that comes, and what is seen of a piece that is taken out of the inbox.
-use Rattle.std.specs.Prelude.{◌≡◌, ℕ, List}
+use Rattle.std.specs.Prelude.{◌≡◌, ◌≢◌, ◌<◌, ℕ, true, false, List}
 use Rattle.std.specs.declared.option.Option.{Option}
 use Rattle.std.specs.declared.option.Option.TheVariants.{None, Some}
 use Rattle.crl_model.specs.declared.name.Name.{Name}
@@ -7,11 +7,11 @@ use Rattle.crl_model.specs.declared.message.Kind.{Kind}
 use Rattle.crl_model.specs.declared.message.Kind.TheVariants as kind
 use Rattle.crl_model.specs.declared.collective.Part.{Part}
 use Rattle.crl_model.specs.declared.collective.Fold.{Fold}
-use Rattle.crl_pieces.specs.Pieces.{count}
+use Rattle.crl_pieces.specs.Pieces.{count, is_missing, is_complete}
 use Rattle.crl_pieces.specs.Gathering.{Gathering}
-use Rattle.crl_protocol.specs.Parcels.{Piece, Key, key_of}
+use Rattle.crl_protocol.specs.Parcels.{Piece, Key, key_of, slots_or}
 use Rattle.crl_protocol.specs.Places.{Taken}
-use Rattle.crl_protocol.specs.Receiving.{receives, size_for}
+use Rattle.crl_protocol.specs.Receiving.{receives, size_for, slots_with}
 use Rattle.crl_protocol.specs.Node.{Node}
 use Rattle.crl_protocol.specs.Handlers.{node_handles}
 use Rattle.crl_safety.specs.Safety.{MessageIsSafe}
@@ -24,6 +24,10 @@ use Rattle.crl_copying.specs.Calling.{remote_size_at}
 use Rattle.crl_naming.specs.Forgetting.{PurgeIsReady}
 use Rattle.crl_naming.specs.Readied.{InfoIsReady}
 use Rattle.crl_meeting.specs.Meetings.{IsPartReady, IsResultReady}
+use Rattle.crl_parcels.specs.ParcelKeys.{key_of_parcel}
+use Rattle.crl_node.specs.declared.kits.PartKit.{PartKit}
+use Rattle.crl_node.specs.declared.kits.PieceKit.{PieceKit}
+use Rattle.crl_node.specs.declared.kits.PieceKit.TheVariants.{Whole, Last, More}
 use Rattle.crl_node.specs.declared.kits.HandleKit.{HandleKit}
 use Rattle.crl_node.specs.declared.kits.HandleKit.TheVariants.{Room, Section, Sheets, Papers, Paper}
 
@@ -105,6 +109,26 @@ pub record IsReadyToGather (key : Key) (size : ℕ) (blank : Option Gathering) (
   pub agrees : IsOfSize size (sizes_of d.parcels key)
   pub ready : IsReadyFor size (parcels_of d.parcels key) blank d.parcels.room
 
+-- A piece below this number, other than this one, is missing among the slots; and none is.
+pub record MissesAnother (index number : ℕ) (slots : List (Option (List ℕ))) : Type 0 where
+  pub other : ℕ
+  pub below : other < number
+  pub apart : other ≢ index
+  pub missing : is_missing other slots ≡ true
+
+abbrev pub MissesNoOther : ℕ → ℕ → List (Option (List ℕ)) → Type 0
+MissesNoOther index number slots = (other : ℕ) → other < number → other ≢ index → is_missing other slots ≡ false
+
+-- a piece of the message with this key is still missing once this one has come
+abbrev pub LeavesOpen : Node → Key → Option Piece → Type 0
+LeavesOpen n key None = ⊥
+LeavesOpen n key (Some p) = is_complete (slots_with p (n.parcels key)) ≡ false
+
+-- it is the only one that is missing
+abbrev pub IsLast : Node → Key → Option Piece → Type 0
+IsLast n key None = ⊥
+IsLast n key (Some p) = MissesNoOther p.index p.pieces (slots_or p.pieces (n.parcels key))
+
 -- The piece is a whole message, which is safe: the node hears it at once.
 pub record IsWhole (n : Node) (p : Piece) : Type 0 where
   pub heard : (inbox : List Piece) → receives p (record n { inbox = inbox }) ≡ node_handles p.message.sender p.message.kind (record n { inbox = inbox })
@@ -113,3 +137,13 @@ pub record IsWhole (n : Node) (p : Piece) : Type 0 where
 abbrev pub IsWholeTaken : Node → Option Piece → Type 0
 IsWholeTaken n None = ⊥
 IsWholeTaken n (Some p) = IsWhole n p
+
+-- The piece is one of a message that is gathered, and may come with this kit.
+abbrev pub JoinsWith : Option Piece → PartKit → Desk → Type 0
+JoinsWith o part d = (key_taken o ≡ Some (key_of_parcel part.key)) × IsReadyToGather (key_of_parcel part.key) part.size part.blank d
+
+-- The piece is ready to be handled: as a whole message, as the last missing piece of one, or as one of which others are missing.
+abbrev pub IsPieceReady : Option Piece → PieceKit → Desk → Type 0
+IsPieceReady o (Whole message) d = IsWholeTaken (state d) o × IsReadyToTake o message d
+IsPieceReady o (Last part message) d = JoinsWith o part d × IsLast (state d) (key_of_parcel part.key) o × IsReadyToTake o message d
+IsPieceReady o (More part) d = JoinsWith o part d × LeavesOpen (state d) (key_of_parcel part.key) o × HasRoom 0 0 1 d

@@ -1,5 +1,5 @@
 -- What is true of a node between two events.
-use Rattle.std.specs.Prelude.{ℕ, ◌≡◌, ◌+◌, ◌-◌, ◌*◌, ◌^◌, ◌≤◌, length}
+use Rattle.std.specs.Prelude.{ℕ, ◌≡◌, ◌+◌, ◌-◌, ◌*◌, ◌^◌, ◌<◌, ◌≤◌, length}
 use Rattle.crl_model.specs.declared.event.Event.{Event}
 use Rattle.crl_model.specs.declared.call.Call.{Call}
 use Rattle.crl_protocol.specs.Node.{Node}
@@ -28,15 +28,14 @@ pub record KeepsCounts (n m : Node) : Type 0 where
 abbrev pub concluded : ℕ → Event → ℕ → Node → Node
 concluded position e before m = note position e (record m { posted = m.posted + (length m.outbox - before) })
 
--- A call before its event is noted: the act is done, with its answer and the call as it is to be noted; or memory was
--- wanting, and the call is handed back.
+-- A call before its event is noted: the act is done, with its answer and the call as it is to be noted.
 pub record ActIsDone (at : ℕ) (c : Call) (old : Node) (new : Desk) (given : Acted) : Type 0 where
   pub node : state new ≡ acted at (node_calls c old)
   pub answer : given.answer ≡ (node_calls c old).answer
   pub noted : given.noted ≡ noted_call (verdict old c) c
   pub room : HasRoom 0 0 1 new
 
-pub record ActIsBack (c given : Call) (old : Node) (new : Desk) : Type 0 where
-  pub call : given ≡ c
-  pub node : state new ≡ old
-  pub room : HasRoom 0 0 0 new
+-- There is room for a note at the one, and for a piece in the inbox of the other.
+pub record CanCarry (from to : Desk) : Type 0 where
+  pub note : HasRoom 0 0 1 from
+  pub place : 0 < to.inbox.room

@@ -1,17 +1,18 @@
 //! A piece of a message with bytes of a region. With the last missing one its message is heard.
-ghost use Rattle.std.specs.Prelude.{◌≡◌, Some, None, IfOk, OnOk};
-ghost use Rattle.crl_protocol.specs.Parcels.{key_of, load_of};
-ghost use Rattle.crl_protocol.specs.Receiving.{receives, size_for, home_size};
+ghost use Rattle.std.specs.Prelude.{◌≡◌, ℕ, Some, None, false, IfOk, OnOk, MatchBool};
+ghost use Rattle.crl_pieces.specs.Pieces.{is_complete};
+ghost use Rattle.crl_protocol.specs.Parcels.{load_of, slots_or};
+ghost use Rattle.crl_protocol.specs.Receiving.{receives, size_for, home_size, slots_with};
 ghost use Rattle.crl_protocol.specs.Node.{home_of};
 ghost use Rattle.crl_safety.specs.Safety.{IsSafe, PieceIsSafe};
 ghost use Rattle.crl_parcels.specs.ParcelKeys.{key_of_parcel, load_named};
 ghost use Rattle.crl_parcels.specs.ParcelsState.{parcels_of, sizes_of};
 ghost use Rattle.crl_parcels.specs.PieceComes.{IsReadyFor, IsOfSize};
 ghost use Rattle.crl_desk.specs.Desks.{state, acted, HasRoom};
-ghost use Rattle.crl_node.specs.Handling.{IsReadyToHear, IsReadyToGather, IsWhole};
+ghost use Rattle.crl_node.specs.Handling.{IsReadyToHear, IsWhole, JoinsWith, MissesAnother, MissesNoOther};
 
 use crate::hearing::hear;
-use crate::kits::HandleKit;
+use crate::kits::{HandleKit, PartKit};
 use crl_desk::Desk;
 use crl_model::OutOfMemory;
 use crl_model::message::{Granted, Kind, Message};
@@ -115,6 +116,19 @@ fn ready_first(
     Ok(Some(blank))
 }
 
+/// Whether a piece below this number, other than this one, is missing of the message with this key.
+pub(crate) fn misses_another(parcels: &Parcels, key: ParcelKey, index: u32, number: u32) -> bool
+    ensures { let slots = slots_or number (parcels_of parcels.now (key_of_parcel key)) in
+        MatchBool result (MissesAnother index number slots) (MissesNoOther index number slots) }
+{
+    for other in 0..number {
+        if other != index && parcels.is_missing(key, other, number) {
+            return true;
+        }
+    }
+    false
+}
+
 /// The piece is a whole message. It comes.
 pub(crate) fn hear_whole(desk: &mut Desk, at: u64, piece: Piece, kit: HandleKit)
     requires safe { IsSafe (state desk.old) }
@@ -129,28 +143,36 @@ pub(crate) fn hear_whole(desk: &mut Desk, at: u64, piece: Piece, kit: HandleKit)
     hear(desk, at, sender, kind, kit);
 }
 
-/// The piece comes of the message with this key, of so many bytes.
-pub(crate) fn hear_piece(
-    desk: &mut Desk,
-    at: u64,
-    piece: Piece,
-    key: ParcelKey,
-    size: u32,
-    blank: Option<Gather>,
-    kit: HandleKit,
-)
+/// The piece comes of a message that is gathered.
+pub(crate) fn hear_piece(desk: &mut Desk, at: u64, piece: Piece, part: PartKit, kit: HandleKit)
     requires safe { IsSafe (state desk.old) }
     requires piece { PieceIsSafe (state desk.old) piece }
-    requires key { key_of piece.message ≡ Some (key_of_parcel key) }
+    requires joins { JoinsWith (Some piece) part desk.old }
     requires ready { IsReadyToHear piece.message.sender piece.message.kind kit desk.old }
-    requires parcel { IsReadyToGather (key_of_parcel key) size blank desk.old }
     ensures state { state desk.new ≡ acted at (receives piece (state desk.old)) }
     ensures room { HasRoom 0 0 1 desk.new }
 {
     let Piece { message, index, .. } = piece;
+    let PartKit { key, size, blank } = part;
     let Message { sender, kind, .. } = message;
     match desk.parcels.add(key, index, bytes_of(&kind), size, blank) {
         Some(bytes) => hear(desk, at, sender, with_load(kind, bytes), kit),
         None => {}
     }
+}
+
+/// The piece comes of a message that is gathered, of which another one is still missing.
+pub(crate) fn keep_piece(desk: &mut Desk, piece: Piece, part: PartKit)
+    requires room { HasRoom 0 0 1 desk.old }
+    requires piece { PieceIsSafe (state desk.old) piece }
+    requires joins { JoinsWith (Some piece) part desk.old }
+    requires open { is_complete (slots_with piece ((state desk.old).parcels (key_of_parcel part.key))) ≡ false }
+    ensures state { (at : ℕ) → state desk.new ≡ acted at (receives piece (state desk.old)) }
+    ensures room { HasRoom 0 0 1 desk.new }
+{
+    let Piece { message, index, .. } = piece;
+    let PartKit { key, size, blank } = part;
+    let _ = desk
+        .parcels
+        .add(key, index, bytes_of(&message.kind), size, blank);
 }

@@ -3,7 +3,6 @@
 
 mod acting;
 mod calling;
-mod carriage;
 mod concluding;
 mod copies;
 mod gathering;
@@ -13,6 +12,7 @@ mod kits;
 mod membership;
 mod names;
 mod node;
+mod readying;
 mod rounds;
 mod showing;
 

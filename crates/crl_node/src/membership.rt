@@ -1,21 +1,43 @@
 //! A node is a member of a world.
-ghost use Rattle.crl_desk.specs.Desks.{state};
+ghost use Rattle.crl_protocol.specs.Places.{take_out};
+ghost use Rattle.crl_desk.specs.Desks.{state, HasRoom};
+ghost use Rattle.crl_node.specs.Calling.{IsCallReady};
+ghost use Rattle.crl_node.specs.Handling.{piece_taken, IsPieceReady};
+ghost use Rattle.crl_node.specs.Nodes.{CanCarry};
 
-use crate::calling::{make_call, make_end_read, make_end_write};
+use crate::calling::{make_call, make_end_read, make_end_write, ready_call};
+use crate::concluding::conclude;
+use crate::kits::{CallKit, PieceKit};
 use crate::node::Node;
+use crate::readying::{make_handle, ready_piece};
+use crate::showing::{addressee_in, table_bytes};
 use crl_guard::{Reading, Writing};
 use crl_member::Member;
 use crl_model::activity::{Answer, Awaited};
 use crl_model::call::{Call, Refusal};
 use crl_model::directory::Section;
+use crl_model::event::Event;
 use crl_model::journal::Recorded;
 use crl_model::name::Name;
+use crl_model::stage::Stage;
 use crl_model::{NodeNo, OutOfMemory};
 use crl_verdict::verdict;
 use std::alloc::Global;
 
 impl Member for Node {
+    type CallKit = CallKit;
+
+    type PieceKit = PieceKit;
+
     ghost state = { λ node. state node };
+
+    ghost can_call = { λ call kit node. IsCallReady call kit node };
+
+    ghost can_collect = { λ node. HasRoom 0 0 1 node };
+
+    ghost can_handle = { λ place kit node. IsPieceReady (piece_taken (take_out place node.inbox.list)) kit node };
+
+    ghost can_carry = { λ node to. CanCarry node to };
 
     fn new(alloc: Global, me: NodeNo, nodes: NodeNo, capacity: u16) -> Result<Node, OutOfMemory> {
         Node::start(alloc, me, nodes, capacity)
@@ -50,7 +72,7 @@ impl Member for Node {
     }
 
     fn addressee(&self, place: usize) -> NodeNo {
-        self.addressee_at(place)
+        addressee_in(&self.desk.outbox, place)
     }
 
     fn verdict(&self, call: &Call) -> Option<Refusal> {
@@ -58,15 +80,19 @@ impl Member for Node {
     }
 
     fn fits_reading(&self, guard: &Reading) -> bool {
-        self.has_reading(guard)
+        guard.node() == self.desk.me && self.desk.sections.fits_reading(guard)
     }
 
     fn fits_writing(&self, guard: &Writing) -> bool {
-        self.has_writing(guard)
+        guard.node() == self.desk.me && self.desk.sections.fits_writing(guard)
     }
 
-    fn call(&mut self, at: u64, call: Call) -> Result<Answer<Reading, Writing>, Call> {
-        make_call(&mut self.desk, at, call)
+    fn ready_call(&mut self, call: &Call) -> Result<CallKit, OutOfMemory> {
+        ready_call(&mut self.desk, call)
+    }
+
+    fn make_call(&mut self, at: u64, call: Call, kit: CallKit) -> Answer<Reading, Writing> {
+        make_call(&mut self.desk, at, call, kit)
     }
 
     fn end_read(&mut self, at: u64, guard: Reading) {
@@ -77,16 +103,37 @@ impl Member for Node {
         make_end_write(&mut self.desk, at, guard);
     }
 
-    fn collect(&mut self, at: u64) -> Result<Answer<Reading, Writing>, OutOfMemory> {
-        self.take_answer(at)
+    fn ready_collect(&mut self) -> Result<(), OutOfMemory> {
+        self.desk.make_room(0, 0, 1)
     }
 
-    fn handle(&mut self, at: u64, place: usize) -> Result<(), OutOfMemory> {
-        self.handle_at(at, place)
+    fn make_collect(&mut self, at: u64) -> Answer<Reading, Writing> {
+        let before = self.desk.outbox.len();
+        let answer = self.desk.standing.take();
+        let node = self.desk.me;
+        conclude(&mut self.desk, at, Event::Collect { node }, before);
+        answer.unwrap()
     }
 
-    fn carry(&mut self, to: &mut Node, at: u64, place: usize) -> Result<(), OutOfMemory> {
-        self.carry_to(to, at, place)
+    fn ready_handle(&mut self, place: usize) -> Result<PieceKit, OutOfMemory> {
+        ready_piece(&mut self.desk, place)
+    }
+
+    fn make_handle(&mut self, at: u64, place: usize, kit: PieceKit) {
+        make_handle(&mut self.desk, at, place, kit);
+    }
+
+    fn ready_carry(&mut self, to: &mut Node) -> Result<(), OutOfMemory> {
+        to.desk.inbox.reserve(1)?;
+        self.desk.make_room(0, 0, 1)
+    }
+
+    fn make_carry(&mut self, to: &mut Node, at: u64, place: usize) {
+        let piece = self.desk.outbox.take(place);
+        let before = self.desk.outbox.len();
+        let node = self.desk.me;
+        conclude(&mut self.desk, at, Event::Carry { node, place }, before);
+        to.desk.inbox.put(piece);
     }
 
     fn records(&self) -> &[Recorded] {
@@ -102,10 +149,19 @@ impl Member for Node {
     }
 
     fn home_bytes(&self, name: Name) -> Option<&[u8]> {
-        self.bytes_as_home(name)
+        if name.home != self.desk.me {
+            return None;
+        }
+        match self.desk.stages.stage(name.serial) {
+            Stage::Live | Stage::Going(_) => table_bytes(&self.desk, name),
+            Stage::Unknown | Stage::Gone => None,
+        }
     }
 
     fn exclusive_bytes(&self, name: Name) -> Option<&[u8]> {
-        self.bytes_if_exclusive(name)
+        if self.desk.remotes.is_exclusive(name) {
+            return self.desk.remotes.bytes(name);
+        }
+        None
     }
 }

@@ -3,7 +3,6 @@ use Rattle.crl_protocol.specs.Calls as calls
 use Rattle.crl_node.proofs.Acts.{act_done}
 use Rattle.crl_node.proofs.acting.act_delete.Goals as goal
 
--- src/acting.rt:68:1
-pub returns-in-Ok : goal.returns-in-Ok
+pub returns : goal.returns
 unfolding calls.takes_call
-returns-in-Ok c = act_done _ _ _ _ _ (calls.deletes c.args.name) _ _ c.requires.allowed c.ready_delete.ensures.state (λ m. refl) c.delete-answer.ensures.state c.delete-answer.ensures.answer refl c.delete-answer.ensures.room
+returns c = act_done _ _ _ _ _ (calls.deletes c.args.name) _ _ c.requires.allowed refl (λ m. refl) c.delete-answer.ensures.state c.delete-answer.ensures.answer refl c.delete-answer.ensures.room

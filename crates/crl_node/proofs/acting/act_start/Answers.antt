@@ -3,6 +3,5 @@ use Rattle.crl_protocol.specs.Sectioning.{starts}
 use Rattle.crl_node.proofs.Acts.{act_done, start_taken, start_noted}
 use Rattle.crl_node.proofs.acting.act_start.Goals as goal
 
--- src/acting.rt:155:1
-pub returns-in-Ok : goal.returns-in-Ok
-returns-in-Ok c = act_done _ _ _ _ _ (starts c.args.write c.args.name) _ _ c.requires.allowed c.ready_section.ensures.state (start_taken c.args.write c.args.name) c.start-answer.ensures.state c.start-answer.ensures.answer (c.call_to_start-call.ensures ∙ start_noted c.args.write c.args.name) c.start-answer.ensures.room
+pub returns : goal.returns
+returns c = act_done _ _ _ _ _ (starts c.args.write c.args.name) _ _ c.requires.allowed refl (start_taken c.args.write c.args.name) c.start-answer.ensures.state c.start-answer.ensures.answer (c.call_to_start-noted.ensures ∙ start_noted c.args.write c.args.name) c.start-answer.ensures.room

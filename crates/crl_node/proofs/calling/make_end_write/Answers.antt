@@ -1,4 +1,4 @@
-use Rattle.std.proofs.Common.{◌∙◌, ap, ℕ, List, []}
+use Rattle.std.proofs.Common.{◌∙◌, ap, ℕ, List}
 use Rattle.crl_model.specs.declared.name.Name.{Name}
 use Rattle.crl_model.specs.declared.call.Call.TheVariants.{EndWrite}
 use Rattle.crl_model.specs.declared.event.Event.TheVariants as event

@@ -1,0 +1,6 @@
+mod Growing
+mod Worlds
+mod Landing
+mod Coming
+mod Nodes
+mod Fresh
