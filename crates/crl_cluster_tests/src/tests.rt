@@ -14,7 +14,7 @@ fn two(alloc: Global) -> Result<(Nodes, Pass), Fail>
 {
     match Cluster::start(alloc, 2, 4) {
         Ok(started) => Ok(started),
-        Err(_) => Err(Fail),
+        Err(why) => Err(Fail::from(why)),
     }
 }
 
