@@ -4,3 +4,6 @@ mod Landing
 mod Coming
 mod Nodes
 mod Fresh
+mod Outside
+mod Drained
+mod Alone

@@ -1,9 +1,11 @@
 -- A held node, before its event and after it.
-use Rattle.std.proofs.Common.{◌≡◌, ◌≢◌, ℕ, ◌+◌, ◌<◌, ◌≤◌, ◌^◌, ◌==◌,  ◌&&◌, nat_lt, Bool, true, false, List, [], ◌∷◌, ◌++◌, length, refl, sym, ap, ap₂, ◌∙◌, subst, eqb-true, Option, Some, None}
+use Rattle.std.proofs.Common.{◌≡◌, ◌≢◌, ℕ, ◌+◌, ◌<◌, ◌≤◌, ◌^◌, ◌==◌, ◌&&◌, nat_lt, Bool, true, false, List, [], ◌∷◌, ◌++◌, length, refl, sym, ap, ap₂, ◌∙◌, subst, eqb-true, Option, Some, None}
 use Rattle.std.proofs.lemmas.Bool.{lt-ltb, and_parts}
-use Rattle.crl_model.specs.declared.call.Call.TheVariants.{EndWrite}
+use Rattle.crl_model.specs.declared.call.Call.TheVariants.{Create, Delete, Map, Unmap, StartRead, EndRead, StartWrite, EndWrite, Put, Add, Flush, Come}
+use Rattle.crl_model.specs.declared.call.Refusal.{Refusal}
+use Rattle.crl_cluster.specs.Trying.{may_go, can_make}
 use Rattle.crl_protocol.specs.Sections.{Guard, OpenSection, section_bytes}
-use Rattle.crl_member.specs.Fitting.{fits_open_write, fits_writing}
+use Rattle.crl_member.specs.Fitting.{fits_open_write, fits_writing, goes_by_guard, MayCall}
 use Rattle.crl_model.specs.declared.call.Call.{Call}
 use Rattle.crl_model.specs.declared.event.Event.{Event}
 use Rattle.crl_model.specs.declared.event.Event.TheVariants as event
@@ -69,6 +71,25 @@ module _ (s : Shape) (front : List Event) (runs : Runs (MayCome s) front) (i : �
       go None e = tt
       go (Some t) e = pieces_safe s.parts s.extra front (run_of s front runs) i place t few e
 
+-- A call that goes may be made.
+call_goes : (n : Node) (c : Call) (o : Option Refusal) → may_go c o ≡ true → (is_call n c o ≡ true) × (goes_by_guard c o ≡ false)
+call_goes n c (Some why) go = (refl, refl)
+call_goes n (EndRead name) None go = cc
+call_goes n (EndWrite name after) None go = cc
+call_goes n (Put name offset len) None go = cc
+call_goes n (Add name offset) None go = cc
+call_goes n (Create size) None go = (refl, refl)
+call_goes n (Delete name) None go = (refl, refl)
+call_goes n (Map name) None go = (refl, refl)
+call_goes n (Unmap name) None go = (refl, refl)
+call_goes n (StartRead name) None go = (refl, refl)
+call_goes n (StartWrite name) None go = (refl, refl)
+call_goes n (Flush name) None go = (refl, refl)
+call_goes n (Come part) None go = (refl, refl)
+
+pub may_call : (n : Node) (c : Call) → can_make c n ≡ true → MayCall n c
+may_call n c can = let goes = call_goes n c (verdict n c) (and_parts _ _ can).1 in record { enabled = goes.0; unguarded = goes.1 }
+
 -- A guard that fits has as many bytes as its section.
 same_size : (g : Guard) (o : Option OpenSection) → fits_open_write g o ≡ true → (length g.bytes == length (section_bytes o)) ≡ true
 same_size g None fits = cc
@@ -113,21 +134,23 @@ module _ (s : Shape) (old new : View) (i : ℕ) (has : HasValue i old) (at : ℕ
 
   pub call_done : (c : Call) (answer : Answer) → ComesAt at s (event.Call i c) old new → CallIsDone at c n m answer → (m ≡ (world_at s new.front).nodes i) × IsDone s (event.Call i c) old answer new
   call_done c answer came did =
-      let e = event.Call i c in
-      (lands e came (call_lands s i came.comes.before (run_before e came) at came.at_is n (before_is e came) c m answer did),
-        done s e old new came.comes answer has (call_answers s i came.comes.before (run_before e came) at came.at_is n (before_is e came) c m answer did))
+      let e = event.Call i c in (
+        lands e came (call_lands s i came.comes.before (run_before e came) at came.at_is n (before_is e came) c m answer did),
+        done s e old new came.comes answer has (call_answers s i came.comes.before (run_before e came) at came.at_is n (before_is e came) c m answer did),
+      )
 
   pub collect_done : (answer : Answer) → ComesAt at s (event.Collect i) old new → CollectIsDone at n m answer → (m ≡ (world_at s new.front).nodes i) × IsDone s (event.Collect i) old answer new
   collect_done answer came did =
-      let e = event.Collect i in
-      (lands e came (collect_lands s i came.comes.before (run_before e came) at came.at_is n (before_is e came) m answer did),
-        done s e old new came.comes answer has (collect_answers s i came.comes.before (run_before e came) at came.at_is n (before_is e came) m answer did))
+      let e = event.Collect i in (
+        lands e came (collect_lands s i came.comes.before (run_before e came) at came.at_is n (before_is e came) m answer did),
+        done s e old new came.comes answer has (collect_answers s i came.comes.before (run_before e came) at came.at_is n (before_is e came) m answer did),
+      )
 
   pub handle_done : (place : ℕ) → place < length n.inbox → ComesAt at s (event.Handle i place) old new → m ≡ node_after_handle at place n → m ≡ (world_at s new.front).nodes i
   handle_done place there came did =
       let e = event.Handle i place in
       lands e came (handle_lands s i came.comes.before (run_before e came) at came.at_is n (before_is e came) place m
-        (can_take place ((world_at s came.comes.before).nodes i).inbox (subst (λ (k : Node). place < length k.inbox) (before_is e came) there)) did)
+      (can_take place ((world_at s came.comes.before).nodes i).inbox (subst (λ (k : Node). place < length k.inbox) (before_is e came) there)) did)
 
   -- the end of a section, which is allowed and answered with Done
   pub end_done : (c : Call) → verdict n c ≡ None → (node_calls c n).answer ≡ Done → ComesAt at s (event.Call i c) old new → m ≡ commits at (event.Call n.me (without_bytes c)) (node_calls c n)
@@ -167,6 +190,7 @@ carry_done s old new i j place at n m n_new m_new has_i has_j few n_is m_is ther
     let m_before = node_before s e old new came.comes j m has_j m_is in
     let to_before : addressee_of (take_out place ((world_at s before).nodes i).outbox) ≡ j = ap (λ (x : Node). addressee_of (take_out place x.outbox)) (sym n_before) ∙ to in
     let apart : j ≢ i = λ same. (addressee_away s before run i place few n n_before there).1 (to ∙ same) in
-    let some = some_there s before run i place few n n_before there in
-    (node_then s e old new came.comes i n_new (carry_sends s i j place before run at came.at_is n m n_before m_before some to_before apart n_new did.sender),
-      node_then s e old new came.comes j m_new (carry_puts s i j place before run at came.at_is n m n_before m_before some to_before apart m_new did.addressee))
+    let some = some_there s before run i place few n n_before there in (
+      node_then s e old new came.comes i n_new (carry_sends s i j place before run at came.at_is n m n_before m_before some to_before apart n_new did.sender),
+      node_then s e old new came.comes j m_new (carry_puts s i j place before run at came.at_is n m n_before m_before some to_before apart m_new did.addressee),
+    )

@@ -9,7 +9,7 @@ use Rattle.crl_turns.specs.declared.turned.Shape.{Shape}
 use Rattle.crl_turns.specs.declared.view.View.{View}
 use Rattle.crl_turns.specs.Fronts.{Begins}
 use Rattle.crl_turns.specs.Calls.{after_take}
-use Rattle.crl_turns.specs.Plays.{after_load, after_append}
+use Rattle.crl_turns.specs.Plays.{after_load, after_append, after_join, longer}
 use Rattle.crl_cluster.specs.declared.held.Held.{Held}
 use Rattle.crl_cluster.specs.declared.faults.StepFault.{StepFault}
 use Rattle.crl_cluster.specs.declared.faults.StepFault.TheVariants.{OutOfMemory, Moved, Spent}
@@ -72,3 +72,10 @@ abbrev pub IsUndone : Shape → View → StepFault → View → Type 0
 IsUndone s old OutOfMemory new = new ≡ old
 IsUndone s old (Moved saw found) new = IsMoved s old saw found new
 IsUndone s old Spent new = IsSpent s old new
+
+-- The front is the longer of the two, which both begin.
+pub record Joins (s : Shape) (old other new : View) : Type 0 where
+  pub front : new.front ≡ longer old.front other.front
+  pub grows : GrowsPast (held_by old) s old.front new.front
+  pub begins : Begins other.front new.front
+  pub view : new ≡ after_load new.front (after_join old other)

@@ -3,3 +3,7 @@ pub mod Clusters
 pub mod Acting
 pub mod Faults
 pub mod Starting
+pub mod Closing
+pub mod Trying
+pub mod Histories
+pub mod Holding

@@ -48,9 +48,7 @@ impl<N: Member, T: Luggage> Cluster<N, T> {
         };
         match self.append_next(pass, &event) {
             Ok(at) => {
-                from.behind
-                    .node
-                    .make_carry(&mut to.behind.node, at, place);
+                from.behind.node.make_carry(&mut to.behind.node, at, place);
                 Ok(())
             }
             Err(why) => Err(why),

@@ -16,6 +16,7 @@ pub struct Cluster<N: Member, T: Luggage> {
     pub(crate) turns: Turns<Behind<N, T>>,
     ghost all: { part_count turns ≡ (common_shape turns).parts },
     ghost some: { (0 < (common_shape turns).parts) × ((common_shape turns).parts ≤ 64) },
+    ghost narrow: { (common_shape turns).extra < 2 ^ 16 },
 }
 
 /// What a thread makes its calls with. Its front is a run of the cluster, which begins the history.

@@ -22,10 +22,28 @@ pub enum StepFault {
     Spent,
 }
 
+/// Why an event was not done at a node that was to be held for it.
+#[derive(Debug, Drop, Clone, Copy, PartialEq)]
+pub enum TryFault {
+    /// The turn of this node is out.
+    Busy { node: NodeNo },
+    /// The node has nothing of the kind to do.
+    Nothing,
+    /// The event was not done.
+    Step(StepFault),
+}
+
 /// What was given comes back.
-#[derive(Debug)]
+#[derive(Debug, Drop)]
 pub struct NotDone<G> {
     pub why: StepFault,
+    pub back: G,
+}
+
+/// What was given for a node that was to be held comes back.
+#[derive(Debug, Drop)]
+pub struct NotTried<G> {
+    pub why: TryFault,
     pub back: G,
 }
 

@@ -1,8 +1,10 @@
 //! A node that is held.
 ghost use Rattle.std.specs.Prelude.{◌≡◌};
+ghost use Rattle.crl_cluster.specs.Holding.{with_luggage};
 
 use crate::behind::Behind;
 use crl_model::NodeNo;
+use std::mem;
 
 /// A node whose turn a pass holds, with its luggage. One that is dropped keeps its turn out for ever.
 #[derive(Drop)]
@@ -31,5 +33,13 @@ impl<N, T> Held<N, T> {
         ensures { result.now ≡ self.now.behind.luggage }
     {
         &self.behind.luggage
+    }
+
+    /// Puts other luggage in its place, and hands out what was there.
+    pub fn replace_luggage(&mut self, luggage: T) -> T
+        ensures out { result ≡ self.old.behind.luggage }
+        ensures held { self.new ≡ with_luggage luggage self.old }
+    {
+        mem::replace(&mut self.behind.luggage, luggage)
     }
 }

@@ -1,6 +1,6 @@
 //! A new world.
 ghost use Rattle.std.specs.Prelude.{◌≡◌, map, IfOk, MatchResult};
-ghost use Rattle.crl_world.specs.Seen.{world_seen, first_nodes};
+ghost use Rattle.crl_world.specs.Seen.{world_seen, world_of_nodes, first_nodes, IsKept};
 ghost use Rattle.crl_world.specs.Starting.{AreSomeNodes, IsStarted, IsNotStarted};
 
 use crate::faults::StartFault;
@@ -44,6 +44,18 @@ impl<N: Member> World<N> {
                 capacity,
             }),
             Err(_) => Err(StartFault::OutOfMemory),
+        }
+    }
+
+    /// The world of these nodes, by number, after so many events.
+    pub fn of_nodes(nodes: Vec<N>, events: u64, capacity: u16) -> World<N>
+        requires { IsKept (world_of_nodes (map N.state nodes.items) events capacity) }
+        ensures { world_seen N.state result ≡ world_of_nodes (map N.state nodes.items) events capacity }
+    {
+        World {
+            nodes,
+            events,
+            capacity,
         }
     }
 }

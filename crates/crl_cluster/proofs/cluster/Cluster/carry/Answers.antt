@@ -27,7 +27,7 @@ returns-in-Ok-append_next-clause-from g c =
     let told = c.in-Ok-append_next.ensures.told in
     let same = c.ready_carry.ensures.state.0 in
     let did = carry_done s (view_of c.args.pass.now) _ _ c.args.to.now.number c.args.place _ _ _ _ _ from.has to.has from.inside (same ∙ from.node_is) (c.ready_carry.ensures.state.1 ∙ to.node_is) (rw same c.requires.there)
-        (ap (λ (n : Node). addressee_of (take_out c.args.place n.outbox)) same ∙ c.requires.addressee) told c.make_carry.ensures in
+    (ap (λ (n : Node). addressee_of (take_out c.args.place n.outbox)) same ∙ c.requires.addressee) told c.make_carry.ensures in
     (record { node_is = did.0; shape_is = from.shape_is; inside = from.inside; has = has_still _ _ _ _ told.comes _ from.has }, record { number = refl; luggage = refl })
 
 pub returns-in-Ok-append_next-clause-to : goal.returns-in-Ok-append_next-clause-to
@@ -38,5 +38,5 @@ returns-in-Ok-append_next-clause-to g c =
     let told = c.in-Ok-append_next.ensures.told in
     let same = c.ready_carry.ensures.state.0 in
     let did = carry_done s (view_of c.args.pass.now) _ _ c.args.to.now.number c.args.place _ _ _ _ _ from.has to.has from.inside (same ∙ from.node_is) (c.ready_carry.ensures.state.1 ∙ to.node_is) (rw same c.requires.there)
-        (ap (λ (n : Node). addressee_of (take_out c.args.place n.outbox)) same ∙ c.requires.addressee) told c.make_carry.ensures in
+    (ap (λ (n : Node). addressee_of (take_out c.args.place n.outbox)) same ∙ c.requires.addressee) told c.make_carry.ensures in
     (record { node_is = did.1; shape_is = to.shape_is; inside = to.inside; has = has_still _ _ _ _ told.comes _ to.has }, record { number = refl; luggage = refl })
