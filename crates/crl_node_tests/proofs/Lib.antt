@@ -1,1 +1,3 @@
 mod Blocks
+mod Coming
+mod Reaching

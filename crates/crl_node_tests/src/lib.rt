@@ -3,6 +3,7 @@
 //! The accounts that they expect were worked out by hand, from the rules of the protocol.
 #![tactic(auto)]
 
+pub mod driving;
 mod playing;
 
 pub use playing::play;
@@ -15,5 +16,7 @@ mod copies;
 mod lives;
 #[cfg(test)]
 mod pieces;
+#[cfg(test)]
+mod readings;
 #[cfg(test)]
 mod scripts;
