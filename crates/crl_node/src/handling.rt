@@ -1,4 +1,4 @@
-//! A piece of the inbox: its message is made ready, and it is taken out, with the end of its event.
+//! A piece of the inbox in its place: what its message takes, and whether another piece of the message is missing.
 ghost use Rattle.std.specs.Prelude.{◌≡◌, ◌<◌, Some, IfOk, MatchBool, length};
 ghost use Rattle.crl_protocol.specs.Places.{take_out};
 ghost use Rattle.crl_safety.specs.Safety.{IsSafe};
