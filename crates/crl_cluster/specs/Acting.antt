@@ -17,7 +17,8 @@ use Rattle.crl_cluster.specs.Standing.{world_at, heard_at, MayCome}
 use Rattle.crl_cluster.specs.Clusters.{IsHeld, GrowsPast, held_by}
 
 -- The node was got, and the front is the history at that time.
-pub record Holds {N T : Type 0} (state : N → Node) (stands : ℕ → List Heard → T → Type 0) (s : Shape) (node : ℕ) (old : View) (held : Held N T) (new : View) : Type 0 where
+pub record Holds {N T : Type 0} (state : N → Node) (stands : ℕ → List Heard → T → Type 0) (s : Shape) (node : ℕ) (old : View) (held : Held N T) (new : View)
+    : Type 0 where
   pub number : held.number ≡ node
   pub is_held : IsHeld state s new held
   pub luggage : stands node (heard_at s node new.front) held.behind.luggage

@@ -14,7 +14,8 @@ use Rattle.crl_cluster.specs.Standing.{world_at, heard_at, MayCome}
 
 -- The world is the one after a run that begins with the front of the pass, and each luggage stands for what its node heard
 -- in it.
-pub record IsClosed {T : Type 0} (stands : ℕ → List Heard → T → Type 0) (s : Shape) (view : View) (world : protocol.World) (luggage : List T) : Type 0 where
+pub record IsClosed {T : Type 0} (stands : ℕ → List Heard → T → Type 0) (s : Shape) (view : View) (world : protocol.World) (luggage : List T)
+    : Type 0 where
   pub history : List Event
   pub run : protocol.IsRun s.parts s.extra history
   pub begins : Begins view.front history

@@ -40,7 +40,8 @@ impl<N: Member, T: Luggage> Cluster<N, T> {
         ensures told { let s = shape_of self.now in
             let old = view_of pass.old in
             let new = view_of pass.new in
-            MatchResult result (λ answer. IsDone s (event.Call held.old.number call) old answer new) (λ fault. (fault.back ≡ call) × IsUndone s old fault.why new) }
+            MatchResult result (λ answer. IsDone s (event.Call held.old.number call) old answer new)
+            (λ fault. (fault.back ≡ call) × IsUndone s old fault.why new) }
     {
         let Ok(kit) = held.behind.node.ready_call(&call) else {
             return Err(NotDone {

@@ -58,6 +58,15 @@ impl<N: Member, T: Luggage> Cluster<N, T> {
         self.turns.seen(&mut pass.turns)
     }
 
+    /// The number of nodes. Each pass knows it.
+    pub fn count(&self, pass: &Pass) -> NodeNo
+        requires here { IsOf self.now pass.now }
+        ensures { result ≡ node_count self.now }
+    {
+        let _turns = &self.turns;
+        pass.shape.parts as NodeNo
+    }
+
     /// Another pass, with the same front. It holds no node and has done nothing.
     pub fn split(&self, pass: &mut Pass) -> Pass
         requires here { IsOf self.now pass.old }

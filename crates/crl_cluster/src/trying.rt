@@ -32,7 +32,8 @@ impl<N: Member, T: Luggage> Cluster<N, T> {
         ensures told { let s = shape_of self.now in
             let old = view_of pass.old in
             let new = view_of pass.new in
-            MatchResult result (λ _. Comes s (event.Handle held.old.number place) old new) (λ why. IsUntried s (HasNoPiece held.old.number place) old why new) }
+            MatchResult result (λ _. Comes s (event.Handle held.old.number place) old new)
+            (λ why. IsUntried s (HasNoPiece held.old.number place) old why new) }
     {
         if place >= held.behind.node.inbox_len() {
             return Err(TryFault::Nothing);
@@ -55,7 +56,8 @@ impl<N: Member, T: Luggage> Cluster<N, T> {
         ensures told { let s = shape_of self.now in
             let old = view_of pass.old in
             let new = view_of pass.new in
-            MatchResult result (λ _. Alone s node old new (Comes s (event.Handle node place))) (λ why. IsNotTried s node (HasNoPiece node place) old why new) }
+            MatchResult result (λ _. Alone s node old new (Comes s (event.Handle node place)))
+            (λ why. IsNotTried s node (HasNoPiece node place) old why new) }
     {
         match self.hold(pass, node) {
             Ok(mut held) => {
@@ -82,7 +84,8 @@ impl<N: Member> Cluster<N, ()> {
         ensures told { let s = shape_of self.now in
             let old = view_of pass.old in
             let new = view_of pass.new in
-            MatchResult result (λ answer. IsDone s (event.Collect held.old.number) old answer new) (λ why. IsUntried s (HasNoAnswer held.old.number) old why new) }
+            MatchResult result (λ answer. IsDone s (event.Collect held.old.number) old answer new)
+            (λ why. IsUntried s (HasNoAnswer held.old.number) old why new) }
     {
         if !held.behind.node.is_ready() {
             return Err(TryFault::Nothing);
@@ -109,7 +112,8 @@ impl<N: Member> Cluster<N, ()> {
         ensures told { let s = shape_of self.now in
             let old = view_of pass.old in
             let new = view_of pass.new in
-            MatchResult result (λ answer. Alone s node old new (λ held done. IsDone s (event.Collect node) held answer done)) (λ why. IsNotTried s node (HasNoAnswer node) old why new) }
+            MatchResult result (λ answer. Alone s node old new (λ held done. IsDone s (event.Collect node) held answer done))
+            (λ why. IsNotTried s node (HasNoAnswer node) old why new) }
     {
         match self.hold(pass, node) {
             Ok(mut held) => {
@@ -136,7 +140,8 @@ impl<N: Member> Cluster<N, ()> {
             let i = held.old.number in
             let old = view_of pass.old in
             let new = view_of pass.new in
-            MatchResult result (λ answer. IsDone s (event.Call i call) old answer new) (λ fault. (fault.back ≡ call) × IsUntried s (HasNoCall i call) old fault.why new) }
+            MatchResult result (λ answer. IsDone s (event.Call i call) old answer new)
+            (λ fault. (fault.back ≡ call) × IsUntried s (HasNoCall i call) old fault.why new) }
     {
         if !may_make(&held.behind.node, &call) {
             return Err(NotTried {
