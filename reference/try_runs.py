@@ -1,4 +1,4 @@
-"""Runs scripts of many nodes under many orders, and holds each answer against the reference of runs.py.
+"""Runs scripts of many nodes under many orders, and holds each answer against the reference.
 
 usage: try_runs.py [--from FIRST] [--count COUNT] [CRL], where CRL is the program, as `rt run` leaves it in
 crates/crl/out. For each seed from FIRST (0) on, COUNT (100) of them, it tries
@@ -8,17 +8,20 @@ crates/crl/out. For each seed from FIRST (0) on, COUNT (100) of them, it tries
 - a script at random with sections inside others, deletes, refused calls, regions of several pieces and rounds that
   don't fit, under the same orders: with status 0 or 3.
 
-`check` has to say `legal` of each account. The status is 1 where an answer is another.
+Each account has to be right by runs.py, which doesn't know the protocol, and to be, byte for byte, the one of
+protocol.py, which does; and `check` has to say `legal` of it. The status is 1 where an answer is another.
 """
 
 import collections
+import itertools
 import os
 import random
 import subprocess
 import sys
 
+from protocol import account as account_of
 from runs import faults_of
-from words import generated
+from words import generated, words as words_of
 
 HERE = os.path.dirname(os.path.abspath(__file__))
 
@@ -27,6 +30,15 @@ def run(crl, words, text):
     """The status and the bytes that the program gives."""
     done = subprocess.run([crl, *words], input=text, stdout=subprocess.PIPE, check=False)
     return done.returncode, done.stdout
+
+
+def turn_words(words):
+    """The word of each turn, by the words of an order."""
+    if words[0] == "seed":
+        return words_of(int(words[1]))
+    picks = [item.split("*") for item in words[1].split(",")] if words[0] == "picks" else []
+    values = (int(value) for value, *times in picks for _ in range(int(times[0]) if times else 1))
+    return itertools.chain(values, itertools.repeat(0))
 
 
 class Writer:
@@ -153,6 +165,8 @@ class Trial:
         """One run, which has to be right and to end with one of the statuses that are wanted."""
         status, account = run(self.crl, ["order", *words], text)
         faults = faults_of(text, status, account)
+        if account != account_of(text, turn_words(words)):
+            faults.append("another account than protocol.py gives")
         if status not in wanted:
             faults.append("status %d" % status)
         nodes = text.split()[1].decode()
