@@ -23,6 +23,11 @@ SUMMARIES = {
     (1, 8, 100, 10_000): "sections 40106 events 436721 messages 130211",
     (1, 16, 50, 10_000): "sections 80353 events 972697 messages 308170",
     (1, 16, 100, 5_000): "sections 40106 events 492755 messages 155553",
+    (1, 16, 100, 10_000): "sections 80353 events 973823 messages 307714",
+    (5, 32, 1_000, 3_000): "sections 47849 events 824740 messages 257528",
+    (5, 64, 500, 3_000): "sections 96292 events 1480173 messages 476904",
+    (5, 64, 1_000, 1_500): "sections 47849 events 1067104 messages 330115",
+    (5, 64, 1_000, 3_000): "sections 96292 events 1699663 messages 538662",
 }
 
 
