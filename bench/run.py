@@ -115,16 +115,28 @@ def all_created(count, script, account):
     account.write("events %d messages 0\n" % count)
 
 
+def write_bytes(account, size, first, last):
+    """So many zeros but for the first and the last byte. They are written in parts: what this process has taken
+    of memory at most counts as the program's too."""
+    account.write(first + "00" * (PIECE - 2))
+    for _ in range(size // PIECE - 1):
+        account.write("00" * PIECE)
+    account.write("00" + last)
+
+
 def large_region(count, script, account):
     """A region of so many MiB, which node 0 creates, and node 1 writes, flushes and reads."""
     size = count * MEBIBYTE
     pieces = size // PIECE
-    zeros, ones = "00" * size, "01" + "00" * (size - 2) + "02"
     script.write("nodes 2\nnode 0\ncreate a %d\nbarrier\nnode 1\nbarrier\nmap a\n" % size)
     script.write("write a\nput a 0 01\nput a %d 02\nendwrite a\nflush a\nread a\nendread a\n" % (size - 1))
     account.write("0 create 0:1 %d\n0 come barrier\n1 come barrier\n0 barrier 1\n1 barrier 1\n" % size)
-    account.write("1 map 0:1 %d\n1 startwrite 0:1\n1 write 0:1 %s %s\n1 flush 0:1\n" % (size, zeros, ones))
-    account.write("1 startread 0:1\n1 read 0:1 %s\nregion 0:1 %s\n" % (ones, ones))
+    account.write("1 map 0:1 %d\n1 startwrite 0:1\n1 write 0:1 " % size)
+    write_bytes(account, size, "00", "00")
+    for front in (" ", "\n1 flush 0:1\n1 startread 0:1\n1 read 0:1 ", "\nregion 0:1 "):
+        account.write(front)
+        write_bytes(account, size, "01", "02")
+    account.write("\n")
     # A come and its result, a map, two asks; and the bytes three times: to node 1, back, and to it again.
     messages = 6 + 3 * pieces
     # Nine calls, and the answers to two barriers, a map and two sections.

@@ -423,7 +423,7 @@ class Node:
             self.forget(name)
             return
         self.cache.append(name)
-        if len(self.cache) > self.world.capacity:
+        if len(self.cache) > self.world.plan.cache:
             self.forget(self.cache.pop(0))
 
     def flush(self, name):
@@ -499,10 +499,6 @@ def shown(word):
 class World:
     def __init__(self, text):
         self.plan = Plan(text)
-        self.capacity = 16
-        for line in text.decode().splitlines():
-            if line.split()[:1] == ["cache"]:
-                self.capacity = int(line.split()[1])
         self.nodes = [Node(number, self) for number in range(self.plan.nodes)]
         self.parts, self.lines, self.messages, self.events, self.notes = {}, [], 0, 0, []
 

@@ -19,16 +19,18 @@ class Plan:
     """A script: the statements of each node, with names in the place of labels, and each region's size."""
 
     def __init__(self, text):
-        lines = [line.split() for line in text.decode().splitlines()]
+        lines = [line.split() for line in text.decode("latin-1").split("\n")]
         lines = [line for line in lines if line and not line[0].startswith("#")]
-        self.nodes = int(lines[0][1])
+        self.nodes, self.cache = int(lines[0][1]), 16
         self.statements = [[] for _ in range(self.nodes)]
         self.sizes = {}
         names, block, used = {}, 0, [0] * self.nodes
         for line in lines[1:]:
             if line[0] == "node":
                 block = int(line[1])
-            elif line[0] != "cache":
+            elif line[0] == "cache":
+                self.cache = int(line[1])
+            else:
                 self.statements[block].append(line)
             if line[0] == "create":
                 used[block] += 1
