@@ -121,7 +121,7 @@ def write_bytes(account, size, first, last):
     account.write(first + "00" * (PIECE - 2))
     for _ in range(size // PIECE - 1):
         account.write("00" * PIECE)
-    account.write("00" + last)
+    account.write(last)
 
 
 def large_region(count, script, account):
