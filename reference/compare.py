@@ -3,8 +3,8 @@
 usage: compare.py [--more] [CRL], where CRL is the program, as `rt run` leaves it in crates/crl/out. With --more
 it tries further changes, of bytes and of lines.
 
-Of a script that has no fault the program says what it printed of the run, or `bad script 0 NotYet`. That is not
-looked at here. The status is 1 where an answer is another.
+A script that has no fault is run, and has the account that protocol.py gives. The status is 1 where an answer is
+another.
 """
 
 import functools
@@ -15,6 +15,8 @@ import sys
 
 from grammar import account_answer, script_fault
 from make_cases import ACCOUNTS, HERE, SCRIPTS, changes, text_of
+from protocol import account as account_of
+from runs import faults_of
 
 STATUSES = {"legal": 0, "illegal": 7, "bad": 8}
 
@@ -29,7 +31,8 @@ def script_is_right(crl, text):
     fault = script_fault(text)
     status, printed = run(crl, ["order", "first"], text)
     if fault is None:
-        return status == 0 or (status, printed) == (2, "bad script 0 NotYet\n")
+        right = printed.encode() == account_of(text, itertools.repeat(0))
+        return right and not faults_of(text, status, printed.encode())
     return (status, printed) == (2, "bad script %d %s\n" % fault)
 
 
