@@ -1,13 +1,13 @@
 //! Sources and sinks that fail, at each place where they can.
 
-use crl_cases::trial::{ROOM, Answer, run, shown, words_of};
+use crl_cases::trial::{Answer, ROOM, run, shown, words_of};
 use crl_cli::status::Status;
 use crl_model::OutOfMemory;
 use crl_model::bytes::Bytes;
 use crl_outside::memory_source::MemorySource;
 use std::alloc::Global;
 
-/// A script of two nodes that share a region. It has 83 bytes.
+/// A script of two nodes that share a region. It has 80 bytes.
 const SCRIPT: &str = "\
 nodes 2
 node 0
@@ -39,8 +39,8 @@ events 23 messages 6
 /// The most bytes that a pull gives here, where a test doesn't say otherwise.
 const STEP: usize = 8;
 
-/// How many pulls take the whole script: ten give 8 bytes, the next gives the other 3, and one more finds the end.
-const PULLS: u64 = 12;
+/// How many pulls take the whole script: ten give 8 bytes each, and one more finds the end.
+const PULLS: u64 = 11;
 
 /// The run of a text with these words, from a source whose pulls give so many bytes, and of which one fails.
 fn faulty(
@@ -71,7 +71,11 @@ fn each_failing_pull_is_a_read_fault(rt: HostRuntime) -> Result<(), OutOfMemory>
         };
         for (room, wanted) in [(ROOM, read), (0, nothing)] {
             let answer = faulty(rt.alloc(), "order first", SCRIPT, STEP, pull, room)?;
-            assert_eq!(rt; shown(rt.alloc(), &answer)?.as_str(), wanted, "at pull {pull}");
+            assert_eq!(rt;
+                shown(rt.alloc(), &answer)?.as_str(),
+                wanted,
+                "at pull {pull}"
+            );
         }
     }
     Ok(())
@@ -83,7 +87,11 @@ fn a_slow_source_gives_the_same(rt: HostRuntime) -> Result<(), OutOfMemory> {
     for step in 1..SCRIPT.len() {
         let answer = faulty(rt.alloc(), "order first", SCRIPT, step, 0, ROOM)?;
         assert_eq!(rt; answer.status, Status::Ok, "by steps of {step}");
-        assert_eq!(rt; answer.sink.held(), ACCOUNT.as_bytes(), "by steps of {step}");
+        assert_eq!(rt;
+            answer.sink.held(),
+            ACCOUNT.as_bytes(),
+            "by steps of {step}"
+        );
     }
     Ok(())
 }
@@ -100,17 +108,35 @@ fn each_full_sink_holds_the_first_bytes(rt: HostRuntime) -> Result<(), OutOfMemo
             Status::Stuck,
             "0 come barrier\nstuck 0 round 1 without 1\nevents 1 messages 0\n",
         ),
-        ("order first", "", Status::BadScript, "bad script 1 NoNodes\n"),
+        (
+            "order first",
+            "",
+            Status::BadScript,
+            "bad script 1 NoNodes\n",
+        ),
         ("order", "", Status::Usage, "usage: crl COMMAND\n"),
-        ("check 1", "1 create 1:1 1\n", Status::Illegal, "illegal 1\n"),
+        (
+            "check 1",
+            "1 create 1:1 1\n",
+            Status::Illegal,
+            "illegal 1\n",
+        ),
         ("check 1", "\n", Status::BadAccount, "bad account 1\n"),
         ("check 1", "", Status::Ok, "legal\n"),
     ];
     for (line, script, status, text) in cases {
         for room in 0..text.len() + 1 {
             let answer = faulty(rt.alloc(), line, script, ROOM, 0, room)?;
-            let wanted = if room < text.len() { Status::WriteFault } else { status };
-            assert_eq!(rt; answer.status, wanted, "of {script} with room for {room} bytes");
+            let wanted = if room < text.len() {
+                Status::WriteFault
+            } else {
+                status
+            };
+            assert_eq!(rt;
+                answer.status,
+                wanted,
+                "of {script} with room for {room} bytes"
+            );
             assert_eq!(rt; answer.sink.held(), &text.as_bytes()[..room]);
         }
     }

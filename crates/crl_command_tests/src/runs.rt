@@ -45,7 +45,11 @@ fn judged(alloc: Global, case: &str) -> Result<String, OutOfMemory> {
 fn accounts_are_legal(rt: HostRuntime) -> Result<(), OutOfMemory> {
     for page in [SECTIONS, REFUSALS, ORDERS, COPIES, DELETES, ROUNDS, STUCK] {
         for case in page.split('%') {
-            assert_eq!(rt; judged(rt.alloc(), case)?.as_str(), "0|\nlegal\n", "of {case}");
+            assert_eq!(rt;
+                judged(rt.alloc(), case)?.as_str(),
+                "0|\nlegal\n",
+                "of {case}"
+            );
         }
     }
     Ok(())
@@ -61,7 +65,13 @@ fn the_program_prints_behind_what_was_printed(rt: HostRuntime) -> Result<(), Fai
         let status = top(&rt, rt.alloc(), words.as_slice(), &mut source, &mut sink);
         assert_eq!(rt; status, Status::Ok);
         let mut source = SafeSource::new(Bytes::copy_of(rt.alloc(), script.as_bytes())?);
-        let status = top(&rt, rt.alloc(), words.as_slice(), &mut source, &mut NullSink);
+        let status = top(
+            &rt,
+            rt.alloc(),
+            words.as_slice(),
+            &mut source,
+            &mut NullSink,
+        );
         assert_eq!(rt; status, Status::Ok);
     }
     assert_eq!(rt;

@@ -37,7 +37,10 @@ fn sums_are_of_128_bits(rt: HostRuntime) -> Result<(), OutOfMemory> {
     let sums = numbered(alloc, "", 0..64, " sum 1 590295810358705651648\n")?;
     let script = format!(in alloc; "nodes 64\n{blocks}")?;
     let wanted = format!(in alloc; "0|\n{come}{sums}events 380 messages 126\n")?;
-    assert_eq!(rt; answered(alloc, "order first", script.as_bytes())?.as_str(), wanted.as_str());
+    assert_eq!(rt;
+        answered(alloc, "order first", script.as_bytes())?.as_str(),
+        wanted.as_str()
+    );
     Ok(())
 }
 
@@ -45,10 +48,12 @@ fn sums_are_of_128_bits(rt: HostRuntime) -> Result<(), OutOfMemory> {
 #[test]
 fn regions_go_in_pieces(rt: HostRuntime) -> Result<(), OutOfMemory> {
     let alloc = rt.alloc();
-    let script = "nodes 2\nnode 0\ncreate a 32769\nnode 1\nmap a\nwrite a\nput a 32768 07\nendwrite a\nflush a\n";
+    let script =
+        "nodes 2\nnode 0\ncreate a 32769\nnode 1\nmap a\nwrite a\nput a 32768 07\nendwrite a\nflush a\n";
     let mut front = String::new(alloc);
     push_often(&mut front, "00", 32_768)?;
-    let wanted = format!(in alloc; "\
+    let wanted = format!(in alloc;
+        "\
 0|
 0 create 0:1 32769
 1 map 0:1 32769
@@ -57,7 +62,8 @@ fn regions_go_in_pieces(rt: HostRuntime) -> Result<(), OutOfMemory> {
 1 flush 0:1
 region 0:1 {front}07
 events 21 messages 7
-")?;
+"
+    )?;
     for words in ["order first", "order picks 0*10,1"] {
         let seen = answered(alloc, words, script.as_bytes())?;
         assert!(rt; seen.as_str() == wanted.as_str(), "of {words}");

@@ -49,7 +49,11 @@ fn tried(alloc: Global, words: &[String]) -> Result<(u8, bool), OutOfMemory> {
 #[test]
 fn words_are_a_command_or_the_usage(rt: HostRuntime) -> Result<(), OutOfMemory> {
     assert_eq!(rt; tried(rt.alloc(), &[])?, (1, true));
-    for (lines, wanted) in [(USAGE, (1, true)), (READING, (4, false)), (MAKING, (0, true))] {
+    for (lines, wanted) in [
+        (USAGE, (1, true)),
+        (READING, (4, false)),
+        (MAKING, (0, true)),
+    ] {
         for line in lines.split('%') {
             let words = words_of(rt.alloc(), line, '/')?;
             assert_eq!(rt; tried(rt.alloc(), words.as_slice())?, wanted, "of {line}");

@@ -157,12 +157,7 @@ fn why_of(mark: u8) -> &'static str {
 }
 
 /// What is wanted of a script that is cut behind a byte with this mark, in the line of this number.
-fn wanted_of(
-    alloc: Global,
-    mark: u8,
-    number: usize,
-    whole: &str,
-) -> Result<String, OutOfMemory> {
+fn wanted_of(alloc: Global, mark: u8, number: usize, whole: &str) -> Result<String, OutOfMemory> {
     if mark == b'+' {
         return String::from_str(alloc, whole);
     }

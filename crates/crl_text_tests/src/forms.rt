@@ -221,10 +221,16 @@ fn other_bytes_have_their_fault(rt: HostRuntime) -> Result<(), OutOfMemory> {
         (b"\xff", "2|\nbad script 1 NoNodes\n"),
         (b"nodes \xff\n", "2|\nbad script 1 BadNumber\n"),
         (b"nodes 1\n\xff", "2|\nbad script 2 BadWord\n"),
-        (b"nodes 1\nnode 0\ncreate \xc3 4\n", "2|\nbad script 3 BadWord\n"),
+        (
+            b"nodes 1\nnode 0\ncreate \xc3 4\n",
+            "2|\nbad script 3 BadWord\n",
+        ),
     ];
     for (script, wanted) in cases {
-        assert_eq!(rt; answered(rt.alloc(), "order first", script)?.as_str(), wanted);
+        assert_eq!(rt;
+            answered(rt.alloc(), "order first", script)?.as_str(),
+            wanted
+        );
     }
     Ok(())
 }

@@ -83,7 +83,11 @@ fn line_feeds_are_counted(rt: HostRuntime) -> Result<(), OutOfMemory> {
     ];
     for (len, wanted) in cases {
         let feeds = vec![in rt.alloc(); b'\n'; len]?;
-        assert_eq!(rt; answer_to(rt.alloc(), feeds)?.as_str(), wanted, "of {len} line feeds");
+        assert_eq!(rt;
+            answer_to(rt.alloc(), feeds)?.as_str(),
+            wanted,
+            "of {len} line feeds"
+        );
     }
     Ok(())
 }
@@ -91,12 +95,21 @@ fn line_feeds_are_counted(rt: HostRuntime) -> Result<(), OutOfMemory> {
 // A line has at most 140,000 bytes.
 #[test]
 fn long_lines_are_refused(rt: HostRuntime) -> Result<(), OutOfMemory> {
-    for (front, piece) in [("put a 0 ", "5a"), ("put a 0 5a", " "), ("map a", "a"), ("#", "0")] {
+    for (front, piece) in [
+        ("put a 0 ", "5a"),
+        ("put a 0 5a", " "),
+        ("map a", "a"),
+        ("#", "0"),
+    ] {
         let mut script = String::from_str(rt.alloc(), "nodes 1\nnode 0\n")?;
         script.push_str(front)?;
         push_often(&mut script, piece, 140_001)?;
         let seen = answered(rt.alloc(), "order first", script.as_bytes())?;
-        assert_eq!(rt; seen.as_str(), "2|\nbad script 3 LineTooLong\n", "of {front}");
+        assert_eq!(rt;
+            seen.as_str(),
+            "2|\nbad script 3 LineTooLong\n",
+            "of {front}"
+        );
     }
     Ok(())
 }
