@@ -1,10 +1,10 @@
-pub mod Parts
-pub mod Digits
-pub mod Plain
-pub mod Again
-pub mod Lines
-pub mod Held
-pub mod Stages
-pub mod Feeds
-pub mod Printed
-pub mod Elements
+mod Parts
+mod Digits
+mod Plain
+mod Again
+mod Lines
+mod Held
+mod Stages
+mod Feeds
+mod Printed
+mod Elements

@@ -1,4 +1,2 @@
-mod Agrees
-mod Parses
+mod Runs
 mod Says
-mod Walks

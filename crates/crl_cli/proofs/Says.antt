@@ -1,55 +1,61 @@
 -- What is said of the bytes that were read, from what is said of their parts.
-use Rattle.std.proofs.Common.{◌≡◌, ◌≤◌, ◌<◌, ◌+◌, ◌∙◌, ℕ, suc, List, ◌∷◌, length, sym, subst, ap, arith, length-append, Ok, Err}
-use Rattle.crl_machine.specs.SingleMachine.{State}
-use Rattle.crl_check.specs.Histories.{IsFirstIllegal}
+use Rattle.std.proofs.Common.{◌≡◌, ◌≤◌, ◌<◌, ◌+◌, ◌∙◌, ℕ, suc, Bool, true, false, if◌then◌else◌, List, [], ◌∷◌, length, sym, subst, ap, arith, length-append, Ok, Err}
 use Rattle.std.specs.Prelude.{IfOk, Result, None, Some}
-use Rattle.crl_script.specs.Program.{Program}
-use Rattle.crl_script.specs.Sentence.{script_of}
+use Rattle.std.specs.declared.option.Option.{Option}
+use Rattle.std.specs.Io.KnownBytes.{Appends}
 use Rattle.std.specs.List.{AllByRecursion}
 use Rattle.crl_model.specs.declared.entry.Entry.{Entry}
-use Rattle.crl_model.specs.declared.statement.Statement.{Statement}
 use Rattle.crl_model.specs.Reports.{Reported}
-use Rattle.crl_alone.specs.Reports.{IsReportOf}
+use Rattle.crl_machine.specs.SingleMachine.{State, start, after_all}
+use Rattle.crl_machine.specs.FinalRegions.{final_regions}
+use Rattle.crl_check.specs.Histories.{IsFirstIllegal}
+use Rattle.crl_order.specs.declared.order.Order.{Order}
+use Rattle.crl_order.specs.Words.{words_to_come}
+use Rattle.crl_script.specs.Program.{Program}
+use Rattle.crl_script.specs.Sentence.{script_of}
+use Rattle.crl_account.specs.Account.{lines_of, IsAccount}
 use Rattle.crl_account.specs.Text.{report_text}
 use Rattle.crl_account.specs.Reports.{HasBytes, IsPrintableReport}
 use Rattle.crl_printed.proofs.Laws.{printable_history, regions_filled}
 use Rattle.crl_outside.specs.Faults.{Rose}
-use Rattle.crl_account.specs.Account.{lines_of, IsAccount}
-use Rattle.crl_cli.specs.Commands.{command_of}
-use Rattle.crl_cli.specs.Texts.{usage_text, read_fault_text}
-use Rattle.crl_cli.specs.declared.command.Command.{Command}
-use Rattle.crl_cli.specs.declared.command.Command.TheVariants.{OrderFirst, Check}
-use Rattle.std.specs.declared.option.Option.{Option}
+use Rattle.crl_commands.specs.declared.command.Command.{Command}
+use Rattle.crl_commands.specs.declared.command.Command.TheVariants as command
+use Rattle.crl_commands.specs.declared.command.Recipe.{Recipe}
+use Rattle.crl_commands.specs.Commands.{command_of}
 use Rattle.crl_cli.specs.declared.TheConstants.{SCRIPT_LIMIT, ACCOUNT_LIMIT}
 use Rattle.crl_cli.specs.declared.outcome.Outcome.{Outcome}
 use Rattle.crl_cli.specs.declared.status.Status.{Status}
 use Rattle.crl_cli.specs.declared.status.Status.TheVariants as status
-use Rattle.crl_cli.specs.Outcome.{SaysOrder, SaysCheck, SaysEntries, Says, SaysOf, IsBadScript, IsBadAccount, not_yet, Asked, IsInput, IsRun, Comes, usage, read_fault, said, IsAlone, IsAccountOf}
+use Rattle.crl_cli.specs.Answers.{HasHeadline}
+use Rattle.crl_cli.specs.Outcome.{SaysOrder, SaysCheck, SaysEntries, Says, SaysOf, status_of, does_read, limit_of, IsBadScript, IsBadAccount, Asked, IsInput, Comes, usage, read_fault, said, made}
+use Rattle.crl_cli.specs.Runs.{IsHistoryOf}
+use Rattle.crl_cli.specs.Texts.{usage_text, read_fault_text}
 
-bad_one : (bytes text given : List ℕ) (s : Status) → IsBadScript bytes text → s ≡ status.BadScript → given ≡ text → SaysOrder s bytes given
-bad_one bytes text given s bad is same = rw (is, same) bad
+bad_one : (words : ℕ → ℕ) (bytes text given : List ℕ) (s : Status) → IsBadScript bytes text → s ≡ status.BadScript → given ≡ text → SaysOrder words s bytes given
+bad_one words bytes text given s bad is same = rw (is, same) bad
 
--- the answer to bytes that aren't a script that can be run
-pub bad_bytes : {E : Type 0} (r : Result Outcome E) (bytes text : List ℕ) → IsBadScript bytes text → IfOk r (λ o. o.status ≡ status.BadScript) → IfOk r (λ o. o.text.items ≡ text)
-    → IfOk r (λ o. SaysOrder o.status bytes o.text.items)
-bad_bytes (Ok o) bytes text bad is same = bad_one bytes text o.text.items o.status bad is same
-bad_bytes (Err e) bytes text bad is same = tt
+-- the answer to bytes that aren't a script
+pub bad_bytes : {E : Type 0} (r : Result Outcome E) (words : ℕ → ℕ) (bytes text : List ℕ) → IsBadScript bytes text → IfOk r (λ o. o.status ≡ status.BadScript) → IfOk r (λ o. o.text.items ≡ text)
+    → IfOk r (λ o. SaysOrder words o.status bytes o.text.items)
+bad_bytes (Ok o) words bytes text bad is same = bad_one words bytes text o.text.items o.status bad is same
+bad_bytes (Err e) words bytes text bad is same = tt
 
-of_script : (s : Status) (bytes text : List ℕ) (program : Program) → length bytes ≤ SCRIPT_LIMIT → script_of bytes ≡ Ok program → SaysOf s program text → SaysOrder s bytes text
-of_script status.Ok bytes text program within reads h = record { program = program; within = within; reads = reads; account = h }
-of_script status.BadScript bytes text program within reads h = rw h.1 (not_yet program within reads h.0)
-of_script status.Usage bytes text program within reads h = h
-of_script status.ReadFault bytes text program within reads h = h
-of_script status.WriteFault bytes text program within reads h = h
-of_script status.OutOfMemory bytes text program within reads h = h
-of_script status.Illegal bytes text program within reads h = h
-of_script status.BadAccount bytes text program within reads h = h
+of_script : (words : ℕ → ℕ) (s : Status) (bytes text : List ℕ) (program : Program) → length bytes ≤ SCRIPT_LIMIT → script_of bytes ≡ Ok program → SaysOf words s program text → SaysOrder words s bytes text
+of_script words status.Ok bytes text program within reads h = record { program = program; within = within; reads = reads; account = h }
+of_script words status.Stuck bytes text program within reads h = record { program = program; within = within; reads = reads; account = h }
+of_script words status.BadScript bytes text program within reads h = absurd h
+of_script words status.Usage bytes text program within reads h = h
+of_script words status.ReadFault bytes text program within reads h = h
+of_script words status.WriteFault bytes text program within reads h = h
+of_script words status.OutOfMemory bytes text program within reads h = h
+of_script words status.Illegal bytes text program within reads h = h
+of_script words status.BadAccount bytes text program within reads h = h
 
 -- the answer to bytes that are a script
-pub read_bytes : {E : Type 0} (r : Result Outcome E) (bytes : List ℕ) (program : Program) → length bytes ≤ SCRIPT_LIMIT → script_of bytes ≡ Ok program
-    → IfOk r (λ o. SaysOf o.status program o.text.items) → IfOk r (λ o. SaysOrder o.status bytes o.text.items)
-read_bytes (Ok o) bytes program within reads h = of_script o.status bytes o.text.items program within reads h
-read_bytes (Err e) bytes program within reads h = tt
+pub read_bytes : {E : Type 0} (r : Result Outcome E) (words : ℕ → ℕ) (bytes : List ℕ) (program : Program) → length bytes ≤ SCRIPT_LIMIT → script_of bytes ≡ Ok program
+    → IfOk r (λ o. SaysOf words o.status program o.text.items) → IfOk r (λ o. SaysOrder words o.status bytes o.text.items)
+read_bytes (Ok o) words bytes program within reads h = of_script words o.status bytes o.text.items program within reads h
+read_bytes (Err e) words bytes program within reads h = tt
 
 bad_account_one : (nodes : ℕ) (bytes text given : List ℕ) (s : Status) → IsBadAccount bytes text → s ≡ status.BadAccount → given ≡ text → SaysCheck nodes s bytes given
 bad_account_one nodes bytes text given s bad is same = rw (is, same) bad
@@ -64,6 +70,7 @@ of_entries : (s : Status) (nodes : ℕ) (bytes text : List ℕ) (entries : List 
 of_entries status.Ok nodes bytes text entries within account h = record { within = within; entries = entries; account = account; legal = h.0; says = h.1 }
 of_entries status.Illegal nodes bytes text entries within account h = record { within = within; entries = entries; account = account; place = h.0; first = h.1; says = h.2 }
 of_entries status.Usage nodes bytes text entries within account h = h
+of_entries status.Stuck nodes bytes text entries within account h = h
 of_entries status.BadScript nodes bytes text entries within account h = h
 of_entries status.ReadFault nodes bytes text entries within account h = h
 of_entries status.WriteFault nodes bytes text entries within account h = h
@@ -85,40 +92,96 @@ pub usage_comes : {E : Type 0} (r : Result Outcome E) (a : Asked) → command_of
 usage_comes (Ok o) a none is same = usage_one a o.status o.text.items none is same
 usage_comes (Err e) a none is same = tt
 
-fault_one : (a : Asked) (s : Status) (text : List ℕ) (command : Command) → command_of a.words ≡ Some command → Rose a.faults a.faults_later → s ≡ status.ReadFault → text ≡ read_fault_text → Comes a s text
-fault_one a s text command some rose is same = rw (is, same) (read_fault command some rose)
+fault_one : (a : Asked) (s : Status) (text : List ℕ) (c : Command) → command_of a.words ≡ Some c → does_read c ≡ true → Rose a.faults a.faults_later → s ≡ status.ReadFault → text ≡ read_fault_text → Comes a s text
+fault_one a s text c some reads rose is same = rw (is, same) (read_fault c some reads rose)
 
 -- the answer to a source that failed
-pub fault_comes : {E : Type 0} (r : Result Outcome E) (a : Asked) (command : Command) → command_of a.words ≡ Some command → Rose a.faults a.faults_later → IfOk r (λ o. o.status ≡ status.ReadFault) → IfOk r (λ o. o.text.items ≡ read_fault_text)
-    → IfOk r (λ o. Comes a o.status o.text.items)
-fault_comes (Ok o) a command some rose is same = fault_one a o.status o.text.items command some rose is same
-fault_comes (Err e) a command some rose is same = tt
+pub fault_comes : {E : Type 0} (r : Result Outcome E) (a : Asked) (c : Command) → command_of a.words ≡ Some c → does_read c ≡ true → Rose a.faults a.faults_later → IfOk r (λ o. o.status ≡ status.ReadFault)
+    → IfOk r (λ o. o.text.items ≡ read_fault_text) → IfOk r (λ o. Comes a o.status o.text.items)
+fault_comes (Ok o) a c some reads rose is same = fault_one a o.status o.text.items c some reads rose is same
+fault_comes (Err e) a c some reads rose is same = tt
 
 -- the answer of a command to the bytes that were read
-pub said_comes : {E : Type 0} (r : Result Outcome E) (a : Asked) (command : Command) (bytes : List ℕ) → command_of a.words ≡ Some command → IsInput command a.left a.later bytes
-    → IfOk r (λ o. Says command o.status bytes o.text.items) → IfOk r (λ o. Comes a o.status o.text.items)
-said_comes (Ok o) a command bytes some input h = said command o.status bytes o.text.items some input h
-said_comes (Err e) a command bytes some input h = tt
+pub said_comes : {E : Type 0} (r : Result Outcome E) (a : Asked) (c : Command) (bytes : List ℕ) → command_of a.words ≡ Some c → does_read c ≡ true → IsInput (limit_of c) a.left a.later bytes
+    → IfOk r (λ o. Says c o.status bytes o.text.items) → IfOk r (λ o. Comes a o.status o.text.items)
+said_comes (Ok o) a c bytes some reads input h = said c o.status bytes o.text.items some reads input h
+said_comes (Err e) a c bytes some reads input h = tt
 
-run_of : (s : Status) (bytes text : List ℕ) → SaysOrder s bytes text → s ≡ status.Ok → IsRun bytes text
-run_of status.Ok bytes text h e = h
-run_of status.BadScript bytes text h e = cc
-run_of status.Usage bytes text h e = absurd h
-run_of status.ReadFault bytes text h e = absurd h
-run_of status.WriteFault bytes text h e = absurd h
-run_of status.OutOfMemory bytes text h e = absurd h
-run_of status.Illegal bytes text h e = absurd h
-run_of status.BadAccount bytes text h e = absurd h
+-- the answer of a command that reads nothing
+pub made_comes : {E : Type 0} (r : Result Outcome E) (a : Asked) (c : Command) → command_of a.words ≡ Some c → does_read c ≡ false
+    → IfOk r (λ o. Says c o.status [] o.text.items) → IfOk r (λ o. Comes a o.status o.text.items)
+made_comes (Ok o) a c some reads h = made c o.status o.text.items some reads h
+made_comes (Err e) a c some reads h = tt
 
-not_check : (n : ℕ) (o : Option Command) → o ≡ Some (Check n) → o ≡ Some OrderFirst → ⊥
-not_check n o e h = cc
+-- No command says that a push failed, or that memory was wanting.
+says_no_fault : (c : Command) (bytes text : List ℕ) → Says c status.WriteFault bytes text → ⊥
+says_no_fault (command.Order order) bytes text h = h
+says_no_fault (command.Check nodes) bytes text h = h
+says_no_fault (command.Gen recipe) bytes text h = h
+says_no_fault (command.Summary recipe) bytes text h = h
 
--- Ok, where the words are those of a run, is the account of a script
-pub ran : (a : Asked) (s : Status) (text : List ℕ) → Comes a s text → s ≡ status.Ok → command_of a.words ≡ Some OrderFirst → (bytes : List ℕ) × IsInput OrderFirst a.left a.later bytes × IsRun bytes text
-ran a s text (usage none) e first = cc
-ran a s text (read_fault command some rose) e first = cc
-ran a s text (said OrderFirst status bytes shown some input h) e first = (bytes, input, run_of status bytes text h e)
-ran a s text (said (Check n) status bytes shown some input h) e first = absurd (not_check n (command_of a.words) some first)
+says_no_want : (c : Command) (bytes text : List ℕ) → Says c status.OutOfMemory bytes text → ⊥
+says_no_want (command.Order order) bytes text h = h
+says_no_want (command.Check nodes) bytes text h = h
+says_no_want (command.Gen recipe) bytes text h = h
+says_no_want (command.Summary recipe) bytes text h = h
+
+pub comes_no_fault : (a : Asked) (s : Status) (text : List ℕ) → Comes a s text → s ≡ status.WriteFault → ⊥
+comes_no_fault a s text (usage none) e = cc
+comes_no_fault a s text (read_fault c some reads rose) e = cc
+comes_no_fault a s text (said c status bytes told some reads input says) e = says_no_fault c bytes told (subst (λ (x : Status). Says c x bytes told) e says)
+comes_no_fault a s text (made c status told some reads says) e = says_no_fault c [] told (subst (λ (x : Status). Says c x [] told) e says)
+
+pub comes_no_want : (a : Asked) (s : Status) (text : List ℕ) → Comes a s text → s ≡ status.OutOfMemory → ⊥
+comes_no_want a s text (usage none) e = cc
+comes_no_want a s text (read_fault c some reads rose) e = cc
+comes_no_want a s text (said c status bytes told some reads input says) e = says_no_want c bytes told (subst (λ (x : Status). Says c x bytes told) e says)
+comes_no_want a s text (made c status told some reads says) e = says_no_want c [] told (subst (λ (x : Status). Says c x [] told) e says)
+
+-- ---- the headline
+
+one_order : (a b : Order) (o : Option Command) → o ≡ Some (command.Order a) → o ≡ Some (command.Order b) → a ≡ b
+one_order a b o e h = cc
+
+not_order : (c : Command) (order : Order) (o : Option Command) → o ≡ Some c → o ≡ Some (command.Order order) → does_read c ≡ false → ⊥
+not_order (command.Order a) order o e h reads = cc
+not_order (command.Check nodes) order o e h reads = cc
+not_order (command.Gen recipe) order o e h reads = cc
+not_order (command.Summary recipe) order o e h reads = cc
+
+not_check : (n : ℕ) (order : Order) (o : Option Command) → o ≡ Some (command.Check n) → o ≡ Some (command.Order order) → ⊥
+not_check n order o e h = cc
+
+not_made : (recipe : Recipe) (order : Order) (o : Option Command) → o ≡ Some (command.Gen recipe) → o ≡ Some (command.Order order) → ⊥
+not_made recipe order o e h = cc
+
+not_summed : (recipe : Recipe) (order : Order) (o : Option Command) → o ≡ Some (command.Summary recipe) → o ≡ Some (command.Order order) → ⊥
+not_summed recipe order o e h = cc
+
+-- what is said of a script and printed whole
+printed_whole : (order : Order) (left later held held_later : Option (List ℕ)) (s : Status) (bytes text : List ℕ) → IsInput SCRIPT_LIMIT left later bytes → SaysOrder (words_to_come order) s bytes text
+    → Appends held held_later text → HasHeadline order left later held held_later s
+printed_whole order left later held held_later status.Ok bytes text input says shown = record { bytes = bytes; text = text; input = input; run = says; shown = shown }
+printed_whole order left later held held_later status.Stuck bytes text input says shown = record { bytes = bytes; text = text; input = input; run = says; shown = shown }
+printed_whole order left later held held_later status.Usage bytes text input says shown = tt
+printed_whole order left later held held_later status.BadScript bytes text input says shown = tt
+printed_whole order left later held held_later status.ReadFault bytes text input says shown = tt
+printed_whole order left later held held_later status.WriteFault bytes text input says shown = tt
+printed_whole order left later held held_later status.OutOfMemory bytes text input says shown = tt
+printed_whole order left later held held_later status.Illegal bytes text input says shown = tt
+printed_whole order left later held held_later status.BadAccount bytes text input says shown = tt
+
+-- What came for the words of a run, and was printed whole.
+pub headline : (a : Asked) (s : Status) (text : List ℕ) (held later : Option (List ℕ)) → Comes a s text → Appends held later text → (order : Order) → command_of a.words ≡ Some (command.Order order) → HasHeadline order a.left a.later held later s
+headline a s text held later (usage none) shown order is = tt
+headline a s text held later (read_fault c some reads rose) shown order is = tt
+headline a s text held later (said (command.Order other) status bytes told some reads input says) shown order is =
+    let same = one_order other order (command_of a.words) some is in
+    printed_whole order a.left a.later held later status bytes told input (subst (λ (o : Order). SaysOrder (words_to_come o) status bytes told) same says) shown
+headline a s text held later (said (command.Check n) status bytes told some reads input says) shown order is = absurd (not_check n order (command_of a.words) some is)
+headline a s text held later (said (command.Gen recipe) status bytes told some reads input says) shown order is = absurd (not_made recipe order (command_of a.words) some is)
+headline a s text held later (said (command.Summary recipe) status bytes told some reads input says) shown order is = absurd (not_summed recipe order (command_of a.words) some is)
+headline a s text held later (made c status told some reads says) shown order is = absurd (not_order c order (command_of a.words) some is reads)
 
 -- the first entry that is no legal step is one of the entries
 pub place_inside : (s : State) (es : List Entry) (i : ℕ) → IsFirstIllegal s es i → i < length es
@@ -128,15 +191,20 @@ place_inside s es i f =
 
 -- ---- what is printed of a script
 
--- what is reported of a script can be read again
-printable_report : (statements : List Statement) (report : Reported) → IsReportOf statements report → IsPrintableReport report
-printable_report statements report is = record {
-  entries = printable_history 1 report.entries is.legal;
-  regions = subst (AllByRecursion HasBytes) (sym is.regions) (regions_filled 1 report.entries is.legal);
+none_filled : (entries : List Entry) (stuck : Bool) (count : ℕ) → AllByRecursion HasBytes (final_regions (after_all (start count) entries))
+    → AllByRecursion HasBytes (if stuck then [] else final_regions (after_all (start count) entries))
+none_filled entries true count h = tt
+none_filled entries false count h = h
+
+-- what is reported of a run can be read again
+printable_report : (program : Program) (words : ℕ → ℕ) (stuck : Bool) (report : Reported) → IsHistoryOf program words stuck report → IsPrintableReport report
+printable_report program words stuck report is = record {
+  entries = printable_history program.nodes report.entries is.legal;
+  regions = subst (AllByRecursion HasBytes) (sym is.regions) (none_filled report.entries stuck program.nodes (regions_filled program.nodes report.entries is.legal));
 }
 
--- the text of what the run of a script of one node gives is its account
-pub account_of : (program : Program) (statements : List Statement) (report : Reported) (text : List ℕ) → IsAlone program statements → IsReportOf statements report → text ≡ report_text report
-    → (IsPrintableReport report → IsAccount (lines_of text) report.entries) → IsAccountOf program text
-account_of program statements report text alone is printed reads =
-    record { statements = statements; alone = alone; report = report; reported = is; printed = printed; judged = reads (printable_report statements report is) }
+-- the text of a run that ended is its account
+pub account_of : (program : Program) (words : ℕ → ℕ) (stuck : Bool) (report : Reported) (text : List ℕ) → IsHistoryOf program words stuck report → text ≡ report_text report
+    → (IsPrintableReport report → IsAccount (lines_of text) report.entries) → SaysOf words (status_of stuck) program text
+account_of program words true report text is printed reads = record { report = report; history = is; printed = printed; judged = reads (printable_report program words true report is) }
+account_of program words false report text is printed reads = record { report = report; history = is; printed = printed; judged = reads (printable_report program words false report is) }

@@ -1,6 +1,7 @@
 //! `gen`: the script that a recipe makes.
 ghost use Rattle.std.specs.Prelude.{◌≡◌, IfOk};
 ghost use Rattle.crl_commands.specs.Commands.{IsRecipe};
+ghost use Rattle.crl_script.specs.Again.{IsPrintable};
 ghost use Rattle.crl_cli.specs.Outcome.{SaysMade};
 ghost use Rattle.crl_cli.specs.Runs.{made_of};
 
@@ -15,7 +16,8 @@ use std::alloc::Global;
 /// The script that a recipe makes.
 pub(crate) fn made_of(alloc: Global, recipe: Recipe) -> Result<Script, OutOfMemory>
     requires { IsRecipe recipe }
-    ensures { IfOk result (λ script. script ≡ made_of recipe) }
+    ensures made { IfOk result (λ script. script ≡ made_of recipe) }
+    ensures printable { IfOk result IsPrintable }
 {
     make(
         alloc,

@@ -15,11 +15,7 @@ use crl_script::{Script, ScriptFault, ScriptWhy, read_script};
 use std::alloc::Global;
 
 /// The run of the script that these bytes are, under this order.
-pub(crate) fn order_text(
-    alloc: Global,
-    bytes: &[u8],
-    order: Order,
-) -> Result<Outcome, OutOfMemory>
+pub(crate) fn order_text(alloc: Global, bytes: &[u8], order: Order) -> Result<Outcome, OutOfMemory>
     requires { length bytes.now ≤ SCRIPT_LIMIT + 1 }
     ensures { IfOk result (λ o. SaysOrder (words_to_come order) o.status bytes.now o.text.items) }
 {

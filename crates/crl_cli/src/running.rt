@@ -20,18 +20,20 @@ pub(crate) struct Ended {
 }
 
 /// Runs a script under an order, to its end. More statements than a run may have are more than memory has room for.
-pub(crate) fn run_script(
-    alloc: Global,
-    script: &Script,
-    order: Order,
-) -> Result<Ended, OutOfMemory>
+pub(crate) fn run_script(alloc: Global, script: &Script, order: Order) -> Result<Ended, OutOfMemory>
     ensures { IfOk result (λ e. IsHistoryOf script.now (words_to_come order) e.stuck e.report) }
 {
     reports_are_histories();
     if !script.fits() {
         return Err(OutOfMemory);
     }
-    match run::<Node>(alloc, script.blocks(), script.nodes(), script.cache(), order) {
+    match run::<Node>(
+        alloc,
+        script.blocks(),
+        script.nodes(),
+        script.cache(),
+        order,
+    ) {
         Ok(report) => Ok(Ended {
             stuck: false,
             report,

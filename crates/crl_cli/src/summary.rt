@@ -11,10 +11,10 @@ use crate::outcome::Outcome;
 use crate::running::run_script;
 use crate::status::Status;
 use crl_commands::command::Recipe;
-use crl_finish::unnested_scripts_finish;
-use crl_model::OutOfMemory;
+use crl_gen::made_scripts_finish;
 use crl_model::entry::{Entry, What};
 use crl_model::report::Report;
+use crl_model::{NodeNo, OutOfMemory};
 use crl_order::Order;
 use std::alloc::Global;
 
@@ -32,7 +32,7 @@ fn report_of(alloc: Global, recipe: Recipe) -> Result<Report, OutOfMemory>
     requires { IsRecipe recipe }
     ensures { IfOk result (λ report. IsHistoryOf (made_of recipe) (words_of_seed recipe.seed) false report) }
 {
-    unnested_scripts_finish();
+    made_scripts_finish();
     let script = made_of(alloc, recipe)?;
     let ended = run_script(alloc, &script, Order::seed(recipe.seed))?;
     if ended.stuck {
@@ -46,15 +46,36 @@ fn line_of(alloc: Global, recipe: Recipe, report: &Report) -> Result<Outcome, Ou
     ensures status { IfOk result (λ o. o.status ≡ Status.Ok) }
     ensures text { IfOk result (λ o. o.text.items ≡ summary_text recipe.nodes recipe.regions (sections_in report.now.entries) report.now.events report.now.messages) }
 {
-    let Recipe { nodes, regions, .. } = recipe;
     let sections = sections_in(report.entries.as_slice());
-    let events = report.events;
-    let messages = report.messages;
-    let text = format!(in alloc; "nodes {nodes} regions {regions} sections {sections} events {events} messages {messages}\n")?;
+    let text = summary_text(
+        alloc,
+        recipe.nodes,
+        recipe.regions,
+        sections,
+        report.events,
+        report.messages,
+    )?;
     Ok(Outcome {
         status: Status::Ok,
-        text: text.into_bytes(),
+        text,
     })
+}
+
+/// The line of these numbers.
+fn summary_text(
+    alloc: Global,
+    nodes: NodeNo,
+    regions: u16,
+    sections: usize,
+    events: u64,
+    messages: u64,
+) -> Result<Vec<u8>, OutOfMemory>
+    ensures { IfOk result (λ text. text.items ≡ summary_text nodes regions sections events messages) }
+{
+    let text = format!(in alloc;
+        "nodes {nodes} regions {regions} sections {sections} events {events} messages {messages}\n"
+    )?;
+    Ok(text.into_bytes())
 }
 
 /// The number of sections that were ended.

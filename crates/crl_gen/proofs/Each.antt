@@ -1,5 +1,6 @@
 -- Lists that are joined, one after another.
-use Rattle.std.proofs.Common.{◌≡◌, ℕ, zero, suc, ◌+◌, ◌-◌, ◌<◌, ◌≤◌, List, [], ◌∷◌, ◌++◌, refl, ap, sym, ◌∙◌, arith, append_assoc, append-nil, subst, length}
+use Rattle.std.proofs.Common.{◌≡◌, ℕ, zero, suc, ◌+◌, ◌*◌, ◌-◌, ◌<◌, ◌≤◌, List, [], ◌∷◌, ◌++◌, refl, ap, sym, ◌∙◌, arith, append_assoc, append-nil, subst, length, length-append}
+use Rattle.std.specs.Prelude.{slice_index_or}
 use Rattle.std.specs.List.{AllByRecursion}
 use Rattle.crl_gen.specs.Making.{each_from}
 
@@ -30,10 +31,26 @@ pub all_join : {A : Type 0} (P : A → Type 0) (xs ys : List A) → AllByRecursi
 all_join P [] ys h k = k
 all_join P (x ∷ xs) ys h k = (h.0, all_join P xs ys h.1 k)
 
+pub all_below : {A : Type 0} (P : A → Type 0) (f : ℕ → List A) (i k : ℕ) → ((n : ℕ) → n < i + k → AllByRecursion P (f n)) → AllByRecursion P (each_from f i k)
+all_below P f i zero h = tt
+all_below P f i (suc k) h = all_join P (f i) (each_from f (i + 1) k) (h i (omega arith)) (all_below P f (i + 1) k (λ n below. h n (omega arith)))
+
 pub all_each : {A : Type 0} (P : A → Type 0) (f : ℕ → List A) → ((n : ℕ) → AllByRecursion P (f n)) → (i k : ℕ) → AllByRecursion P (each_from f i k)
-all_each P f h i zero = tt
-all_each P f h i (suc k) = all_join P (f i) (each_from f (i + 1) k) (h i) (all_each P f h (i + 1) k)
+all_each P f h i k = all_below P f i k (λ n _. h n)
+
+next_multiple : (k most : ℕ) → k * most + most ≡ suc k * most
+next_multiple k most = grind arith
+
+pub length_most : {A : Type 0} (most : ℕ) (f : ℕ → List A) → ((n : ℕ) → length (f n) ≤ most) → (i k : ℕ) → length (each_from f i k) ≤ k * most
+length_most most f h i zero = omega arith
+length_most most f h i (suc k) =
+    let here = h i in let more = length_most most f h (i + 1) k in let l = length-append (f i) (each_from f (i + 1) k) in let e = next_multiple k most in omega arith
 
 pub length_each : {A : Type 0} (f : ℕ → A) (i k : ℕ) → length (each_from (λ n. f n ∷ []) i k) ≡ k
 length_each f i zero = refl
 length_each f i (suc k) = ap suc (length_each f (i + 1) k)
+
+pub get_each : {A : Type 0} (f : ℕ → A) (i k j n : ℕ) (other : A) → j < k → i + j ≡ n → slice_index_or (each_from (λ n. f n ∷ []) i k) j other ≡ f n
+get_each f i zero j n other h e = absurd (omega arith)
+get_each f i (suc k) zero n other h e = let same : i ≡ n = omega arith in ap f same
+get_each f i (suc k) (suc j) n other h e = get_each f (i + 1) k j n other (omega arith) (omega arith)

@@ -1,4 +1,7 @@
 mod Each
-mod Unnested
+pub mod Laws
+mod Named
+mod Printable
 mod Statements
+mod Unnested
 mod WordLemmas

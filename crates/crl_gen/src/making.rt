@@ -2,6 +2,7 @@
 ghost use Rattle.std.specs.Prelude.{◌≡◌, ◌+◌, ◌*◌, ◌<◌, ◌≤◌, ◌^◌, ◌++◌, IfOk, OnOk, map, length};
 ghost use Rattle.crl_order.specs.Words.{words_of_seed};
 ghost use Rattle.crl_gen.specs.Making.{block_made, script_made};
+ghost use Rattle.crl_script.specs.Again.{IsPrintable};
 
 use crate::CACHE;
 use crate::rounds::{push_call, push_creates, push_maps, push_rounds, push_unmaps};
@@ -15,7 +16,8 @@ use std::alloc::Global;
 
 /// The script that a seed makes for so many nodes, regions and rounds of each node. Each node creates its share of the
 /// regions, maps all, does its rounds, which read, write, flush, or unmap and map one region each, and unmaps all; barriers
-/// stand around the maps and the rounds.
+/// stand around the maps and the rounds. The script is read again from its canonical text where all nodes together have at
+/// most 2^24 rounds.
 ///
 /// # Errors
 ///
@@ -29,7 +31,8 @@ pub fn make(
 ) -> Result<Script, OutOfMemory>
     requires nodes { (1 ≤ nodes) × (nodes ≤ 64) }
     requires regions { 1 ≤ regions }
-    ensures { IfOk result (λ script. script ≡ script_made (words_of_seed seed) nodes regions rounds) }
+    ensures made { IfOk result (λ script. script ≡ script_made (words_of_seed seed) nodes regions rounds) }
+    ensures printable { nodes * rounds ≤ 2 ^ 24 → IfOk result IsPrintable }
 {
     let mut words = Words::new(seed);
     let mut blocks = Vec::new(alloc);

@@ -1,5 +1,5 @@
 -- What a report of a run says: one history of a single machine with one array of byte regions.
-use Rattle.std.specs.Prelude.{◌≡◌, ℕ, ◌<◌, Bool, false, if◌then◌else◌, List, [], ◌∷◌, ◌++◌, length}
+use Rattle.std.specs.Prelude.{◌≡◌, ℕ, ◌<◌, ◌≤◌, ◌^◌, Bool, false, if◌then◌else◌, List, [], ◌∷◌, ◌++◌, length}
 use Rattle.crl_model.specs.declared.entry.Entry.{Entry}
 use Rattle.crl_model.specs.declared.entry.What.TheVariants as what
 use Rattle.crl_model.specs.declared.name.Name.{Name}
@@ -12,8 +12,11 @@ use Rattle.crl_protocol.specs.World.{new_world}
 use Rattle.crl_protocol.specs.Chosen.{Running, IsChosen, block_of}
 use Rattle.crl_protocol.specs.Ends.{report, is_stuck}
 use Rattle.crl_protocol.specs.Talk.{talk, AreLinesOf, lines_of_node}
+use Rattle.crl_deeds.specs.Laws.{AreStatements}
 use Rattle.crl_talk.specs.Script.{CallsAreThose}
+use Rattle.crl_stuck.specs.Ends.{statements_in}
 use Rattle.crl_stuck.specs.Stuck.{ReportNamesStuck}
+use Rattle.crl_run.specs.Reporting.{IsReportOf}
 
 -- the single machine's array after these entries
 abbrev pub array_after : ℕ → List Entry → Name → List ℕ
@@ -48,3 +51,9 @@ pub record IsOneHistory (count capacity : ℕ) (blocks : List (List Statement)) 
   pub regions : printed.regions ≡ (if stuck then [] else final_regions (after_all (start count) printed.entries))
   pub named : ReportNamesStuck end
   pub events : printed.events ≡ length end.events
+
+-- It is so of every run, of scripts of at most 2^40 statements.
+abbrev pub ReportsAreHistories : Type 0
+ReportsAreHistories =
+    (count capacity : ℕ) (blocks : List (List Statement)) (words : ℕ → ℕ) (stuck : Bool) (printed : Reported) → count ≤ 64 → AreStatements blocks → statements_in count blocks ≤ 2 ^ 40
+    → IsReportOf count capacity blocks words stuck printed → IsOneHistory count capacity blocks words stuck printed

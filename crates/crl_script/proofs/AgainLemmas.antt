@@ -51,7 +51,7 @@ small_blocks node (block ∷ blocks) h =
     (omega arith, small_blocks (node + 1) blocks (omega arith))
 
 -- how many regions a block creates
-made_most : (made : ℕ) (ss : List Statement) → (made ≤ made_by made ss) × (made_by made ss ≤ made + length ss)
+pub made_most : (made : ℕ) (ss : List Statement) → (made ≤ made_by made ss) × (made_by made ss ≤ made + length ss)
 made_most made [] = (omega arith, omega arith)
 made_most made (s ∷ ss) = let grows = made_grows made s in let more = made_most (made_after made s) ss in (omega arith, omega arith)
 

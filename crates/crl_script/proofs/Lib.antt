@@ -1,14 +1,17 @@
-pub mod AgainLemmas
-pub mod BlockLemmas
-pub mod BlockRun
-pub mod NumberLemmas
-pub mod PlainLemmas
-pub mod PlainRun
-pub mod ReadingLemmas
-pub mod RunLemmas
-pub mod ScriptRun
-pub mod SoundLemmas
-pub mod SpellLemmas
-pub mod StatementLemmas
-pub mod TextLemmas
+mod AgainLemmas
+mod BlockLemmas
+mod BlockRun
+pub mod Laws
+mod NumberLemmas
+mod PlainLemmas
+mod PlainRun
+mod PlainTexts
+mod ReadingLemmas
+mod RunLemmas
+mod ScriptRun
+mod ShortTexts
+mod SoundLemmas
+mod SpellLemmas
+mod StatementLemmas
+mod TextLemmas
 mod WordLengths

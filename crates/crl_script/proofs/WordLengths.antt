@@ -1,14 +1,14 @@
 -- No word of a line is longer than the line.
-use Rattle.std.proofs.Common.{◌≡◌, ℕ, ◌-◌, ◌≤◌, Bool, true, false, cond, List, [], ◌∷◌, length, take, arith}
+use Rattle.std.proofs.Common.{ℕ, ◌-◌, ◌≤◌, Bool, true, false, cond, List, [], ◌∷◌, length, take, arith}
 use Rattle.std.specs.Prelude.{◌==◌, filter, slice_index}
 use Rattle.std.specs.List.{AllByRecursion, slice_split, onto_first}
 use Rattle.std.proofs.lemmas.List.{length-take}
-use Rattle.crl_script.specs.Text.{Line, lines_of, lines_in, ended, is_blank, is_word, words_of, without_return}
+use Rattle.crl_script.specs.Text.{Line, lines_of, lines_in, is_blank, is_word, words_of, without_return}
 
 abbrev pub AllWithin : ℕ → List (List ℕ) → Type 0
 AllWithin n words = AllByRecursion (λ word. length word ≤ n) words
 
-abbrev FirstWithin : ℕ → List (List ℕ) → Type 0
+abbrev pub FirstWithin : ℕ → List (List ℕ) → Type 0
 FirstWithin n [] = Unit {0}
 FirstWithin n (word ∷ words) = length word ≤ n
 

@@ -92,9 +92,21 @@ name_in (Call c) = name_in_call c
 name_in (Put name offset bytes) = Some name
 name_in (Add name offset number) = Some name
 
+abbrev pub AllNamed : List (List Statement) → Type 0
+AllNamed blocks = AllByRecursion (λ block. AllByRecursion (λ s. IfSome (name_in s) (IsNamed blocks)) block) blocks
+
+-- a statement that brings no bytes: neither a put nor a send
+abbrev pub IsPlain : Statement → Type 0
+IsPlain (Call (call.Come (Send bytes))) = ⊥
+IsPlain (Put name offset bytes) = ⊥
+IsPlain _ = Unit {0}
+
+abbrev pub AllPlain : List (List Statement) → Type 0
+AllPlain blocks = AllByRecursion (λ block. AllByRecursion IsPlain block) blocks
+
 -- Each name in a script is I:k for a node I with at least k creates, no line of its canonical text is
 -- over 140,000 bytes, and that text has fewer than 2^32 bytes.
 pub record IsPrintable (p : Program) : Type 0 where
-  pub named : AllByRecursion (λ block. AllByRecursion (λ s. IfSome (name_in s) (IsNamed p.blocks)) block) p.blocks
+  pub named : AllNamed p.blocks
   pub lines : AllByRecursion (λ line. line.size ≤ 140000) (lines_of (canonical_of p))
   pub size : length (canonical_of p) < 2 ^ 32

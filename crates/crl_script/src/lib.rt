@@ -14,7 +14,7 @@ mod word;
 
 pub use crl_model::statement::Statement;
 pub use fault::{ScriptFault, ScriptWhy};
-pub use printing::print_script;
+pub use printing::{canonical_is_read_again, plain_scripts_are_printable, print_script};
 pub use reading::read_script;
 pub use script::Script;
 pub use word::natural;

@@ -1,7 +1,7 @@
 //! Prints a script.
-ghost use Rattle.std.specs.Prelude.{◌≡◌, ◌++◌, ◌∷◌, [], ◌+◌, ◌<◌, ◌≤◌, ◌^◌, IfOk, OnOk, codes, decimal, string_bytes};
+ghost use Rattle.std.specs.Prelude.{◌≡◌, ◌++◌, ◌∷◌, [], ◌+◌, ◌<◌, ◌≤◌, ◌^◌, IfOk, OnOk, length, map, sum, codes, decimal, string_bytes};
 ghost use Rattle.std.specs.Fmt.{signed_decimal};
-ghost use Rattle.crl_script.specs.Again.{IsScript, IsPrintable};
+ghost use Rattle.crl_script.specs.Again.{IsScript, IsPrintable, AllNamed, AllPlain};
 ghost use Rattle.crl_script.specs.Canonical.{block_text, blocks_text, call_words, canonical_of, label_of, label_text, line_text, made_after, node_text, part_words, statement_words};
 ghost use Rattle.crl_script.specs.Program.{Program};
 ghost use Rattle.crl_script.specs.Sentence.{script_of};
@@ -286,4 +286,11 @@ pub fn print_script(alloc: Global, script: &Script) -> Result<Vec<u8>, OutOfMemo
 #[tactic(auto, using(crate::proofs::AgainLemmas::again))]
 pub fn canonical_is_read_again()
     ensures { (p : Program) → IsScript p → IsPrintable p → script_of (canonical_of p) ≡ Ok p }
+{}
+
+/// A script is printable where it has at most 2^26 statements, none of which brings bytes, and each name in it is that of
+/// one of its creates.
+#[tactic(auto, using(crate::proofs::PlainTexts::plain_is_printable))]
+pub fn plain_scripts_are_printable()
+    ensures { (p : Program) → IsScript p → AllNamed p.blocks → AllPlain p.blocks → sum (map length p.blocks) ≤ 2 ^ 26 → IsPrintable p }
 {}
