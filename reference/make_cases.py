@@ -2,7 +2,7 @@
 
 usage: make_cases.py [--check]
 
-It writes the files of crates/crl_tests/src/changed, which hold the texts and the answers. With --check it writes
+It writes the files of crates/crl_text_tests/src/changed, which hold the texts and the answers. With --check it writes
 nothing, and its status is 1 where a file isn't what it would write.
 """
 
@@ -14,16 +14,15 @@ import textwrap
 from grammar import account_answer, script_fault
 
 HERE = os.path.dirname(os.path.abspath(__file__))
-CASES = os.path.join(HERE, "..", "crates", "crl_tests", "src", "changed")
+CASES = os.path.join(HERE, "..", "crates", "crl_text_tests", "src", "changed")
 
 # The texts, each with the nodes of `check` where it is an account.
 SCRIPTS = ["statements", "forms", "limits", "labels"]
 ACCOUNTS = [("sections", 2), ("rounds", 2), ("refusals", 2), ("stuck", 3)]
 
-# What a byte is changed to, as bytes and as the file says it.
-CUT, FLIP = "Change::Cut", "Change::Flip"
-BYTES = [(ord(mark), "Change::To(b'%s')" % mark) for mark in "09g -#"]
-BYTES += [(ord("\n"), r"Change::To(b'\n')"), (0xFF, "Change::To(0xff)")]
+# What a byte is changed to; a row of answers begins with its number.
+CUT, FLIP = "cut", "flip"
+BYTES = [ord(mark) for mark in "09g -#\n"] + [0xFF]
 
 MARKS = {
     "NoNodes": "n",
@@ -51,8 +50,8 @@ def with_byte(text, place, byte):
 def changes(text):
     """Each change with its texts: cut before each byte and behind the last, then each byte changed."""
     yield CUT, [text[:place] for place in range(len(text) + 1)]
-    for byte, shown in BYTES:
-        yield shown, [with_byte(text, place, byte) for place in range(len(text))]
+    for byte in BYTES:
+        yield str(byte), [with_byte(text, place, byte) for place in range(len(text))]
     yield FLIP, [with_byte(text, place, byte ^ 1) for place, byte in enumerate(text)]
 
 
@@ -83,26 +82,25 @@ def runs(marks):
     return "\n".join(textwrap.wrap(" ".join(counted), 98))
 
 
-def case(name, text, mark):
-    """The text and its answers as constants."""
-    rows = list(changes(text))
-    lines = ["", "/// The text `%s`." % name, "pub const %s: &[u8] = %s;" % (name.upper(), literal(text)), ""]
-    lines.append("/// Its answers.")
-    lines.append("pub const %s_ANSWERS: [(Change, &str); %d] = [" % (name.upper(), len(rows)))
-    for shown, texts in rows:
-        lines += ["    (", "        %s," % shown, '        "\\', runs(map(mark, texts)) + '",', "    ),"]
-    return "\n".join(lines + ["];", ""])
+def case(name, words, text, mark):
+    """The text, the words of its command and its answers."""
+    rows = ["%s %s" % (shown, runs(map(mark, texts))) for shown, texts in changes(text)]
+    return "\n".join(
+        ["    // %s" % name, "    Case {", '        words: "%s",' % words, "        text: %s," % literal(text)]
+        + ['        answers: "\\', "%\\\n".join(rows) + '",', "    },"]
+    )
 
 
 def file_of(what, cases):
-    head = "//! %s, and the answers to them when they are changed. Made by `reference/make_cases.py`.\n" % what
-    return head + "\nuse crate::changed::Change;\n" + "".join(cases)
+    head = "//! %s, and the answers to them when they are changed. Made by `reference/make_cases.py`.\n\n" % what
+    head += "use crate::changed::Case;\n\n/// The texts.\n"
+    return head + "pub const CASES: [Case; %d] = [\n%s\n];\n" % (len(cases), "\n".join(cases))
 
 
 def files():
-    scripts = [case(name, text_of(name, "script"), script_mark) for name in SCRIPTS]
+    scripts = [case(name, "", text_of(name, "script"), script_mark) for name in SCRIPTS]
     accounts = [
-        case(name, text_of(name, "account"), lambda text, nodes=nodes: account_mark(text, nodes))
+        case(name, "check %d" % nodes, text_of(name, "account"), lambda text, nodes=nodes: account_mark(text, nodes))
         for name, nodes in ACCOUNTS
     ]
     return {"scripts.rt": file_of("Scripts", scripts), "accounts.rt": file_of("Accounts", accounts)}

@@ -1,25 +1,41 @@
-//! Scripts, and the accounts that a single machine with one array gives.
+//! Runs of one node. Each account is what a single machine with one array gives, and was worked out by hand.
 
-use crate::runs::statements_give;
-use std::test::Fail;
-
-// A region begins as zeros, and stays when it is unmapped. It is mapped as often as it was mapped and not
-// unmapped since.
-#[test]
-fn maps(rt: HostRuntime) -> Result<(), Fail> {
-    let cases = [
-        (
-            "\
+/// Sections, maps and names.
+pub const SECTIONS: &str = "\
+a create, a map, a write section, a read section and an unmap|order first|
+nodes 1
+node 0
+create a 4
+map a
+write a
+put a 0 2a
+endwrite a
+read a
+endread a
+unmap a
+|0|
+0 create 0:1 4
+0 map 0:1 4
+0 startwrite 0:1
+0 write 0:1 00000000 2a000000
+0 startread 0:1
+0 read 0:1 2a000000
+0 unmap 0:1
+region 0:1 2a000000
+events 7 messages 0
+%
+a create alone|order first|
+nodes 1
+node 0
 create a 1
-",
-            "\
+|0|
 0 create 0:1 1
 region 0:1 00
 events 1 messages 0
-",
-        ),
-        (
-            "\
+%
+a region begins as zeros, and stays when it is unmapped|order first|
+nodes 1
+node 0
 create a 2
 map a
 read a
@@ -28,8 +44,7 @@ unmap a
 map a
 read a
 endread a
-",
-            "\
+|0|
 0 create 0:1 2
 0 map 0:1 2
 0 startread 0:1
@@ -40,10 +55,10 @@ endread a
 0 read 0:1 0000
 region 0:1 0000
 events 8 messages 0
-",
-        ),
-        (
-            "\
+%
+a region is mapped as often as it was mapped and not unmapped since|order first|
+nodes 1
+node 0
 create a 3
 map a
 map a
@@ -56,8 +71,7 @@ map a
 read a
 endread a
 unmap a
-",
-            "\
+|0|
 0 create 0:1 3
 0 map 0:1 3
 0 map 0:1 3
@@ -71,40 +85,25 @@ unmap a
 0 unmap 0:1
 region 0:1 005c00
 events 11 messages 0
-",
-        ),
-    ];
-    for (statements, account) in cases {
-        statements_give(&rt, rt.alloc(), statements, account)?;
-    }
-    Ok(())
-}
-
-// A section begins with the bytes that the last write section left. Puts change some of them, in order, and
-// the account has both when the section ends.
-#[test]
-fn writes(rt: HostRuntime) -> Result<(), Fail> {
-    let cases = [
-        // With no put.
-        (
-            "\
+%
+a write section with no put|order first|
+nodes 1
+node 0
 create a 2
 map a
 write a
 endwrite a
-",
-            "\
+|0|
 0 create 0:1 2
 0 map 0:1 2
 0 startwrite 0:1
 0 write 0:1 0000 0000
 region 0:1 0000
 events 4 messages 0
-",
-        ),
-        // At the first byte, the last, several, all; over bytes that were put before.
-        (
-            "\
+%
+puts at the first byte, the last, several and all, and over bytes that were put before|order first|
+nodes 1
+node 0
 create a 6
 map a
 write a
@@ -124,8 +123,7 @@ put a 4 9f
 endwrite a
 read a
 endread a
-",
-            "\
+|0|
 0 create 0:1 6
 0 map 0:1 6
 0 startwrite 0:1
@@ -140,11 +138,10 @@ endread a
 0 read 0:1 f0f1f2f39ff5
 region 0:1 f0f1f2f39ff5
 events 12 messages 0
-",
-        ),
-        // A section that is open at the end has left nothing.
-        (
-            "\
+%
+a section that is open at the end has left nothing|order first|
+nodes 1
+node 0
 create a 2
 map a
 write a
@@ -152,8 +149,7 @@ put a 0 aabb
 endwrite a
 write a
 put a 0 ccdd
-",
-            "\
+|0|
 0 create 0:1 2
 0 map 0:1 2
 0 startwrite 0:1
@@ -161,40 +157,27 @@ put a 0 ccdd
 0 startwrite 0:1
 region 0:1 aabb
 events 5 messages 0
-",
-        ),
-        // Offsets of more than one digit.
-        (
-            "\
+%
+offsets of more than one digit|order first|
+nodes 1
+node 0
 create a 12
 map a
 write a
 put a 10 1011
 put a 9 09
 endwrite a
-",
-            "\
+|0|
 0 create 0:1 12
 0 map 0:1 12
 0 startwrite 0:1
 0 write 0:1 000000000000000000000000 000000000000000000091011
 region 0:1 000000000000000000091011
 events 4 messages 0
-",
-        ),
-    ];
-    for (statements, account) in cases {
-        statements_give(&rt, rt.alloc(), statements, account)?;
-    }
-    Ok(())
-}
-
-// Read sections nest, and each shows the same bytes.
-#[test]
-fn nested_reads(rt: HostRuntime) -> Result<(), Fail> {
-    let cases = [
-        (
-            "\
+%
+read sections nest, and each shows the same bytes|order first|
+nodes 1
+node 0
 create a 2
 map a
 write a
@@ -216,8 +199,7 @@ endread a
 endread a
 endread a
 unmap a
-",
-            "\
+|0|
 0 create 0:1 2
 0 map 0:1 2
 0 startwrite 0:1
@@ -239,11 +221,10 @@ unmap a
 0 unmap 0:1
 region 0:1 6677
 events 19 messages 0
-",
-        ),
-        // A map inside of a read section.
-        (
-            "\
+%
+a map inside of a read section|order first|
+nodes 1
+node 0
 create a 1
 map a
 read a
@@ -253,8 +234,7 @@ endread a
 endread a
 unmap a
 unmap a
-",
-            "\
+|0|
 0 create 0:1 1
 0 map 0:1 1
 0 startread 0:1
@@ -266,21 +246,10 @@ unmap a
 0 unmap 0:1
 region 0:1 00
 events 9 messages 0
-",
-        ),
-    ];
-    for (statements, account) in cases {
-        statements_give(&rt, rt.alloc(), statements, account)?;
-    }
-    Ok(())
-}
-
-// Sections of two regions know nothing of each other.
-#[test]
-fn two_regions(rt: HostRuntime) -> Result<(), Fail> {
-    let cases = [
-        (
-            "\
+%
+sections of two regions know nothing of each other|order first|
+nodes 1
+node 0
 create a 2
 create b 3
 map b
@@ -297,8 +266,7 @@ endread a
 endread b
 unmap a
 unmap b
-",
-            "\
+|0|
 0 create 0:1 2
 0 create 0:2 3
 0 map 0:2 3
@@ -316,12 +284,10 @@ unmap b
 region 0:1 00ff
 region 0:2 010200
 events 14 messages 0
-",
-        ),
-        // Names go by the order of the creates, and not by their labels or first uses. A region is
-        // created while a section of another is open.
-        (
-            "\
+%
+names go by the order of the creates, and not by labels or first uses|order first|
+nodes 1
+node 0
 create z 1
 map z
 read z
@@ -335,8 +301,7 @@ write z
 put z 0 1a
 endwrite z
 unmap z
-",
-            "\
+|0|
 0 create 0:1 1
 0 map 0:1 1
 0 startread 0:1
@@ -351,22 +316,10 @@ unmap z
 region 0:1 1a
 region 0:2 0a
 events 11 messages 0
-",
-        ),
-    ];
-    for (statements, account) in cases {
-        statements_give(&rt, rt.alloc(), statements, account)?;
-    }
-    Ok(())
-}
-
-// The final regions stand by the number of their names: 0:10 behind 0:9.
-#[test]
-fn eleven_regions(rt: HostRuntime) -> Result<(), Fail> {
-    statements_give(
-        &rt,
-        rt.alloc(),
-        "\
+%
+the final regions stand by the number of their names, 0:10 behind 0:9|order first|
+nodes 1
+node 0
 create k 1
 create j 1
 create i 1
@@ -390,8 +343,7 @@ map j
 write j
 put j 0 02
 endwrite j
-",
-        "\
+|0|
 0 create 0:1 1
 0 create 0:2 1
 0 create 0:3 1
@@ -424,6 +376,4 @@ region 0:9 00
 region 0:10 0a
 region 0:11 0b
 events 20 messages 0
-",
-    )
-}
+";
