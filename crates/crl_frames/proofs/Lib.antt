@@ -1,2 +1,6 @@
 mod Entries
 mod Folds
+mod Known
+pub mod Laws
+mod Table
+mod Values
