@@ -30,7 +30,7 @@ FoldFits (fold.Max value) = FitsSigned w64 value
 FoldFits fold.Mixed = Unit {0}
 
 -- what is there, if something is
-abbrev Given : {A : Type 0} → (A → Type 0) → Option A → Type 0
+abbrev pub Given : {A : Type 0} → (A → Type 0) → Option A → Type 0
 Given P None = Unit {0}
 Given P (Some x) = P x
 

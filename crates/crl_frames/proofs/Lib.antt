@@ -1,3 +1,4 @@
+mod Copies
 mod Entries
 mod Folds
 mod Known
