@@ -69,7 +69,7 @@ pub asked_bytes : (me : ℕ) (ask : Asked) (h : Home) → AreBytes h.bytes → H
 unfolding home_takes_ask
 asked_bytes me ask h b = serve_bytes me h (h.queue ++ ask ∷ []) b
 
-news : (o : Option (List ℕ)) (old : List ℕ) → Given AreBytes o → AreBytes old → AreBytes (bytes_after o old)
+pub news : (o : Option (List ℕ)) (old : List ℕ) → Given AreBytes o → AreBytes old → AreBytes (bytes_after o old)
 news None old o h = h
 news (Some bytes) old o h = o
 

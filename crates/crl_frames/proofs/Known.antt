@@ -7,7 +7,9 @@ use Rattle.crl_protocol.specs.World.{world_of, pieces_in_boxes}
 use Rattle.crl_framed.specs.Framed.{FitsEnds, HomeIsAnEnd, NumberFits, SizeFits, SerialFits, PieceIsPlaced}
 use Rattle.crl_framed.proofs.Laws.{ends_fit, homes_fit, numbers_fit, sizes_fit, serials_fit, pieces_placed, both, all_up}
 use Rattle.crl_wire.specs.Frame.{Fits}
-use Rattle.crl_frames.specs.Frames.{OfEachPiece, IsTypedRun}
+use Rattle.crl_frames.specs.Frames.{OfEachPiece, HasByteFrame}
+use Rattle.crl_frames.proofs.Loads.{LoadBytes, loads_are_bytes}
+use Rattle.crl_frames.proofs.Spelled.{frame_bytes}
 use Rattle.crl_frames.proofs.Table.{Known, known_fits}
 use Rattle.crl_frames.proofs.Values.{ValueFits, values_fit}
 
@@ -36,3 +38,7 @@ all_known count capacity run r =
 
 pub all_fit : OfEachPiece Fits
 all_fit count capacity run r = all_up Known Fits known_fits (pieces_in_boxes (world_of count capacity run)) (all_known count capacity run r)
+
+pub all_byte_frames : OfEachPiece HasByteFrame
+all_byte_frames count capacity run r =
+    both LoadBytes (λ (p : Piece). ValueFits p.message.kind) HasByteFrame (λ p b v. frame_bytes p b v) (pieces_in_boxes (world_of count capacity run)) (loads_are_bytes count capacity run r) (values_fit count capacity run r)

@@ -1,2 +1,2 @@
--- What the crates above may cite of the proofs here: each piece in a box of a typed run has a frame.
-pub use Rattle.crl_frames.proofs.Known.{all_fit}
+-- What the crates above may cite of the proofs here: each piece in a box of a typed run has a frame, of bytes.
+pub use Rattle.crl_frames.proofs.Known.{all_fit, all_byte_frames}

@@ -3,5 +3,9 @@ mod Entries
 mod Folds
 mod Known
 pub mod Laws
+mod Loads
+mod Regions
+mod Runs
+mod Spelled
 mod Table
 mod Values
