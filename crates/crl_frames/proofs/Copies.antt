@@ -1,5 +1,5 @@
 -- What a step of a home, or of another node's side, leaves are bytes: in the table, in the copy and in mail.
-use Rattle.std.proofs.Common.{◌≡◌, ℕ, zero, suc, ◌+◌, ◌==◌, nat_lt, Bool, true, false, not, ◌&&◌, ◌||◌, None, Some, Option, List, [], ◌∷◌, ◌++◌, if◌then◌else◌}
+use Rattle.std.proofs.Common.{ℕ, ◌+◌, ◌==◌, nat_lt, Bool, true, false, not, ◌&&◌, ◌||◌, None, Some, Option, List, [], ◌∷◌, ◌++◌, if◌then◌else◌}
 use Rattle.std.specs.List.{AllByRecursion}
 use Rattle.std.proofs.lemmas.Bool.{cond_both}
 use Rattle.crl_model.specs.declared.directory.Section.{Section}
@@ -9,9 +9,9 @@ use Rattle.crl_model.specs.declared.directory.Listing.{Listing}
 use Rattle.crl_model.specs.declared.message.Granted.{Granted}
 use Rattle.crl_model.specs.declared.message.Granted.TheVariants.{Shared, Exclusive, Upgrade}
 use Rattle.crl_protocol.specs.Places.{at, put}
-use Rattle.crl_protocol.specs.Mail.{Mail, Ask, Grant, Recall, Yield, Return, Release, Letter}
+use Rattle.crl_protocol.specs.Mail.{Mail, Grant, Recall, Yield, Return, Release, Letter}
 use Rattle.crl_protocol.specs.Home.{Home, HomeStep, is_servable, is_to_mark, with_marks, recalls_and_yields, grant_to, open_own, grant_next, grant_for, posts_first, opens_own_section, serve, home_takes_ask, home_takes_return, home_takes_release, is_to_lower, bytes_after, shared_listing, own_ask, is_empty, is_reading, home_starts, one_section_less, home_ends_read, home_ends_write}
-use Rattle.crl_protocol.specs.Remote.{Copy, Remote, RemoteStep, bytes_back, is_closed, gives_back, lowers, starts_over, remote_starts, copy_after_grant, remote_takes_grant, recall_in, recall_over, remote_takes_recall, yield_in, yield_over, remote_takes_yield, leaves_over, lowers_over, sends_nothing, remote_ends_read, with_written, remote_ends_write, flushes_over, remote_flushes, overtakes, notes_due, with_due, is_newer}
+use Rattle.crl_protocol.specs.Remote.{Copy, Remote, RemoteStep, is_closed, gives_back, lowers, starts_over, remote_starts, copy_after_grant, remote_takes_grant, recall_in, recall_over, remote_takes_recall, yield_in, yield_over, remote_takes_yield, leaves_over, lowers_over, sends_nothing, remote_ends_read, with_written, remote_ends_write, flushes_over, remote_flushes, overtakes, notes_due, is_newer}
 use Rattle.crl_frames.specs.Frames.{AreBytes}
 use Rattle.crl_frames.proofs.Folds.{Given}
 

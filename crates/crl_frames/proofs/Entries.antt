@@ -1,5 +1,5 @@
 -- In every run whose calls are typed each part in the account is one that a call brought, so it fits.
-use Rattle.std.proofs.Common.{◌≡◌, ℕ, zero, suc, ◌+◌, ◌-◌, ◌==◌, ◌&&◌, Bool, true, false, None, Some, Option, List, [], ◌∷◌, ◌++◌, length, get_or, if◌then◌else◌, refl, ap, sym, ◌∙◌, subst, arith}
+use Rattle.std.proofs.Common.{◌≡◌, ℕ, zero, suc, ◌+◌, ◌-◌, ◌==◌, ◌&&◌, Bool, true, false, None, Some, Option, List, [], ◌∷◌, length, get_or, if◌then◌else◌, refl, sym, ◌∙◌, subst, arith}
 use Rattle.std.specs.List.{AllByRecursion}
 use Rattle.std.proofs.lemmas.Bool.{cond_both, and_parts}
 use Rattle.crl_model.specs.declared.name.Name.{Name}
@@ -14,7 +14,7 @@ use Rattle.crl_model.specs.declared.entry.What.{What}
 use Rattle.crl_model.specs.declared.entry.What.TheVariants as what
 use Rattle.crl_model.specs.declared.event.Event.{Event}
 use Rattle.crl_model.specs.declared.event.Event.TheVariants as event
-use Rattle.crl_machine.specs.SingleMachine.{State, IsSendable, start, change, after_all, part_at, parts_from, parts_of}
+use Rattle.crl_machine.specs.SingleMachine.{State, IsSendable, change, after_all, part_at, parts_from}
 use Rattle.crl_pieces.specs.Pieces.{is_missing, is_complete, joined}
 use Rattle.crl_protocol.specs.Parcels.{Piece, with_load, Key, key_of, slots_or, at_key, fits_size}
 use Rattle.crl_protocol.specs.Places.{Taken, take_out}

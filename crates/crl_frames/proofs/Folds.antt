@@ -1,5 +1,5 @@
 -- What the parts of a round give fits, where each part does and there are at most 64.
-use Rattle.std.proofs.Common.{◌≡◌, ℕ, ℤ, pos, neg_ℤ, ◌+ℤ◌, ◌≤ℤ◌, ◌+◌, ◌*◌, ◌^◌, ◌≤◌, None, Some, Option, List, [], ◌∷◌, length, arith}
+use Rattle.std.proofs.Common.{ℕ, ℤ, pos, neg_ℤ, ◌+ℤ◌, ◌≤ℤ◌, ◌+◌, ◌*◌, ◌^◌, ◌≤◌, None, Some, Option, List, [], ◌∷◌, length, arith}
 use Rattle.std.proofs.lemmas.Int.{ints}
 use Rattle.std.specs.Prelude.{FitsSigned, int_lt}
 use Rattle.std.specs.Int.{w64, w128, int_min, int_max}
@@ -12,7 +12,7 @@ use Rattle.crl_model.specs.declared.collective.Fold.{Fold}
 use Rattle.crl_model.specs.declared.collective.Fold.TheVariants as fold
 use Rattle.crl_model.specs.FoldOf.{are_barriers, sum_from, least_from, greatest_from, sent_from, fold_of}
 use Rattle.crl_machine.specs.SingleMachine.{IsSendable}
-use Rattle.crl_frames.specs.Frames.{AreBytes, IsTypedPart}
+use Rattle.crl_frames.specs.Frames.{IsTypedPart}
 
 -- the bytes that a part sends are as many as may be sent
 abbrev pub PartFits : Part → Type 0

@@ -1,7 +1,6 @@
 -- What is known of each piece in a box of a typed run, in one place.
 use Rattle.std.specs.List.{AllByRecursion}
-use Rattle.crl_model.specs.declared.event.Event.{Event}
-use Rattle.std.proofs.Common.{ℕ, List}
+use Rattle.std.proofs.Common.{List}
 use Rattle.crl_protocol.specs.Parcels.{Piece}
 use Rattle.crl_protocol.specs.World.{world_of, pieces_in_boxes}
 use Rattle.crl_framed.specs.Framed.{FitsEnds, HomeIsAnEnd, NumberFits, SizeFits, SerialFits, PieceIsPlaced}

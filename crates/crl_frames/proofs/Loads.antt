@@ -1,9 +1,8 @@
 -- In every run whose calls bring bytes each piece in a box has bytes.
-use Rattle.std.proofs.Common.{◌≡◌, ℕ, suc, ◌+◌, None, Some, Option, List, [], ◌∷◌, ◌++◌, length, ap, sym, ◌∙◌, subst}
+use Rattle.std.proofs.Common.{◌≡◌, ℕ, ◌+◌, None, Some, List, [], ◌∷◌, ◌++◌, length, ap, sym, ◌∙◌, subst}
 use Rattle.std.specs.List.{AllByRecursion}
 use Rattle.std.proofs.lemmas.Bool.{cond_both}
 use Rattle.crl_model.specs.declared.name.Name.{Name}
-use Rattle.crl_model.specs.declared.event.Event.{Event}
 use Rattle.crl_model.specs.declared.message.Granted.TheVariants.{Shared, Exclusive, Upgrade}
 use Rattle.crl_model.specs.declared.message.Message.{Message}
 use Rattle.crl_model.specs.declared.message.Kind.{Kind}
@@ -20,7 +19,7 @@ use Rattle.crl_flight.specs.Flight.{Under, IsUnder, left_of, lefts, messages_of}
 use Rattle.crl_regions.specs.MailFits.{Tables, FitsTables, MailFits}
 use Rattle.crl_regions.specs.View.{tables_of, mail_in, other_end, flown}
 use Rattle.crl_framed.proofs.Laws.{each_took, all_moved, found, about_self}
-use Rattle.crl_frames.specs.Frames.{AreBytes, IsByte, OfEachPiece}
+use Rattle.crl_frames.specs.Frames.{AreBytes, OfEachPiece}
 use Rattle.crl_frames.proofs.Copies.{MailBytes}
 use Rattle.crl_frames.proofs.Regions.{FlyingBytes}
 use Rattle.crl_frames.proofs.Runs.{Written, written}

@@ -1,5 +1,5 @@
 -- In every run whose calls bring bytes all that has bytes of a region has bytes.
-use Rattle.std.proofs.Common.{◌≡◌, ℕ, ◌==◌, Bool, true, false, if◌then◌else◌, None, Some, Option, List, [], ◌∷◌, ◌++◌, replicate, refl, sym, subst}
+use Rattle.std.proofs.Common.{◌≡◌, ℕ, Bool, true, false, None, Some, Option, List, [], ◌∷◌, ◌++◌, replicate, refl, sym, subst}
 use Rattle.crl_model.specs.declared.name.Name.{Name}
 use Rattle.crl_model.specs.declared.call.Call.{Call}
 use Rattle.crl_model.specs.declared.call.Call.TheVariants as call
@@ -10,10 +10,10 @@ use Rattle.crl_model.specs.Names.{name_eq}
 use Rattle.crl_protocol.specs.Home.{Home}
 use Rattle.crl_protocol.specs.Node.{Node, next_name}
 use Rattle.crl_protocol.specs.Verdict.{verdict}
-use Rattle.crl_protocol.specs.World.{World, new_world, world_of, world_after, step, IsRunFrom}
+use Rattle.crl_protocol.specs.World.{World, new_world, world_of, world_after, IsRunFrom}
 use Rattle.crl_flight.specs.Flight.{Under, messages_of}
 use Rattle.crl_regions.specs.Steps.{RegionsHold, RegionsStep}
-use Rattle.crl_regions.specs.View.{table_of, view, left_if, left_in, left_by, array_after}
+use Rattle.crl_regions.specs.View.{table_of, view, left_if, left_in, left_by}
 use Rattle.crl_regions.proofs.Laws.{regions_start, regions_step}
 use Rattle.crl_framed.proofs.Laws.{last_world, last_run, no_table}
 use Rattle.crl_frames.specs.Frames.{AreBytes, BringsTyped, BringTyped}

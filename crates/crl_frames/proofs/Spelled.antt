@@ -1,5 +1,5 @@
 -- The frame of a piece whose fields fit, and which has bytes, is bytes.
-use Rattle.std.proofs.Common.{◌≡◌, ℕ, zero, suc, ◌^◌, ◌<◌, true, false, None, Some, List, [], ◌∷◌, ◌++◌, arith}
+use Rattle.std.proofs.Common.{ℕ, zero, suc, true, false, None, Some, List, ◌++◌, arith}
 use Rattle.std.specs.Int.{Width, byte_len, w16, w32, w64, w128, to_be_bytes, byte_at, bytes_high_first, cast_unsigned}
 use Rattle.crl_model.specs.declared.collective.Part.TheVariants as part
 use Rattle.crl_model.specs.declared.collective.Fold.TheVariants as fold
@@ -97,8 +97,8 @@ layout_bytes p =
     let c = codes p.message.kind in
     let h = header_of p in
     let row = in_a_row (to_be_bytes w16 h.sender) (to_be_bytes w16 h.addressee) (to_be_bytes w16 h.last_index) (to_be_bytes w32 h.home) (to_be_bytes w32 h.serial) (to_be_bytes w64 h.number) (to_be_bytes w32 h.body_len)
-        (to_be_bytes w32 h.index) (number_bytes w16 h.sender) (number_bytes w16 h.addressee) (number_bytes w16 h.last_index) (number_bytes w32 h.home) (number_bytes w32 h.serial) (number_bytes w64 h.number)
-        (number_bytes w32 h.body_len) (number_bytes w32 h.index) in (c.0, (c.1, row))
+    (to_be_bytes w32 h.index) (number_bytes w16 h.sender) (number_bytes w16 h.addressee) (number_bytes w16 h.last_index) (number_bytes w32 h.home) (number_bytes w32 h.serial) (number_bytes w64 h.number)
+    (number_bytes w32 h.body_len) (number_bytes w32 h.index) in (c.0, (c.1, row))
 
 pub frame_bytes : (p : Piece) → LoadBytes p → ValueFits p.message.kind → HasByteFrame p
 unfolding frame

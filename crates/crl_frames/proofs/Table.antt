@@ -1,8 +1,7 @@
 -- A piece whose fields fit is one of the table of frames.
-use Rattle.std.proofs.Common.{◌≡◌, ◌≢◌, ℕ, ◌+◌, ◌-◌, ◌*◌, ◌/◌, ◌≤◌, ◌<◌, ◌^◌, ◌==◌, nat_lt, nat_le, min, Bool, true, false, not, ◌&&◌, ◌||◌, ◌⊎◌, inl, inr, None, Some, Option, List, length, refl, ap, sym, ◌∙◌, subst, arith}
+use Rattle.std.proofs.Common.{◌≡◌, ℕ, ◌-◌, ◌≤◌, ◌<◌, ◌^◌, ◌==◌, nat_lt, nat_le, true, false, not, ◌&&◌, ◌||◌, ◌⊎◌, inl, inr, None, Some, length, refl, ap, sym, subst, arith}
 use Rattle.std.proofs.lemmas.Bool.{lt-ltb, le-leb, eq-eqb, ne_eqb, cases_lt}
 use Rattle.std.specs.Cmp.Derive.{both_true}
-use Rattle.crl_model.specs.declared.name.Name.{Name}
 use Rattle.crl_model.specs.declared.collective.Part.TheVariants as part
 use Rattle.crl_model.specs.declared.collective.Fold.TheVariants as fold
 use Rattle.crl_model.specs.declared.message.Told.TheVariants as told
@@ -82,8 +81,7 @@ in_region p size r k =
     let pieces = k.pieces in
     let index = k.index in
     let less : p.index < count size = omega arith in
-    let len = region_len size p.index r less in
-    (
+    let len = region_len size p.index r less in (
       within 1 32768 (piece_size size p.index) len.0 len.1,
       both_true (both_true (lt-ltb (p.pieces - 1) 512 (omega arith)) (le-leb p.index (p.pieces - 1) (omega arith))) (last_or_whole size p.index (p.pieces - 1) less (omega arith)),
     )
@@ -107,295 +105,44 @@ size_word size r = let a = r.1 in omega arith
 no_serial : 0 < 2 ^ 32
 no_serial = omega arith
 
+by : {p : Piece} → is_home (shape_of (form_of p.message.kind)).home (header_of p) ≡ true → is_number (shape_of (form_of p.message.kind)).number (number_of p.message.kind) ≡ true
+    → is_len (shape_of (form_of p.message.kind)).body (length (body_of p.message.kind)) ≡ true → is_place (shape_of (form_of p.message.kind)).body (header_of p) ≡ true
+    → (name_of p.message.kind).serial < 2 ^ 32 → number_of p.message.kind < 2 ^ 64 → FitsValues p.message.kind → Shaped p
+by home number len place serial word values = record { home = home; number = number; len = len; place = place; serial = serial; word = word; values = values }
+
 shaped : (from to pieces index : ℕ) (k : Kind) → Known (piece from to pieces index k) → Shaped (piece from to pieces index k)
-shaped from to pieces index (kind.InfoAsk name) k = record {
-  home = same_and name.home to name.serial k.home k.serial.0;
-  number = refl;
-  len = refl;
-  place = sole _ k.placed refl;
-  serial = k.serial.1;
-  word = none_word;
-  values = tt;
-}
-shaped from to pieces index (kind.InfoIs name (told.Live size)) k = record {
-  home = same_and name.home from name.serial k.home k.serial.0;
-  number = within 1 16777216 size k.size.0 k.size.1;
-  len = refl;
-  place = sole _ k.placed refl;
-  serial = k.serial.1;
-  word = size_word size k.size;
-  values = tt;
-}
-shaped from to pieces index (kind.InfoIs name told.Unknown) k = record {
-  home = same_and name.home from name.serial k.home k.serial.0;
-  number = refl;
-  len = refl;
-  place = sole _ k.placed refl;
-  serial = k.serial.1;
-  word = none_word;
-  values = tt;
-}
-shaped from to pieces index (kind.InfoIs name told.Deleted) k = record {
-  home = same_and name.home from name.serial k.home k.serial.0;
-  number = refl;
-  len = refl;
-  place = sole _ k.placed refl;
-  serial = k.serial.1;
-  word = none_word;
-  values = tt;
-}
-shaped from to pieces index (kind.Ask name true have) k = record {
-  home = same_and name.home to name.serial k.home k.serial.0;
-  number = refl;
-  len = refl;
-  place = sole _ k.placed refl;
-  serial = k.serial.1;
-  word = k.number;
-  values = tt;
-}
-shaped from to pieces index (kind.Ask name false have) k = record {
-  home = same_and name.home to name.serial k.home k.serial.0;
-  number = eq-eqb have 0 k.number;
-  len = refl;
-  place = sole _ k.placed refl;
-  serial = k.serial.1;
-  word = read_word have k.number;
-  values = tt;
-}
-shaped from to pieces index (kind.Grant name version (Shared bytes)) k = record {
-  home = same_and name.home from name.serial k.home k.serial.0;
-  number = le-leb 1 version k.number.0;
-  len = (region _ _ k.placed refl).0;
-  place = (region _ _ k.placed refl).1;
-  serial = k.serial.1;
-  word = k.number.1;
-  values = tt;
-}
-shaped from to pieces index (kind.Grant name version (Exclusive bytes)) k = record {
-  home = same_and name.home from name.serial k.home k.serial.0;
-  number = le-leb 1 version k.number.0;
-  len = (region _ _ k.placed refl).0;
-  place = (region _ _ k.placed refl).1;
-  serial = k.serial.1;
-  word = k.number.1;
-  values = tt;
-}
-shaped from to pieces index (kind.Grant name version Upgrade) k = record {
-  home = same_and name.home from name.serial k.home k.serial.0;
-  number = le-leb 1 version k.number.0;
-  len = refl;
-  place = sole _ k.placed refl;
-  serial = k.serial.1;
-  word = k.number.1;
-  values = tt;
-}
-shaped from to pieces index (kind.Recall name version) k = record {
-  home = same_and name.home from name.serial k.home k.serial.0;
-  number = le-leb 1 version k.number.0;
-  len = refl;
-  place = sole _ k.placed refl;
-  serial = k.serial.1;
-  word = k.number.1;
-  values = tt;
-}
-shaped from to pieces index (kind.Yield name version) k = record {
-  home = same_and name.home from name.serial k.home k.serial.0;
-  number = le-leb 1 version k.number.0;
-  len = refl;
-  place = sole _ k.placed refl;
-  serial = k.serial.1;
-  word = k.number.1;
-  values = tt;
-}
-shaped from to pieces index (kind.Return name version None) k = record {
-  home = same_and name.home to name.serial k.home k.serial.0;
-  number = le-leb 1 version k.number.0;
-  len = refl;
-  place = sole _ k.placed refl;
-  serial = k.serial.1;
-  word = k.number.1;
-  values = tt;
-}
-shaped from to pieces index (kind.Return name version (Some bytes)) k = record {
-  home = same_and name.home to name.serial k.home k.serial.0;
-  number = le-leb 1 version k.number.0;
-  len = (region _ _ k.placed refl).0;
-  place = (region _ _ k.placed refl).1;
-  serial = k.serial.1;
-  word = k.number.1;
-  values = tt;
-}
-shaped from to pieces index (kind.Release name version bytes) k = record {
-  home = same_and name.home to name.serial k.home k.serial.0;
-  number = le-leb 1 version k.number.0;
-  len = (region _ _ k.placed refl).0;
-  place = (region _ _ k.placed refl).1;
-  serial = k.serial.1;
-  word = k.number.1;
-  values = tt;
-}
-shaped from to pieces index (kind.DeleteAsk name) k = record {
-  home = same_and name.home to name.serial k.home k.serial.0;
-  number = refl;
-  len = refl;
-  place = sole _ k.placed refl;
-  serial = k.serial.1;
-  word = none_word;
-  values = tt;
-}
-shaped from to pieces index (kind.DeleteIs name delete_told.Done) k = record {
-  home = same_and name.home from name.serial k.home k.serial.0;
-  number = refl;
-  len = refl;
-  place = sole _ k.placed refl;
-  serial = k.serial.1;
-  word = none_word;
-  values = tt;
-}
-shaped from to pieces index (kind.DeleteIs name delete_told.Unknown) k = record {
-  home = same_and name.home from name.serial k.home k.serial.0;
-  number = refl;
-  len = refl;
-  place = sole _ k.placed refl;
-  serial = k.serial.1;
-  word = none_word;
-  values = tt;
-}
-shaped from to pieces index (kind.DeleteIs name delete_told.Deleted) k = record {
-  home = same_and name.home from name.serial k.home k.serial.0;
-  number = refl;
-  len = refl;
-  place = sole _ k.placed refl;
-  serial = k.serial.1;
-  word = none_word;
-  values = tt;
-}
-shaped from to pieces index (kind.Purge name) k = record {
-  home = same_and name.home from name.serial k.home k.serial.0;
-  number = refl;
-  len = refl;
-  place = sole _ k.placed refl;
-  serial = k.serial.1;
-  word = none_word;
-  values = tt;
-}
-shaped from to pieces index (kind.Purged name) k = record {
-  home = same_and name.home to name.serial k.home k.serial.0;
-  number = refl;
-  len = refl;
-  place = sole _ k.placed refl;
-  serial = k.serial.1;
-  word = none_word;
-  values = tt;
-}
-shaped from to pieces index (kind.Come round part.Barrier) k = record {
-  home = third_zero to k.home;
-  number = le-leb 1 round k.number.0;
-  len = refl;
-  place = sole _ k.placed refl;
-  serial = no_serial;
-  word = k.number.1;
-  values = tt;
-}
-shaped from to pieces index (kind.Come round (part.Send bytes)) k = record {
-  home = third_zero to k.home;
-  number = le-leb 1 round k.number.0;
-  len = within 1 65536 (length bytes) k.value.0.0 k.value.0.1;
-  place = sole _ k.placed refl;
-  serial = no_serial;
-  word = k.number.1;
-  values = tt;
-}
-shaped from to pieces index (kind.Come round part.Receive) k = record {
-  home = third_zero to k.home;
-  number = le-leb 1 round k.number.0;
-  len = refl;
-  place = sole _ k.placed refl;
-  serial = no_serial;
-  word = k.number.1;
-  values = tt;
-}
-shaped from to pieces index (kind.Come round (part.Sum v)) k = record {
-  home = third_zero to k.home;
-  number = le-leb 1 round k.number.0;
-  len = refl;
-  place = sole _ k.placed refl;
-  serial = no_serial;
-  word = k.number.1;
-  values = k.value.1;
-}
-shaped from to pieces index (kind.Come round (part.Min v)) k = record {
-  home = third_zero to k.home;
-  number = le-leb 1 round k.number.0;
-  len = refl;
-  place = sole _ k.placed refl;
-  serial = no_serial;
-  word = k.number.1;
-  values = k.value.1;
-}
-shaped from to pieces index (kind.Come round (part.Max v)) k = record {
-  home = third_zero to k.home;
-  number = le-leb 1 round k.number.0;
-  len = refl;
-  place = sole _ k.placed refl;
-  serial = no_serial;
-  word = k.number.1;
-  values = k.value.1;
-}
-shaped from to pieces index (kind.Result round fold.Barrier) k = record {
-  home = third_zero from k.home;
-  number = le-leb 1 round k.number.0;
-  len = refl;
-  place = sole _ k.placed refl;
-  serial = no_serial;
-  word = k.number.1;
-  values = tt;
-}
-shaped from to pieces index (kind.Result round (fold.Broadcast bytes)) k = record {
-  home = third_zero from k.home;
-  number = le-leb 1 round k.number.0;
-  len = within 1 65536 (length bytes) k.value.0.0 k.value.0.1;
-  place = sole _ k.placed refl;
-  serial = no_serial;
-  word = k.number.1;
-  values = tt;
-}
-shaped from to pieces index (kind.Result round (fold.Sum v)) k = record {
-  home = third_zero from k.home;
-  number = le-leb 1 round k.number.0;
-  len = refl;
-  place = sole _ k.placed refl;
-  serial = no_serial;
-  word = k.number.1;
-  values = k.value;
-}
-shaped from to pieces index (kind.Result round (fold.Min v)) k = record {
-  home = third_zero from k.home;
-  number = le-leb 1 round k.number.0;
-  len = refl;
-  place = sole _ k.placed refl;
-  serial = no_serial;
-  word = k.number.1;
-  values = k.value;
-}
-shaped from to pieces index (kind.Result round (fold.Max v)) k = record {
-  home = third_zero from k.home;
-  number = le-leb 1 round k.number.0;
-  len = refl;
-  place = sole _ k.placed refl;
-  serial = no_serial;
-  word = k.number.1;
-  values = k.value;
-}
-shaped from to pieces index (kind.Result round fold.Mixed) k = record {
-  home = third_zero from k.home;
-  number = le-leb 1 round k.number.0;
-  len = refl;
-  place = sole _ k.placed refl;
-  serial = no_serial;
-  word = k.number.1;
-  values = tt;
-}
+shaped from to pieces index (kind.InfoAsk name) k = by (same_and name.home to name.serial k.home k.serial.0) refl refl (sole _ k.placed refl) k.serial.1 none_word tt
+shaped from to pieces index (kind.InfoIs name (told.Live size)) k = by (same_and name.home from name.serial k.home k.serial.0) (within 1 16777216 size k.size.0 k.size.1) refl (sole _ k.placed refl) k.serial.1 (size_word size k.size) tt
+shaped from to pieces index (kind.InfoIs name told.Unknown) k = by (same_and name.home from name.serial k.home k.serial.0) refl refl (sole _ k.placed refl) k.serial.1 none_word tt
+shaped from to pieces index (kind.InfoIs name told.Deleted) k = by (same_and name.home from name.serial k.home k.serial.0) refl refl (sole _ k.placed refl) k.serial.1 none_word tt
+shaped from to pieces index (kind.Ask name true have) k = by (same_and name.home to name.serial k.home k.serial.0) refl refl (sole _ k.placed refl) k.serial.1 k.number tt
+shaped from to pieces index (kind.Ask name false have) k = by (same_and name.home to name.serial k.home k.serial.0) (eq-eqb have 0 k.number) refl (sole _ k.placed refl) k.serial.1 (read_word have k.number) tt
+shaped from to pieces index (kind.Grant name version (Shared bytes)) k = by (same_and name.home from name.serial k.home k.serial.0) (le-leb 1 version k.number.0) (region _ _ k.placed refl).0 (region _ _ k.placed refl).1 k.serial.1 k.number.1 tt
+shaped from to pieces index (kind.Grant name version (Exclusive bytes)) k = by (same_and name.home from name.serial k.home k.serial.0) (le-leb 1 version k.number.0) (region _ _ k.placed refl).0 (region _ _ k.placed refl).1 k.serial.1 k.number.1 tt
+shaped from to pieces index (kind.Grant name version Upgrade) k = by (same_and name.home from name.serial k.home k.serial.0) (le-leb 1 version k.number.0) refl (sole _ k.placed refl) k.serial.1 k.number.1 tt
+shaped from to pieces index (kind.Recall name version) k = by (same_and name.home from name.serial k.home k.serial.0) (le-leb 1 version k.number.0) refl (sole _ k.placed refl) k.serial.1 k.number.1 tt
+shaped from to pieces index (kind.Yield name version) k = by (same_and name.home from name.serial k.home k.serial.0) (le-leb 1 version k.number.0) refl (sole _ k.placed refl) k.serial.1 k.number.1 tt
+shaped from to pieces index (kind.Return name version None) k = by (same_and name.home to name.serial k.home k.serial.0) (le-leb 1 version k.number.0) refl (sole _ k.placed refl) k.serial.1 k.number.1 tt
+shaped from to pieces index (kind.Return name version (Some bytes)) k = by (same_and name.home to name.serial k.home k.serial.0) (le-leb 1 version k.number.0) (region _ _ k.placed refl).0 (region _ _ k.placed refl).1 k.serial.1 k.number.1 tt
+shaped from to pieces index (kind.Release name version bytes) k = by (same_and name.home to name.serial k.home k.serial.0) (le-leb 1 version k.number.0) (region _ _ k.placed refl).0 (region _ _ k.placed refl).1 k.serial.1 k.number.1 tt
+shaped from to pieces index (kind.DeleteAsk name) k = by (same_and name.home to name.serial k.home k.serial.0) refl refl (sole _ k.placed refl) k.serial.1 none_word tt
+shaped from to pieces index (kind.DeleteIs name delete_told.Done) k = by (same_and name.home from name.serial k.home k.serial.0) refl refl (sole _ k.placed refl) k.serial.1 none_word tt
+shaped from to pieces index (kind.DeleteIs name delete_told.Unknown) k = by (same_and name.home from name.serial k.home k.serial.0) refl refl (sole _ k.placed refl) k.serial.1 none_word tt
+shaped from to pieces index (kind.DeleteIs name delete_told.Deleted) k = by (same_and name.home from name.serial k.home k.serial.0) refl refl (sole _ k.placed refl) k.serial.1 none_word tt
+shaped from to pieces index (kind.Purge name) k = by (same_and name.home from name.serial k.home k.serial.0) refl refl (sole _ k.placed refl) k.serial.1 none_word tt
+shaped from to pieces index (kind.Purged name) k = by (same_and name.home to name.serial k.home k.serial.0) refl refl (sole _ k.placed refl) k.serial.1 none_word tt
+shaped from to pieces index (kind.Come round part.Barrier) k = by (third_zero to k.home) (le-leb 1 round k.number.0) refl (sole _ k.placed refl) no_serial k.number.1 tt
+shaped from to pieces index (kind.Come round (part.Send bytes)) k = by (third_zero to k.home) (le-leb 1 round k.number.0) (within 1 65536 (length bytes) k.value.0.0 k.value.0.1) (sole _ k.placed refl) no_serial k.number.1 tt
+shaped from to pieces index (kind.Come round part.Receive) k = by (third_zero to k.home) (le-leb 1 round k.number.0) refl (sole _ k.placed refl) no_serial k.number.1 tt
+shaped from to pieces index (kind.Come round (part.Sum v)) k = by (third_zero to k.home) (le-leb 1 round k.number.0) refl (sole _ k.placed refl) no_serial k.number.1 k.value.1
+shaped from to pieces index (kind.Come round (part.Min v)) k = by (third_zero to k.home) (le-leb 1 round k.number.0) refl (sole _ k.placed refl) no_serial k.number.1 k.value.1
+shaped from to pieces index (kind.Come round (part.Max v)) k = by (third_zero to k.home) (le-leb 1 round k.number.0) refl (sole _ k.placed refl) no_serial k.number.1 k.value.1
+shaped from to pieces index (kind.Result round fold.Barrier) k = by (third_zero from k.home) (le-leb 1 round k.number.0) refl (sole _ k.placed refl) no_serial k.number.1 tt
+shaped from to pieces index (kind.Result round (fold.Broadcast bytes)) k = by (third_zero from k.home) (le-leb 1 round k.number.0) (within 1 65536 (length bytes) k.value.0.0 k.value.0.1) (sole _ k.placed refl) no_serial k.number.1 tt
+shaped from to pieces index (kind.Result round (fold.Sum v)) k = by (third_zero from k.home) (le-leb 1 round k.number.0) refl (sole _ k.placed refl) no_serial k.number.1 k.value
+shaped from to pieces index (kind.Result round (fold.Min v)) k = by (third_zero from k.home) (le-leb 1 round k.number.0) refl (sole _ k.placed refl) no_serial k.number.1 k.value
+shaped from to pieces index (kind.Result round (fold.Max v)) k = by (third_zero from k.home) (le-leb 1 round k.number.0) refl (sole _ k.placed refl) no_serial k.number.1 k.value
+shaped from to pieces index (kind.Result round fold.Mixed) k = by (third_zero from k.home) (le-leb 1 round k.number.0) refl (sole _ k.placed refl) no_serial k.number.1 tt
 
 fits_of : (p : Piece) → Known p → Shaped p → Fits p
 fits_of p k s =

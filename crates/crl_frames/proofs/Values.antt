@@ -1,18 +1,16 @@
 -- In every run whose calls are typed a part on its way to node 0 fits, and so does a result on its way from there.
-use Rattle.std.proofs.Common.{◌≡◌, ℕ, ◌≤◌, List, ap, sym, ◌∙◌, subst}
+use Rattle.std.proofs.Common.{ℕ, ◌≤◌, List, sym, ◌∙◌, subst}
 use Rattle.std.proofs.lemmas.List.Elements.{recursion_from_All}
-use Rattle.std.specs.List.{AllByRecursion}
 use Rattle.crl_model.specs.declared.event.Event.{Event}
 use Rattle.crl_model.specs.declared.message.Kind.{Kind}
 use Rattle.crl_model.specs.declared.message.Kind.TheVariants as kind
-use Rattle.crl_model.specs.FoldOf.{fold_of}
 use Rattle.crl_machine.specs.SingleMachine.{start, parts_of}
 use Rattle.crl_protocol.specs.Parcels.{Piece}
-use Rattle.crl_protocol.specs.World.{world_of, account, pieces_in_boxes, IsRun}
+use Rattle.crl_protocol.specs.World.{world_of, account, pieces_in_boxes}
 use Rattle.crl_rounds.specs.Standing.{RoundMailFits, IsRoundMail, machine_of}
 use Rattle.crl_rounds.proofs.Laws.{mail_in_runs}
 use Rattle.crl_framed.proofs.Laws.{all_up}
-use Rattle.crl_frames.specs.Frames.{OfEachPiece, IsTypedRun, BringTyped}
+use Rattle.crl_frames.specs.Frames.{OfEachPiece, BringTyped}
 use Rattle.crl_frames.proofs.Entries.{part_fits, parts_fit, parts_length, nodes_stay}
 use Rattle.crl_frames.proofs.Folds.{PartFits, FoldFits, fold_fits}
 

@@ -12,7 +12,7 @@ use Rattle.crl_model.specs.declared.event.Event.TheVariants as event
 use Rattle.crl_protocol.specs.Parcels.{Piece}
 use Rattle.crl_protocol.specs.World.{world_of, pieces_in_boxes, IsRun}
 use Rattle.crl_framed.specs.Framed.{AreTyped}
-use Rattle.crl_wire.specs.Frame.{frame, Fits}
+use Rattle.crl_wire.specs.Frame.{frame}
 use Rattle.crl_wire.specs.Decoding.{decoded}
 
 abbrev pub IsByte : ℕ → Type 0

@@ -1,4 +1,3 @@
-use Rattle.std.proofs.Common.{◌≡◌}
 use Rattle.crl_framed.proofs.Laws.{all_up}
 use Rattle.crl_protocol.specs.World.{world_of, pieces_in_boxes}
 use Rattle.crl_wire.specs.Frame.{Fits}
