@@ -6,6 +6,7 @@ pub mod Laws
 mod Loads
 mod Regions
 mod Runs
+mod Scripts
 mod Spelled
 mod Table
 mod Values

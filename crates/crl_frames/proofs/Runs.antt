@@ -33,7 +33,7 @@ call_leaves q n o (call.Create size) t = left_bytes (name_eq (next_name n) q) o 
 call_leaves q n o (call.EndWrite name bytes) t = left_bytes (name_eq name q) o bytes t
 call_leaves q n o _ t = tt
 
-event_leaves : (q : Name) (e : Event) (w : World) → EventTyped e → Given AreBytes (left_by q e w)
+pub event_leaves : (q : Name) (e : Event) (w : World) → EventTyped e → Given AreBytes (left_by q e w)
 event_leaves q (event.Call i c) w t = call_leaves q (w.nodes i) (verdict (w.nodes i) c) c t
 event_leaves q _ w t = tt
 

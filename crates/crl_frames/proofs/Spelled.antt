@@ -25,7 +25,7 @@ spelled_in : (k n : ℕ) → AreBytes (bytes_high_first k n)
 spelled_in zero n = tt
 spelled_in (suc k) n = (byte_below k n, spelled_in k n)
 
-number_bytes : (w : Width) (n : ℕ) → AreBytes (to_be_bytes w n)
+pub number_bytes : (w : Width) (n : ℕ) → AreBytes (to_be_bytes w n)
 number_bytes w n = spelled_in (byte_len w) n
 
 body_bytes : (k : Kind) → AreBytes (load_of k) → ValueFits k → AreBytes (body_of k)

@@ -1,7 +1,7 @@
 -- What is said of each piece in a box of every run whose calls are typed: it has a frame, of bytes, which is read as the piece.
-use Rattle.std.specs.Prelude.{◌≡◌, ℕ, ◌<◌, ◌≤◌, ◌^◌, List, [], ◌∷◌, Ok, FitsSigned}
+use Rattle.std.specs.Prelude.{◌≡◌, ℕ, ◌<◌, ◌≤◌, ◌^◌, List, [], ◌∷◌, length, Ok, FitsSigned}
 use Rattle.std.specs.Int.{w64}
-use Rattle.std.specs.List.{AllByRecursion}
+use Rattle.std.specs.List.{All, AllByRecursion}
 use Rattle.crl_model.specs.declared.TheConstants.{NODE_LIMIT}
 use Rattle.crl_model.specs.declared.collective.Part.{Part}
 use Rattle.crl_model.specs.declared.collective.Part.TheVariants as part
@@ -9,9 +9,12 @@ use Rattle.crl_model.specs.declared.call.Call.{Call}
 use Rattle.crl_model.specs.declared.call.Call.TheVariants as call
 use Rattle.crl_model.specs.declared.event.Event.{Event}
 use Rattle.crl_model.specs.declared.event.Event.TheVariants as event
+use Rattle.crl_model.specs.declared.statement.Statement.{Statement}
+use Rattle.crl_model.specs.declared.statement.Statement.TheVariants as statement
 use Rattle.crl_protocol.specs.Parcels.{Piece}
 use Rattle.crl_protocol.specs.World.{world_of, pieces_in_boxes, IsRun}
-use Rattle.crl_framed.specs.Framed.{AreTyped}
+use Rattle.crl_deeds.specs.Laws.{AreStatements, chosen}
+use Rattle.crl_framed.specs.Framed.{IsTypedName, IsTypedCall, AreTyped}
 use Rattle.crl_wire.specs.Frame.{frame}
 use Rattle.crl_wire.specs.Decoding.{decoded}
 
@@ -56,3 +59,22 @@ IsReadAgain p = decoded (frame p) ≡ Ok p
 
 abbrev pub HasByteFrame : Piece → Type 0
 HasByteFrame p = AreBytes (frame p)
+
+-- Statements as their types have them, where a put has no more bytes than its call can say.
+abbrev pub IsTypedStatement : Statement → Type 0
+IsTypedStatement (statement.Call c) = IsTypedCall c × BringsTyped c
+IsTypedStatement (statement.Put name offset bytes) = IsTypedName name × (offset < 2 ^ 32) × (length bytes < 2 ^ 32) × AreBytes bytes
+IsTypedStatement (statement.Add name offset number) = IsTypedName name × (offset < 2 ^ 32)
+
+abbrev pub AreTypedStatements : List (List Statement) → Type 0
+AreTypedStatements blocks = All (λ block. All IsTypedStatement block) blocks
+
+-- a script for at most 64 nodes, of such statements
+pub record IsTypedScript (count : ℕ) (blocks : List (List Statement)) : Type 0 where
+  pub few : count ≤ NODE_LIMIT
+  pub are : AreStatements blocks
+  pub typed : AreTypedStatements blocks
+
+-- what a script and an order choose in so many turns is a typed run
+abbrev pub ChosenIsTyped : ℕ → ℕ → List (List Statement) → (ℕ → ℕ) → ℕ → Type 0
+ChosenIsTyped count capacity blocks words k = IsTypedRun count capacity (chosen count capacity blocks words k).events

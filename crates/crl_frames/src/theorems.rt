@@ -1,15 +1,27 @@
-//! The theorems, of each piece in a box of any node after any run, among at most 64 nodes, whose calls are typed.
+//! The theorems.
+ghost use Rattle.std.specs.Prelude.{ℕ, ◌≤◌, ◌^◌, List};
+ghost use Rattle.crl_model.specs.declared.statement.Statement.{Statement};
 ghost use Rattle.crl_wire.specs.Frame.{Fits};
-ghost use Rattle.crl_frames.specs.Frames.{OfEachPiece, IsReadAgain, HasByteFrame};
+ghost use Rattle.crl_frames.specs.Frames.{OfEachPiece, IsReadAgain, HasByteFrame, IsTypedScript, ChosenIsTyped};
 
+use crl_deeds::theorems::choices_make_runs;
 use crl_wire::laws::frame_is_read;
 
-/// The piece has a frame: its header is one of the table, and its numbers fit their fields. The frame is bytes, and is read
-/// as the piece. So what is sent as frames comes as it was sent.
+/// After a typed run each piece in a box has a frame: its header is one of the table, and its numbers fit their fields. The
+/// frame is bytes, and is read as the piece. So what is sent as frames comes as it was sent.
 pub fn messages_have_frames()
     ensures fits { OfEachPiece Fits }
     ensures bytes { OfEachPiece HasByteFrame }
     ensures again { OfEachPiece IsReadAgain }
 {
     frame_is_read();
+}
+
+/// What a typed script and an order choose is a typed run, in any number of turns up to 2^62: so are its drafts, which ends
+/// of write sections leave.
+pub fn typed_scripts_run_typed()
+    ensures { (count capacity : ℕ) (blocks : List (List Statement)) (words : ℕ → ℕ) (k : ℕ) → IsTypedScript count blocks → k ≤ 2 ^ 62
+        → ChosenIsTyped count capacity blocks words k }
+{
+    choices_make_runs();
 }
