@@ -1,13 +1,17 @@
 -- What is known of each piece in a box of a typed run, in one place.
 use Rattle.std.specs.List.{AllByRecursion}
-use Rattle.std.proofs.Common.{List}
+use Rattle.std.proofs.Common.{◌≡◌, ℕ, zero, suc, ◌+◌, ◌<◌, ◌≤◌, ◌⊎◌, inl, inr, List, ◌++◌, Option, None, Some, refl, subst, arith}
+use Rattle.std.proofs.lemmas.Bool.{cases_lt}
 use Rattle.crl_protocol.specs.Parcels.{Piece}
-use Rattle.crl_protocol.specs.World.{world_of, pieces_in_boxes}
+use Rattle.crl_protocol.specs.Node.{Node}
+use Rattle.crl_protocol.specs.Places.{Taken, take_out}
+use Rattle.crl_protocol.specs.World.{world_of, boxes_from, pieces_in_boxes}
+use Rattle.crl_deeds.proofs.Laws.{all_took, took_at}
 use Rattle.crl_framed.specs.Framed.{FitsEnds, HomeIsAnEnd, NumberFits, SizeFits, SerialFits, PieceIsPlaced}
 use Rattle.crl_framed.proofs.Laws.{ends_fit, homes_fit, numbers_fit, sizes_fit, serials_fit, pieces_placed, both, all_up}
 use Rattle.crl_wire.specs.Frame.{Fits}
-use Rattle.crl_frames.specs.Frames.{OfEachPiece, HasByteFrame}
-use Rattle.crl_frames.proofs.Loads.{LoadBytes, loads_are_bytes}
+use Rattle.crl_frames.specs.Frames.{OfEachPiece, HoldsOf, OfEachToCarry, HasByteFrame}
+use Rattle.crl_frames.proofs.Loads.{LoadBytes, loads_are_bytes, split}
 use Rattle.crl_frames.proofs.Spelled.{frame_bytes}
 use Rattle.crl_frames.proofs.Table.{Known, known_fits}
 use Rattle.crl_frames.proofs.Values.{ValueFits, values_fit}
@@ -41,3 +45,24 @@ all_fit count capacity run r = all_up Known Fits known_fits (pieces_in_boxes (wo
 pub all_byte_frames : OfEachPiece HasByteFrame
 all_byte_frames count capacity run r =
     both LoadBytes (λ (p : Piece). ValueFits p.message.kind) HasByteFrame (λ p b v. frame_bytes p b v) (pieces_in_boxes (world_of count capacity run)) (loads_are_bytes count capacity run r) (values_fit count capacity run r)
+
+-- The piece at a place of an outbox is in a box.
+at_boxes : (P : Piece → Type 0) (nodes : ℕ → Node) (a k i : ℕ) → a ≤ i → i < a + k → AllByRecursion P (boxes_from a k nodes) → AllByRecursion P (nodes i).outbox
+at_boxes P nodes a zero i low high h = absurd (omega arith)
+at_boxes P nodes a (suc k) i low high h =
+    let parts = split P ((nodes a).inbox ++ (nodes a).outbox) (boxes_from (a + 1) k nodes) h in go (cases_lt a i) parts.0 (λ less. at_boxes P nodes (a + 1) k i (omega arith) (omega arith) parts.1)
+  where
+    go : (a < i) ⊎ (i ≤ a) → AllByRecursion P ((nodes a).inbox ++ (nodes a).outbox) → (a < i → AllByRecursion P (nodes i).outbox) → AllByRecursion P (nodes i).outbox
+    go (inl less) here there = there less
+    go (inr more) here there = let same : a ≡ i = omega arith in subst (λ j. AllByRecursion P (nodes j).outbox) same (split P (nodes a).inbox (nodes a).outbox here).1
+
+of_taken : (P : Piece → Type 0) (ps : List Piece) (place : ℕ) → AllByRecursion P ps → HoldsOf P (take_out place ps)
+of_taken P ps place h = go (take_out place ps) refl
+  where
+    go : (o : Option (Taken Piece)) → take_out place ps ≡ o → HoldsOf P o
+    go None e = tt
+    go (Some t) e = (all_took P (took_at place ps t e) h).0
+
+pub all_to_carry : OfEachToCarry Fits
+all_to_carry count capacity run r i place few =
+    let w = world_of count capacity run in of_taken Fits (w.nodes i).outbox place (at_boxes Fits w.nodes 0 w.count i (omega arith) (omega arith) (all_fit count capacity run r))

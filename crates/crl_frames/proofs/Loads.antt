@@ -19,7 +19,7 @@ use Rattle.crl_flight.specs.Flight.{Under, IsUnder, left_of, lefts, messages_of}
 use Rattle.crl_regions.specs.MailFits.{Tables, FitsTables, MailFits}
 use Rattle.crl_regions.specs.View.{tables_of, mail_in, other_end, flown}
 use Rattle.crl_framed.proofs.Laws.{each_took, all_moved, found, about_self}
-use Rattle.crl_frames.specs.Frames.{AreBytes, OfEachPiece}
+use Rattle.crl_frames.specs.Frames.{IsByte, AreBytes, OfEachPiece}
 use Rattle.crl_frames.proofs.Copies.{MailBytes}
 use Rattle.crl_frames.proofs.Regions.{FlyingBytes}
 use Rattle.crl_frames.proofs.Runs.{Written, written}
@@ -46,13 +46,13 @@ messages_bytes w x = each_took (λ (m : Message). AreBytes (load_of m.kind)) (me
     (λ m rest took. load_bytes (tables_of w) m.sender m.addressee m.kind (all_took (MailFits (tables_of w)) took x.hold.mail).0 (mail_has w x m rest took))
 
 -- Its pieces.
-front : (xs ys : List ℕ) → AreBytes (xs ++ ys) → AreBytes xs × AreBytes ys
-front [] ys h = (tt, h)
-front (x ∷ xs) ys h = let rest = front xs ys h.1 in ((h.0, rest.0), rest.1)
+pub split : {A : Type 0} (P : A → Type 0) (xs ys : List A) → AllByRecursion P (xs ++ ys) → AllByRecursion P xs × AllByRecursion P ys
+split P [] ys h = (tt, h)
+split P (x ∷ xs) ys h = let rest = split P xs ys h.1 in ((h.0, rest.0), rest.1)
 
 join_bytes : (parts : List (List ℕ)) → AreBytes (join parts) → AllByRecursion AreBytes parts
 join_bytes [] h = tt
-join_bytes (p ∷ parts) h = let k = front p (join parts) h in (k.0, join_bytes parts k.1)
+join_bytes (p ∷ parts) h = let k = split IsByte p (join parts) h in (k.0, join_bytes parts k.1)
 
 part_bytes : (k : Kind) (part : List ℕ) → AreBytes part → AreBytes (load_of (with_load part k))
 part_bytes (kind.Grant name version (Shared bytes)) part h = h

@@ -1,5 +1,5 @@
 -- What is said of each piece in a box of every run whose calls are typed: it has a frame, of bytes, which is read as the piece.
-use Rattle.std.specs.Prelude.{◌≡◌, ℕ, ◌<◌, ◌≤◌, ◌^◌, List, [], ◌∷◌, length, Ok, FitsSigned}
+use Rattle.std.specs.Prelude.{◌≡◌, ℕ, ◌<◌, ◌≤◌, ◌^◌, List, [], ◌∷◌, length, Option, None, Some, Ok, FitsSigned}
 use Rattle.std.specs.Int.{w64}
 use Rattle.std.specs.List.{All, AllByRecursion}
 use Rattle.crl_model.specs.declared.TheConstants.{NODE_LIMIT}
@@ -12,6 +12,7 @@ use Rattle.crl_model.specs.declared.event.Event.TheVariants as event
 use Rattle.crl_model.specs.declared.statement.Statement.{Statement}
 use Rattle.crl_model.specs.declared.statement.Statement.TheVariants as statement
 use Rattle.crl_protocol.specs.Parcels.{Piece}
+use Rattle.crl_protocol.specs.Places.{Taken, take_out}
 use Rattle.crl_protocol.specs.World.{world_of, pieces_in_boxes, IsRun}
 use Rattle.crl_deeds.specs.Laws.{AreStatements, chosen}
 use Rattle.crl_framed.specs.Framed.{IsTypedName, IsTypedCall, AreTyped}
@@ -52,6 +53,16 @@ pub record IsTypedRun (count capacity : ℕ) (run : List Event) : Type 0 where
 -- The statements, of each piece in a box after such a run.
 abbrev pub OfEachPiece : (Piece → Type 0) → Type 0
 OfEachPiece Holds = (count capacity : ℕ) (run : List Event) → IsTypedRun count capacity run → AllByRecursion Holds (pieces_in_boxes (world_of count capacity run))
+
+-- and of the piece at each place of an outbox, which is carried from there
+abbrev pub HoldsOf : (Piece → Type 0) → Option (Taken Piece) → Type 0
+HoldsOf Holds None = Unit {0}
+HoldsOf Holds (Some t) = Holds t.taken
+
+abbrev pub OfEachToCarry : (Piece → Type 0) → Type 0
+OfEachToCarry Holds =
+    (count capacity : ℕ) (run : List Event) → IsTypedRun count capacity run
+    → let w = world_of count capacity run in (i place : ℕ) → i < w.count → HoldsOf Holds (take_out place (w.nodes i).outbox)
 
 -- the frame is read as the piece
 abbrev pub IsReadAgain : Piece → Type 0

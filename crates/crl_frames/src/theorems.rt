@@ -2,7 +2,7 @@
 ghost use Rattle.std.specs.Prelude.{ℕ, ◌≤◌, ◌^◌, List};
 ghost use Rattle.crl_model.specs.declared.statement.Statement.{Statement};
 ghost use Rattle.crl_wire.specs.Frame.{Fits};
-ghost use Rattle.crl_frames.specs.Frames.{OfEachPiece, IsReadAgain, HasByteFrame, IsTypedScript, ChosenIsTyped};
+ghost use Rattle.crl_frames.specs.Frames.{OfEachPiece, OfEachToCarry, IsReadAgain, HasByteFrame, IsTypedScript, ChosenIsTyped};
 
 use crl_deeds::theorems::choices_make_runs;
 use crl_wire::laws::frame_is_read;
@@ -13,6 +13,8 @@ pub fn messages_have_frames()
     ensures fits { OfEachPiece Fits }
     ensures bytes { OfEachPiece HasByteFrame }
     ensures again { OfEachPiece IsReadAgain }
+    // Of the piece at a place of an outbox, as a carriage finds it.
+    ensures carried { OfEachToCarry Fits }
 {
     frame_is_read();
 }
