@@ -2,7 +2,7 @@
 pub use Rattle.crl_framed.proofs.Ends.{ends_fit, homes_fit}
 pub use Rattle.crl_framed.proofs.Words.{numbers_fit}
 pub use Rattle.crl_framed.proofs.Placed.{pieces_placed, sizes_fit}
-pub use Rattle.crl_framed.proofs.Serials.{serials_fit}
+pub use Rattle.crl_framed.proofs.Serials.{serials_fit, serials_real}
 -- What holds of all elements of a list, and of all mail of a region.
 pub use Rattle.crl_framed.proofs.Numbers.{all_up}
 pub use Rattle.crl_framed.proofs.Ends.{both, each_took}
