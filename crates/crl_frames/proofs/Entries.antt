@@ -1,4 +1,4 @@
--- In every run whose calls are typed each part in the account is one that a call brought, so it fits.
+-- In every run each part in the account is one that a call brought, and may be sent. What holds of parts in calls holds of it.
 use Rattle.std.proofs.Common.{◌≡◌, ℕ, zero, suc, ◌+◌, ◌-◌, ◌==◌, ◌&&◌, Bool, true, false, None, Some, Option, List, [], ◌∷◌, length, get_or, if◌then◌else◌, refl, sym, ◌∙◌, subst, arith}
 use Rattle.std.specs.List.{AllByRecursion}
 use Rattle.std.proofs.lemmas.Bool.{cond_both, and_parts}
@@ -8,6 +8,7 @@ use Rattle.crl_model.specs.declared.collective.Part.TheVariants as part
 use Rattle.crl_model.specs.declared.collective.Fold.{Fold}
 use Rattle.crl_model.specs.declared.collective.Fold.TheVariants as fold
 use Rattle.crl_model.specs.declared.call.Call.{Call}
+use Rattle.crl_model.specs.declared.call.Call.TheVariants as call
 use Rattle.crl_model.specs.declared.call.CallKind.{CallKind}
 use Rattle.crl_model.specs.declared.entry.Entry.{Entry}
 use Rattle.crl_model.specs.declared.entry.What.{What}
@@ -30,15 +31,31 @@ use Rattle.crl_deeds.specs.Deeds as deed
 use Rattle.crl_deeds.proofs.Laws.{all_append, call_deed, message_deed, send_fits}
 use Rattle.crl_rounds.specs.Standing.{part_in, parts_brought, machine_of}
 use Rattle.crl_rounds.proofs.Laws.{came_from_start}
-use Rattle.crl_frames.specs.Frames.{BringsTyped, BringTyped}
-use Rattle.crl_frames.proofs.Folds.{PartFits}
 
-abbrev WhatFits : What → Type 0
-WhatFits (what.Come part) = PartFits part
-WhatFits _ = Unit {0}
+-- What the calls of a run say of the parts that they bring.
+abbrev pub CallBrings : (Part → Type 0) → Call → Type 0
+CallBrings Said (call.Come part) = Said part
+CallBrings Said _ = Unit {0}
 
-abbrev EntriesFit : List Entry → Type 0
-EntriesFit es = AllByRecursion (λ (e : Entry). WhatFits e.what) es
+abbrev EventBrings : (Part → Type 0) → Event → Type 0
+EventBrings Said (event.Call i c) = CallBrings Said c
+EventBrings Said _ = Unit {0}
+
+abbrev pub CallsBring : (Part → Type 0) → List Event → Type 0
+CallsBring Said [] = Unit {0}
+CallsBring Said (event.Call i c ∷ es) = CallBrings Said c × CallsBring Said es
+CallsBring Said (_ ∷ es) = CallsBring Said es
+
+abbrev CauseBrings : (Part → Type 0) → Cause → Type 0
+CauseBrings Said (Calls c) = CallBrings Said c
+CauseBrings Said (Hears from k) = Unit {0}
+
+abbrev WhatHolds : (Part → Type 0) → What → Type 0
+WhatHolds Holds (what.Come part) = Holds part
+WhatHolds Holds _ = Unit {0}
+
+abbrev EntriesHold : (Part → Type 0) → List Entry → Type 0
+EntriesHold Holds es = AllByRecursion (λ (e : Entry). WhatHolds Holds e.what) es
 
 -- entries that bring no part
 abbrev is_other : What → Bool
@@ -49,144 +66,137 @@ abbrev are_other : List Entry → Bool
 are_other [] = true
 are_other (e ∷ es) = is_other e.what && are_other es
 
-other_fits : (w : What) → is_other w ≡ true → WhatFits w
-other_fits (what.Come part) e = absurd (cc)
-other_fits _ e = tt
-
-others : (es : List Entry) → are_other es ≡ true → EntriesFit es
-others [] e = tt
-others (x ∷ es) e = let k = and_parts _ _ e in (other_fits x.what k.0, others es k.1)
-
-begun_fits : (write : Bool) (name : Name) → WhatFits (if write then what.StartWrite name else what.StartRead name)
-begun_fits true name = tt
-begun_fits false name = tt
-
-told_fits : (round : ℕ) (k : CallKind) (f : Fold) → WhatFits (result_of round k f)
-told_fits round k fold.Mixed = tt
-told_fits round k _ = tt
-
-ended_fits : (bytes : List ℕ) (n : Node) (c : Call) (name : Name) (w : What) (ends : Home → HomeStep) (lowers : Remote → RemoteStep) → EndsCall bytes n c name w ends lowers → WhatFits w
-ended_fits bytes n c name w ends lowers (a_read q v) = tt
-ended_fits bytes n c name w ends lowers (a_write q after v) = tt
-
 sendable : (p : Part) → of_part p ≡ None → IsSendable p
 sendable (part.Send bytes) e = send_fits bytes e
 sendable _ e = tt
 
--- The deeds.
-abbrev CauseTyped : Cause → Type 0
-CauseTyped (Calls c) = BringsTyped c
-CauseTyped (Hears from k) = Unit {0}
+each_event : (Said : Part → Type 0) (e : Event) (es : List Event) → CallsBring Said (e ∷ es) → EventBrings Said e × CallsBring Said es
+each_event Said (event.Call i c) es t = t
+each_event Said (event.Collect i) es t = (tt, t)
+each_event Said (event.Handle i place) es t = (tt, t)
+each_event Said (event.Carry i place) es t = (tt, t)
 
-copies_fit : (n : Node) (cause : Cause) (o : Outcome) → Copies n cause o → EntriesFit o.entries
-copies_fit n cause o (deed.home_opens c write name h is e v x) = (begun_fits write name, tt)
-copies_fit n cause o (deed.side_opens c write name r is e f v x) = (begun_fits write name, tt)
-copies_fit n cause o (deed.home_ends c name w ends lowers h is e) = (ended_fits _ n c name w ends lowers is, tt)
-copies_fit n cause o (deed.side_ends c name w ends lowers r is e f) = (ended_fits _ n c name w ends lowers is, tt)
-copies_fit n cause o (deed.home_serves_own from k name h s is e x) = (begun_fits _ name, tt)
-copies_fit n cause o (deed.grant_comes from name version g r e t) = (begun_fits _ name, tt)
-copies_fit n cause o _ = others o.entries refl
+module _ (Said Holds : Part → Type 0) (made : (p : Part) → IsSendable p → Said p → Holds p) (barrier : Holds part.Barrier) where
+  other_fits : (w : What) → is_other w ≡ true → WhatHolds Holds w
+  other_fits (what.Come part) e = absurd (cc)
+  other_fits _ e = tt
 
-lives_fit : (n : Node) (cause : Cause) (o : Outcome) → Lives n cause o → EntriesFit o.entries
-lives_fit n cause o (deed.made size e) = (tt, tt)
-lives_fit n cause o _ = others o.entries refl
+  others : (es : List Entry) → are_other es ≡ true → EntriesHold Holds es
+  others [] e = tt
+  others (x ∷ es) e = let k = and_parts _ _ e in (other_fits x.what k.0, others es k.1)
 
-rounds_fit : (n : Node) (cause : Cause) (o : Outcome) → Rounds n cause o → CauseTyped cause → EntriesFit o.entries
-rounds_fit n cause o (deed.comes_away part other fits) t = ((sendable part fits, t), tt)
-rounds_fit n cause o (deed.comes_home part first fits none) t = ((sendable part fits, t), tt)
-rounds_fit n cause o (deed.comes_last part parts first fits all) t = ((sendable part fits, t), (told_fits _ _ _, tt))
-rounds_fit n cause o (deed.part_last from round part parts mine k e a all) t = (told_fits _ _ _, tt)
-rounds_fit n cause o (deed.result_comes from round f k e) t = (told_fits _ _ _, tt)
-rounds_fit n cause o _ t = tt
+  begun_fits : (write : Bool) (name : Name) → WhatHolds Holds (if write then what.StartWrite name else what.StartRead name)
+  begun_fits true name = tt
+  begun_fits false name = tt
 
-notes_fit : (n : Node) (c : Call) (w : What) (m : Node) → Notes n c w m → WhatFits w
-notes_fit n c w m (deed.ends_nowhere c0 name w0 ends lowers is none) = ended_fits _ n c name w ends lowers is
-notes_fit n c w m (deed.flushes_own name mine closed) = tt
-notes_fit n c w m (deed.flushes_nowhere name other e closed) = tt
+  told_fits : (round : ℕ) (k : CallKind) (f : Fold) → WhatHolds Holds (result_of round k f)
+  told_fits round k fold.Mixed = tt
+  told_fits round k _ = tt
 
-deed_fit : (n : Node) (cause : Cause) (o : Outcome) → Deed n cause o → CauseTyped cause → EntriesFit o.entries
-deed_fit n cause o (deed.copies d) t = copies_fit n cause o d
-deed_fit n cause o (deed.lives d) t = lives_fit n cause o d
-deed_fit n cause o (deed.rounds d) t = rounds_fit n cause o d t
-deed_fit n cause o (deed.notes d) t = (notes_fit n _ _ _ d, tt)
-deed_fit n cause o (deed.refuses c why e) t = (tt, tt)
-deed_fit n cause o (deed.idles idle) t = tt
+  ended_fits : (bytes : List ℕ) (n : Node) (c : Call) (name : Name) (w : What) (ends : Home → HomeStep) (lowers : Remote → RemoteStep) → EndsCall bytes n c name w ends lowers → WhatHolds Holds w
+  ended_fits bytes n c name w ends lowers (a_read q v) = tt
+  ended_fits bytes n c name w ends lowers (a_write q after v) = tt
 
--- A piece that comes, and an event.
-received_fit : (p : Piece) (n : Node) → EntriesFit (receives p n).entries
-received_fit p n = by_key (key_of p.message)
-  where
-    of_slots : (key : Key) (slots : List (Option (List ℕ))) → EntriesFit (gathers_piece key p slots n).entries
-    of_slots key slots =
-        cond_both (is_complete slots) _ _ (λ (x : Outcome). EntriesFit x.entries)
-        (λ v. deed_fit (record n { parcels = at_key n.parcels key None }) _ _ (message_deed (record n { parcels = at_key n.parcels key None }) p.message.sender (with_load (joined slots) p.message.kind)) tt) (λ v. tt)
+  -- The deeds.
+  copies_fit : (n : Node) (cause : Cause) (o : Outcome) → Copies n cause o → EntriesHold Holds o.entries
+  copies_fit n cause o (deed.home_opens c write name h is e v x) = (begun_fits write name, tt)
+  copies_fit n cause o (deed.side_opens c write name r is e f v x) = (begun_fits write name, tt)
+  copies_fit n cause o (deed.home_ends c name w ends lowers h is e) = (ended_fits _ n c name w ends lowers is, tt)
+  copies_fit n cause o (deed.side_ends c name w ends lowers r is e f) = (ended_fits _ n c name w ends lowers is, tt)
+  copies_fit n cause o (deed.home_serves_own from k name h s is e x) = (begun_fits _ name, tt)
+  copies_fit n cause o (deed.grant_comes from name version g r e t) = (begun_fits _ name, tt)
+  copies_fit n cause o _ = others o.entries refl
 
-    of_size : (key : Key) (size : Option ℕ) → EntriesFit (receives_part key p size n).entries
-    of_size key None = tt
-    of_size key (Some size) =
-        cond_both (fits_size size p && is_missing p.index (slots_or p.pieces (n.parcels key))) _ _ (λ (x : Outcome). EntriesFit x.entries) (λ v. of_slots key (slots_with p (n.parcels key))) (λ v. tt)
+  lives_fit : (n : Node) (cause : Cause) (o : Outcome) → Lives n cause o → EntriesHold Holds o.entries
+  lives_fit n cause o (deed.made size e) = (tt, tt)
+  lives_fit n cause o _ = others o.entries refl
 
-    by_key : (o : Option Key) → EntriesFit (receives_as o p n).entries
-    by_key None = deed_fit n _ _ (message_deed n p.message.sender p.message.kind) tt
-    by_key (Some key) = of_size key (size_for key.load key.name n)
+  rounds_fit : (n : Node) (cause : Cause) (o : Outcome) → Rounds n cause o → CauseBrings Said cause → EntriesHold Holds o.entries
+  rounds_fit n cause o (deed.comes_away part other fits) t = (made part (sendable part fits) t, tt)
+  rounds_fit n cause o (deed.comes_home part first fits none) t = (made part (sendable part fits) t, tt)
+  rounds_fit n cause o (deed.comes_last part parts first fits all) t = (made part (sendable part fits) t, (told_fits _ _ _, tt))
+  rounds_fit n cause o (deed.part_last from round part parts mine k e a all) t = (told_fits _ _ _, tt)
+  rounds_fit n cause o (deed.result_comes from round f k e) t = (told_fits _ _ _, tt)
+  rounds_fit n cause o _ t = tt
 
-collected_fit : (a : Activity) (n : Node) → EntriesFit (collects a n).entries
-collected_fit Free n = tt
-collected_fit (Waiting awaited) n = tt
-collected_fit (Ready answer) n = tt
+  notes_fit : (n : Node) (c : Call) (w : What) (m : Node) → Notes n c w m → WhatHolds Holds w
+  notes_fit n c w m (deed.ends_nowhere c0 name w0 ends lowers is none) = ended_fits _ n c name w ends lowers is
+  notes_fit n c w m (deed.flushes_own name mine closed) = tt
+  notes_fit n c w m (deed.flushes_nowhere name other e closed) = tt
 
-abbrev pub EventTyped : Event → Type 0
-EventTyped (event.Call i c) = BringsTyped c
-EventTyped _ = Unit {0}
+  deed_fit : (n : Node) (cause : Cause) (o : Outcome) → Deed n cause o → CauseBrings Said cause → EntriesHold Holds o.entries
+  deed_fit n cause o (deed.copies d) t = copies_fit n cause o d
+  deed_fit n cause o (deed.lives d) t = lives_fit n cause o d
+  deed_fit n cause o (deed.rounds d) t = rounds_fit n cause o d t
+  deed_fit n cause o (deed.notes d) t = (notes_fit n _ _ _ d, tt)
+  deed_fit n cause o (deed.refuses c why e) t = (tt, tt)
+  deed_fit n cause o (deed.idles idle) t = tt
 
-step_fit : (w : World) (e : Event) → EventTyped e → EntriesFit (step e w).entries
-unfolding step
-step_fit w (event.Call i c) t = deed_fit (w.nodes i) _ _ (call_deed (w.nodes i) c) t
-step_fit w (event.Collect i) t = collected_fit (w.nodes i).activity (w.nodes i)
-step_fit w (event.Handle i place) t = go (take_out place (w.nodes i).inbox)
-  where
-    go : (o : Option (Taken Piece)) → EntriesFit (handles_at i (event.Handle i place) o w).entries
-    go None = tt
-    go (Some y) = received_fit y.taken (record (w.nodes i) { inbox = y.rest })
-step_fit w (event.Carry i place) t = go (take_out place (w.nodes i).outbox)
-  where
-    go : (o : Option (Taken Piece)) → EntriesFit (carries i (event.Carry i place) o w).entries
-    go None = tt
-    go (Some y) = tt
+  -- A piece that comes, and an event.
+  received_fit : (p : Piece) (n : Node) → EntriesHold Holds (receives p n).entries
+  received_fit p n = by_key (key_of p.message)
+    where
+      of_slots : (key : Key) (slots : List (Option (List ℕ))) → EntriesHold Holds (gathers_piece key p slots n).entries
+      of_slots key slots =
+          cond_both (is_complete slots) _ _ (λ (x : Outcome). EntriesHold Holds x.entries)
+          (λ v. deed_fit (record n { parcels = at_key n.parcels key None }) _ _ (message_deed (record n { parcels = at_key n.parcels key None }) p.message.sender (with_load (joined slots) p.message.kind)) tt) (λ v. tt)
 
-pub each_event : (e : Event) (es : List Event) → BringTyped (e ∷ es) → EventTyped e × BringTyped es
-each_event (event.Call i c) es t = t
-each_event (event.Collect i) es t = (tt, t)
-each_event (event.Handle i place) es t = (tt, t)
-each_event (event.Carry i place) es t = (tt, t)
+      of_size : (key : Key) (size : Option ℕ) → EntriesHold Holds (receives_part key p size n).entries
+      of_size key None = tt
+      of_size key (Some size) =
+          cond_both (fits_size size p && is_missing p.index (slots_or p.pieces (n.parcels key))) _ _ (λ (x : Outcome). EntriesHold Holds x.entries) (λ v. of_slots key (slots_with p (n.parcels key))) (λ v. tt)
 
-account_fit : (w : World) (es : List Event) → BringTyped es → EntriesFit (account_from w es)
-account_fit w [] t = tt
-account_fit w (e ∷ es) t = let x = each_event e es t in all_append (λ (y : Entry). WhatFits y.what) (step e w).entries (account_from (step e w).world es) (step_fit w e x.0) (account_fit (step e w).world es x.1)
+      by_key : (o : Option Key) → EntriesHold Holds (receives_as o p n).entries
+      by_key None = deed_fit n _ _ (message_deed n p.message.sender p.message.kind) tt
+      by_key (Some key) = of_size key (size_for key.load key.name n)
 
--- So are the parts that the single machine has.
-part_in_fits : (w : What) → WhatFits w → AllByRecursion PartFits (part_in w)
-part_in_fits (what.Come part) h = (h, tt)
-part_in_fits _ h = tt
+  collected_fit : (a : Activity) (n : Node) → EntriesHold Holds (collects a n).entries
+  collected_fit Free n = tt
+  collected_fit (Waiting awaited) n = tt
+  collected_fit (Ready answer) n = tt
 
-brought_fit : (i : ℕ) (es : List Entry) → EntriesFit es → AllByRecursion PartFits (parts_brought i es)
-brought_fit i [] h = tt
-brought_fit i (e ∷ es) h =
-    let rest = brought_fit i es h.1 in
-    cond_both (e.node == i) _ _ (AllByRecursion PartFits) (λ w. all_append PartFits (part_in e.what) (parts_brought i es) (part_in_fits e.what h.0) rest) (λ w. rest)
+  step_fit : (w : World) (e : Event) → EventBrings Said e → EntriesHold Holds (step e w).entries
+  unfolding step
+  step_fit w (event.Call i c) t = deed_fit (w.nodes i) _ _ (call_deed (w.nodes i) c) t
+  step_fit w (event.Collect i) t = collected_fit (w.nodes i).activity (w.nodes i)
+  step_fit w (event.Handle i place) t = go (take_out place (w.nodes i).inbox)
+    where
+      go : (o : Option (Taken Piece)) → EntriesHold Holds (handles_at i (event.Handle i place) o w).entries
+      go None = tt
+      go (Some y) = received_fit y.taken (record (w.nodes i) { inbox = y.rest })
+  step_fit w (event.Carry i place) t = go (take_out place (w.nodes i).outbox)
+    where
+      go : (o : Option (Taken Piece)) → EntriesHold Holds (carries i (event.Carry i place) o w).entries
+      go None = tt
+      go (Some y) = tt
 
-at_fits : (xs : List Part) (k : ℕ) → AllByRecursion PartFits xs → PartFits (get_or xs k part.Barrier)
-at_fits [] k h = (tt, tt)
-at_fits (x ∷ xs) zero h = h.0
-at_fits (x ∷ xs) (suc k) h = at_fits xs k h.1
+  account_fit : (w : World) (es : List Event) → CallsBring Said es → EntriesHold Holds (account_from w es)
+  account_fit w [] t = tt
+  account_fit w (e ∷ es) t = let x = each_event Said e es t in all_append (λ (y : Entry). WhatHolds Holds y.what) (step e w).entries (account_from (step e w).world es) (step_fit w e x.0) (account_fit (step e w).world es x.1)
 
-pub part_fits : (count capacity : ℕ) (run : List Event) → BringTyped run → (i round : ℕ) → PartFits (part_at (machine_of count capacity run) i round)
-part_fits count capacity run t i round =
-    at_fits _ (round - 1) (subst (AllByRecursion PartFits) (sym (came_from_start count i (account count capacity run))) (brought_fit i _ (account_fit (new_world count capacity) run t)))
+  -- So are the parts that the single machine has.
+  part_in_fits : (w : What) → WhatHolds Holds w → AllByRecursion Holds (part_in w)
+  part_in_fits (what.Come part) h = (h, tt)
+  part_in_fits _ h = tt
 
-pub parts_fit : (count capacity : ℕ) (run : List Event) → BringTyped run → (round m k : ℕ) → AllByRecursion PartFits (parts_from (machine_of count capacity run) round m k)
-parts_fit count capacity run t round m zero = tt
-parts_fit count capacity run t round m (suc k) = (part_fits count capacity run t m round, parts_fit count capacity run t round (m + 1) k)
+  brought_fit : (i : ℕ) (es : List Entry) → EntriesHold Holds es → AllByRecursion Holds (parts_brought i es)
+  brought_fit i [] h = tt
+  brought_fit i (e ∷ es) h =
+      let rest = brought_fit i es h.1 in
+      cond_both (e.node == i) _ _ (AllByRecursion Holds) (λ w. all_append Holds (part_in e.what) (parts_brought i es) (part_in_fits e.what h.0) rest) (λ w. rest)
+
+  at_fits : (xs : List Part) (k : ℕ) → AllByRecursion Holds xs → Holds (get_or xs k part.Barrier)
+  at_fits [] k h = barrier
+  at_fits (x ∷ xs) zero h = h.0
+  at_fits (x ∷ xs) (suc k) h = at_fits xs k h.1
+
+  pub part_fits : (count capacity : ℕ) (run : List Event) → CallsBring Said run → (i round : ℕ) → Holds (part_at (machine_of count capacity run) i round)
+  part_fits count capacity run t i round =
+      at_fits _ (round - 1) (subst (AllByRecursion Holds) (sym (came_from_start count i (account count capacity run))) (brought_fit i _ (account_fit (new_world count capacity) run t)))
+
+  pub parts_fit : (count capacity : ℕ) (run : List Event) → CallsBring Said run → (round m k : ℕ) → AllByRecursion Holds (parts_from (machine_of count capacity run) round m k)
+  parts_fit count capacity run t round m zero = tt
+  parts_fit count capacity run t round m (suc k) = (part_fits count capacity run t m round, parts_fit count capacity run t round (m + 1) k)
 
 pub parts_length : (s : State) (round m k : ℕ) → length (parts_from s round m k) ≡ k
 parts_length s round m zero = refl

@@ -34,9 +34,9 @@ abbrev pub Given : {A : Type 0} → (A → Type 0) → Option A → Type 0
 Given P None = Unit {0}
 Given P (Some x) = P x
 
-given_fold : {A : Type 0} (P : A → Type 0) (make : A → Fold) → ((x : A) → P x → FoldFits (make x)) → (o : Option A) → Given P o → FoldFits (option_map_or make o fold.Mixed)
-given_fold P make f None h = tt
-given_fold P make f (Some x) h = f x h
+given_fold : {A : Type 0} (Q : Fold → Type 0) (P : A → Type 0) (make : A → Fold) → Q fold.Mixed → ((x : A) → P x → Q (make x)) → (o : Option A) → Given P o → Q (option_map_or make o fold.Mixed)
+given_fold Q P make mixed f None h = mixed
+given_fold Q P make mixed f (Some x) h = f x h
 
 -- The sum of so many numbers of 64 bits.
 record IsSum (n : ℕ) (sum : ℤ) : Type 0 where
@@ -79,26 +79,47 @@ greatest (part.Receive ∷ ps) x f h = tt
 greatest (part.Sum v ∷ ps) x f h = tt
 greatest (part.Min v ∷ ps) x f h = tt
 
-sent : (o : Option (List ℕ)) (ps : List Part) → Given SentFits o → AllByRecursion PartFits ps → Given SentFits (sent_from o ps)
-sent o [] f h = f
-sent None (part.Send bytes ∷ ps) f h = sent (Some bytes) ps h.0 h.1
-sent (Some x) (part.Send bytes ∷ ps) f h = tt
-sent None (part.Receive ∷ ps) f h = sent None ps f h.1
-sent (Some x) (part.Receive ∷ ps) f h = sent (Some x) ps f h.1
-sent None (part.Barrier ∷ ps) f h = tt
-sent (Some x) (part.Barrier ∷ ps) f h = tt
-sent None (part.Sum v ∷ ps) f h = tt
-sent (Some x) (part.Sum v ∷ ps) f h = tt
-sent None (part.Min v ∷ ps) f h = tt
-sent (Some x) (part.Min v ∷ ps) f h = tt
-sent None (part.Max v ∷ ps) f h = tt
-sent (Some x) (part.Max v ∷ ps) f h = tt
+sent : (P : Part → Type 0) (o : Option (List ℕ)) (ps : List Part) → Given (λ bytes. P (part.Send bytes)) o → AllByRecursion P ps → Given (λ bytes. P (part.Send bytes)) (sent_from o ps)
+sent P o [] f h = f
+sent P None (part.Send bytes ∷ ps) f h = sent P (Some bytes) ps h.0 h.1
+sent P (Some x) (part.Send bytes ∷ ps) f h = tt
+sent P None (part.Receive ∷ ps) f h = sent P None ps f h.1
+sent P (Some x) (part.Receive ∷ ps) f h = sent P (Some x) ps f h.1
+sent P None (part.Barrier ∷ ps) f h = tt
+sent P (Some x) (part.Barrier ∷ ps) f h = tt
+sent P None (part.Sum v ∷ ps) f h = tt
+sent P (Some x) (part.Sum v ∷ ps) f h = tt
+sent P None (part.Min v ∷ ps) f h = tt
+sent P (Some x) (part.Min v ∷ ps) f h = tt
+sent P None (part.Max v ∷ ps) f h = tt
+sent P (Some x) (part.Max v ∷ ps) f h = tt
 
 pub fold_fits : (ps : List Part) → length ps ≤ 64 → AllByRecursion PartFits ps → FoldFits (fold_of ps)
 fold_fits [] l h = tt
 fold_fits (part.Barrier ∷ ps) l h = cond_both (are_barriers ps) _ _ FoldFits (λ w. tt) (λ w. tt)
-fold_fits (part.Send bytes ∷ ps) l h = given_fold SentFits fold.Broadcast (λ x f. f) _ (sent (Some bytes) ps h.0 h.1)
-fold_fits (part.Receive ∷ ps) l h = given_fold SentFits fold.Broadcast (λ x f. f) _ (sent None ps tt h.1)
-fold_fits (part.Sum v ∷ ps) l h = given_fold (FitsSigned w128) fold.Sum (λ x f. f) _ (summed 1 _ ps (omega arith) (one_more 0 (pos 0) v no_sum h.0.1) h.1)
-fold_fits (part.Min v ∷ ps) l h = given_fold (FitsSigned w64) fold.Min (λ x f. f) _ (least ps v h.0.1 h.1)
-fold_fits (part.Max v ∷ ps) l h = given_fold (FitsSigned w64) fold.Max (λ x f. f) _ (greatest ps v h.0.1 h.1)
+fold_fits (part.Send bytes ∷ ps) l h = given_fold FoldFits SentFits fold.Broadcast tt (λ x f. f) _ (sent PartFits (Some bytes) ps h.0 h.1)
+fold_fits (part.Receive ∷ ps) l h = given_fold FoldFits SentFits fold.Broadcast tt (λ x f. f) _ (sent PartFits None ps tt h.1)
+fold_fits (part.Sum v ∷ ps) l h = given_fold FoldFits (FitsSigned w128) fold.Sum tt (λ x f. f) _ (summed 1 _ ps (omega arith) (one_more 0 (pos 0) v no_sum h.0.1) h.1)
+fold_fits (part.Min v ∷ ps) l h = given_fold FoldFits (FitsSigned w64) fold.Min tt (λ x f. f) _ (least ps v h.0.1 h.1)
+fold_fits (part.Max v ∷ ps) l h = given_fold FoldFits (FitsSigned w64) fold.Max tt (λ x f. f) _ (greatest ps v h.0.1 h.1)
+
+-- What may be sent, whatever the values are.
+abbrev pub FoldSendable : Fold → Type 0
+FoldSendable (fold.Broadcast bytes) = IsSendable (part.Send bytes)
+FoldSendable _ = Unit {0}
+
+abbrev SentMay : List ℕ → Type 0
+SentMay bytes = IsSendable (part.Send bytes)
+
+any_given : (o : Option ℤ) → Given (λ (x : ℤ). Unit {0}) o
+any_given None = tt
+any_given (Some x) = tt
+
+pub fold_sendable : (ps : List Part) → AllByRecursion IsSendable ps → FoldSendable (fold_of ps)
+fold_sendable [] h = tt
+fold_sendable (part.Barrier ∷ ps) h = cond_both (are_barriers ps) _ _ FoldSendable (λ w. tt) (λ w. tt)
+fold_sendable (part.Send bytes ∷ ps) h = given_fold FoldSendable SentMay fold.Broadcast tt (λ x f. f) _ (sent IsSendable (Some bytes) ps h.0 h.1)
+fold_sendable (part.Receive ∷ ps) h = given_fold FoldSendable SentMay fold.Broadcast tt (λ x f. f) _ (sent IsSendable None ps tt h.1)
+fold_sendable (part.Sum v ∷ ps) h = given_fold FoldSendable (λ (x : ℤ). Unit {0}) fold.Sum tt (λ x f. tt) _ (any_given (sum_from (pos 0 +ℤ v) ps))
+fold_sendable (part.Min v ∷ ps) h = given_fold FoldSendable (λ (x : ℤ). Unit {0}) fold.Min tt (λ x f. tt) _ (any_given (least_from v ps))
+fold_sendable (part.Max v ∷ ps) h = given_fold FoldSendable (λ (x : ℤ). Unit {0}) fold.Max tt (λ x f. tt) _ (any_given (greatest_from v ps))

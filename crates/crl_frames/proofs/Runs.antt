@@ -18,9 +18,19 @@ use Rattle.crl_regions.proofs.Laws.{regions_start, regions_step}
 use Rattle.crl_framed.proofs.Laws.{last_world, last_run, no_table}
 use Rattle.crl_frames.specs.Frames.{AreBytes, BringsTyped, BringTyped}
 use Rattle.crl_frames.proofs.Copies.{news}
-use Rattle.crl_frames.proofs.Entries.{EventTyped, each_event}
 use Rattle.crl_frames.proofs.Folds.{Given}
 use Rattle.crl_frames.proofs.Regions.{RegionBytes, goes_on_bytes, zeros, created_bytes}
+
+-- What an event of a typed run brings.
+abbrev pub EventTyped : Event → Type 0
+EventTyped (event.Call i c) = BringsTyped c
+EventTyped _ = Unit {0}
+
+pub each_event : (e : Event) (es : List Event) → BringTyped (e ∷ es) → EventTyped e × BringTyped es
+each_event (event.Call i c) es t = t
+each_event (event.Collect i) es t = (tt, t)
+each_event (event.Handle i place) es t = (tt, t)
+each_event (event.Carry i place) es t = (tt, t)
 
 -- What an event leaves in the array.
 left_bytes : (b : Bool) (o : Option Refusal) (bytes : List ℕ) → AreBytes bytes → Given AreBytes (left_if b o bytes)

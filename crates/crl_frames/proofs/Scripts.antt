@@ -30,8 +30,7 @@ use Rattle.crl_framed.specs.Framed.{IsTypedCall, AreTyped}
 use Rattle.crl_framed.proofs.Laws.{last_world, last_run}
 use Rattle.crl_frames.specs.Frames.{IsByte, AreBytes, BringsTyped, BringTyped, IsTypedStatement, AreTypedStatements}
 use Rattle.crl_frames.proofs.Copies.{news}
-use Rattle.crl_frames.proofs.Entries.{EventTyped, each_event}
-use Rattle.crl_frames.proofs.Runs.{event_leaves}
+use Rattle.crl_frames.proofs.Runs.{EventTyped, each_event, event_leaves}
 use Rattle.crl_frames.proofs.Spelled.{number_bytes}
 
 -- The array after a run has bytes, and so has a guard that the run's next event gives.

@@ -1,4 +1,4 @@
--- A piece whose fields fit is one of the table of frames.
+-- A piece of which this is known is one of the table of frames.
 use Rattle.std.proofs.Common.{◌≡◌, ℕ, ◌-◌, ◌≤◌, ◌<◌, ◌^◌, ◌==◌, nat_lt, nat_le, true, false, not, ◌&&◌, ◌||◌, ◌⊎◌, inl, inr, None, Some, length, refl, ap, sym, subst, arith}
 use Rattle.std.proofs.lemmas.Bool.{lt-ltb, le-leb, eq-eqb, ne_eqb, cases_lt}
 use Rattle.std.specs.Cmp.Derive.{both_true}
@@ -12,10 +12,10 @@ use Rattle.crl_model.specs.declared.message.Kind.{Kind}
 use Rattle.crl_model.specs.declared.message.Kind.TheVariants as kind
 use Rattle.crl_pieces.specs.Pieces.{count, piece_size}
 use Rattle.crl_protocol.specs.Parcels.{Piece, Key, key_of, load_of}
-use Rattle.crl_framed.specs.Framed.{FitsEnds, FitsHome, FitsNumber, FitsSize, FitsSerial, IsRegionSize, IsPieceOf, PieceIsPlaced}
+use Rattle.crl_framed.specs.Framed.{FitsEnds, FitsHome, FitsNumber, FitsSize, FitsSerial, SerialIsReal, IsRegionSize, IsPieceOf, PieceIsPlaced}
 use Rattle.crl_wire.specs.Table.{shape_of, are_ends, is_home, is_number, is_len, is_place}
-use Rattle.crl_wire.specs.Frame.{form_of, name_of, number_of, body_of, header_of, FitsValues, Fits}
-use Rattle.crl_frames.proofs.Values.{ValueFits}
+use Rattle.crl_wire.specs.Frame.{form_of, name_of, number_of, body_of, header_of, FitsValues, IsInTable, Fits}
+use Rattle.crl_frames.proofs.Values.{ValueFits, ValueSendable}
 
 -- what is known of a piece in a box
 pub record Known (p : Piece) : Type 0 where
@@ -23,8 +23,8 @@ pub record Known (p : Piece) : Type 0 where
   pub home : FitsHome p.message.sender p.message.addressee p.message.kind
   pub number : FitsNumber p.message.kind
   pub size : FitsSize p.message.kind
-  pub serial : FitsSerial p.message.kind
-  pub value : ValueFits p.message.kind
+  pub serial : SerialIsReal p.message
+  pub value : ValueSendable p.message.kind
   pub placed : PieceIsPlaced p
 
 -- the tests of the table, but that of the ends
@@ -33,9 +33,6 @@ record Shaped (p : Piece) : Type 0 where
   number : is_number (shape_of (form_of p.message.kind)).number (number_of p.message.kind) ≡ true
   len : is_len (shape_of (form_of p.message.kind)).body (length (body_of p.message.kind)) ≡ true
   place : is_place (shape_of (form_of p.message.kind)).body (header_of p) ≡ true
-  serial : (name_of p.message.kind).serial < 2 ^ 32
-  word : number_of p.message.kind < 2 ^ 64
-  values : FitsValues p.message.kind
 
 -- Tests that hold.
 same_and : (a b c : ℕ) → a ≡ b → 1 ≤ c → ((a == b) && nat_le 1 c) ≡ true
@@ -93,66 +90,87 @@ region p key k e = subst (RegionPlace p) (sym k.is.bytes) (in_region p k.size (k
 abbrev piece : ℕ → ℕ → ℕ → ℕ → Kind → Piece
 piece from to pieces index k = record { message = record { sender = from; addressee = to; kind = k }; pieces = pieces; index = index }
 
-none_word : 0 < 2 ^ 64
-none_word = omega arith
-
-read_word : (have : ℕ) → have ≡ 0 → have < 2 ^ 64
-read_word have e = omega arith
-
-size_word : (size : ℕ) → IsRegionSize size → size < 2 ^ 64
-size_word size r = let a = r.1 in omega arith
-
-no_serial : 0 < 2 ^ 32
-no_serial = omega arith
-
 by : {p : Piece} → is_home (shape_of (form_of p.message.kind)).home (header_of p) ≡ true → is_number (shape_of (form_of p.message.kind)).number (number_of p.message.kind) ≡ true
-    → is_len (shape_of (form_of p.message.kind)).body (length (body_of p.message.kind)) ≡ true → is_place (shape_of (form_of p.message.kind)).body (header_of p) ≡ true
-    → (name_of p.message.kind).serial < 2 ^ 32 → number_of p.message.kind < 2 ^ 64 → FitsValues p.message.kind → Shaped p
-by home number len place serial word values = record { home = home; number = number; len = len; place = place; serial = serial; word = word; values = values }
+    → is_len (shape_of (form_of p.message.kind)).body (length (body_of p.message.kind)) ≡ true → is_place (shape_of (form_of p.message.kind)).body (header_of p) ≡ true → Shaped p
+by home number len place = record { home = home; number = number; len = len; place = place }
 
 shaped : (from to pieces index : ℕ) (k : Kind) → Known (piece from to pieces index k) → Shaped (piece from to pieces index k)
-shaped from to pieces index (kind.InfoAsk name) k = by (same_and name.home to name.serial k.home k.serial.0) refl refl (sole _ k.placed refl) k.serial.1 none_word tt
-shaped from to pieces index (kind.InfoIs name (told.Live size)) k = by (same_and name.home from name.serial k.home k.serial.0) (within 1 16777216 size k.size.0 k.size.1) refl (sole _ k.placed refl) k.serial.1 (size_word size k.size) tt
-shaped from to pieces index (kind.InfoIs name told.Unknown) k = by (same_and name.home from name.serial k.home k.serial.0) refl refl (sole _ k.placed refl) k.serial.1 none_word tt
-shaped from to pieces index (kind.InfoIs name told.Deleted) k = by (same_and name.home from name.serial k.home k.serial.0) refl refl (sole _ k.placed refl) k.serial.1 none_word tt
-shaped from to pieces index (kind.Ask name true have) k = by (same_and name.home to name.serial k.home k.serial.0) refl refl (sole _ k.placed refl) k.serial.1 k.number tt
-shaped from to pieces index (kind.Ask name false have) k = by (same_and name.home to name.serial k.home k.serial.0) (eq-eqb have 0 k.number) refl (sole _ k.placed refl) k.serial.1 (read_word have k.number) tt
-shaped from to pieces index (kind.Grant name version (Shared bytes)) k = by (same_and name.home from name.serial k.home k.serial.0) (le-leb 1 version k.number.0) (region _ _ k.placed refl).0 (region _ _ k.placed refl).1 k.serial.1 k.number.1 tt
-shaped from to pieces index (kind.Grant name version (Exclusive bytes)) k = by (same_and name.home from name.serial k.home k.serial.0) (le-leb 1 version k.number.0) (region _ _ k.placed refl).0 (region _ _ k.placed refl).1 k.serial.1 k.number.1 tt
-shaped from to pieces index (kind.Grant name version Upgrade) k = by (same_and name.home from name.serial k.home k.serial.0) (le-leb 1 version k.number.0) refl (sole _ k.placed refl) k.serial.1 k.number.1 tt
-shaped from to pieces index (kind.Recall name version) k = by (same_and name.home from name.serial k.home k.serial.0) (le-leb 1 version k.number.0) refl (sole _ k.placed refl) k.serial.1 k.number.1 tt
-shaped from to pieces index (kind.Yield name version) k = by (same_and name.home from name.serial k.home k.serial.0) (le-leb 1 version k.number.0) refl (sole _ k.placed refl) k.serial.1 k.number.1 tt
-shaped from to pieces index (kind.Return name version None) k = by (same_and name.home to name.serial k.home k.serial.0) (le-leb 1 version k.number.0) refl (sole _ k.placed refl) k.serial.1 k.number.1 tt
-shaped from to pieces index (kind.Return name version (Some bytes)) k = by (same_and name.home to name.serial k.home k.serial.0) (le-leb 1 version k.number.0) (region _ _ k.placed refl).0 (region _ _ k.placed refl).1 k.serial.1 k.number.1 tt
-shaped from to pieces index (kind.Release name version bytes) k = by (same_and name.home to name.serial k.home k.serial.0) (le-leb 1 version k.number.0) (region _ _ k.placed refl).0 (region _ _ k.placed refl).1 k.serial.1 k.number.1 tt
-shaped from to pieces index (kind.DeleteAsk name) k = by (same_and name.home to name.serial k.home k.serial.0) refl refl (sole _ k.placed refl) k.serial.1 none_word tt
-shaped from to pieces index (kind.DeleteIs name delete_told.Done) k = by (same_and name.home from name.serial k.home k.serial.0) refl refl (sole _ k.placed refl) k.serial.1 none_word tt
-shaped from to pieces index (kind.DeleteIs name delete_told.Unknown) k = by (same_and name.home from name.serial k.home k.serial.0) refl refl (sole _ k.placed refl) k.serial.1 none_word tt
-shaped from to pieces index (kind.DeleteIs name delete_told.Deleted) k = by (same_and name.home from name.serial k.home k.serial.0) refl refl (sole _ k.placed refl) k.serial.1 none_word tt
-shaped from to pieces index (kind.Purge name) k = by (same_and name.home from name.serial k.home k.serial.0) refl refl (sole _ k.placed refl) k.serial.1 none_word tt
-shaped from to pieces index (kind.Purged name) k = by (same_and name.home to name.serial k.home k.serial.0) refl refl (sole _ k.placed refl) k.serial.1 none_word tt
-shaped from to pieces index (kind.Come round part.Barrier) k = by (third_zero to k.home) (le-leb 1 round k.number.0) refl (sole _ k.placed refl) no_serial k.number.1 tt
-shaped from to pieces index (kind.Come round (part.Send bytes)) k = by (third_zero to k.home) (le-leb 1 round k.number.0) (within 1 65536 (length bytes) k.value.0.0 k.value.0.1) (sole _ k.placed refl) no_serial k.number.1 tt
-shaped from to pieces index (kind.Come round part.Receive) k = by (third_zero to k.home) (le-leb 1 round k.number.0) refl (sole _ k.placed refl) no_serial k.number.1 tt
-shaped from to pieces index (kind.Come round (part.Sum v)) k = by (third_zero to k.home) (le-leb 1 round k.number.0) refl (sole _ k.placed refl) no_serial k.number.1 k.value.1
-shaped from to pieces index (kind.Come round (part.Min v)) k = by (third_zero to k.home) (le-leb 1 round k.number.0) refl (sole _ k.placed refl) no_serial k.number.1 k.value.1
-shaped from to pieces index (kind.Come round (part.Max v)) k = by (third_zero to k.home) (le-leb 1 round k.number.0) refl (sole _ k.placed refl) no_serial k.number.1 k.value.1
-shaped from to pieces index (kind.Result round fold.Barrier) k = by (third_zero from k.home) (le-leb 1 round k.number.0) refl (sole _ k.placed refl) no_serial k.number.1 tt
-shaped from to pieces index (kind.Result round (fold.Broadcast bytes)) k = by (third_zero from k.home) (le-leb 1 round k.number.0) (within 1 65536 (length bytes) k.value.0.0 k.value.0.1) (sole _ k.placed refl) no_serial k.number.1 tt
-shaped from to pieces index (kind.Result round (fold.Sum v)) k = by (third_zero from k.home) (le-leb 1 round k.number.0) refl (sole _ k.placed refl) no_serial k.number.1 k.value
-shaped from to pieces index (kind.Result round (fold.Min v)) k = by (third_zero from k.home) (le-leb 1 round k.number.0) refl (sole _ k.placed refl) no_serial k.number.1 k.value
-shaped from to pieces index (kind.Result round (fold.Max v)) k = by (third_zero from k.home) (le-leb 1 round k.number.0) refl (sole _ k.placed refl) no_serial k.number.1 k.value
-shaped from to pieces index (kind.Result round fold.Mixed) k = by (third_zero from k.home) (le-leb 1 round k.number.0) refl (sole _ k.placed refl) no_serial k.number.1 tt
+shaped from to pieces index (kind.InfoAsk name) k = by (same_and name.home to name.serial k.home k.serial) refl refl (sole _ k.placed refl)
+shaped from to pieces index (kind.InfoIs name (told.Live size)) k = by (same_and name.home from name.serial k.home k.serial) (within 1 16777216 size k.size.0 k.size.1) refl (sole _ k.placed refl)
+shaped from to pieces index (kind.InfoIs name told.Unknown) k = by (same_and name.home from name.serial k.home k.serial) refl refl (sole _ k.placed refl)
+shaped from to pieces index (kind.InfoIs name told.Deleted) k = by (same_and name.home from name.serial k.home k.serial) refl refl (sole _ k.placed refl)
+shaped from to pieces index (kind.Ask name true have) k = by (same_and name.home to name.serial k.home k.serial) refl refl (sole _ k.placed refl)
+shaped from to pieces index (kind.Ask name false have) k = by (same_and name.home to name.serial k.home k.serial) (eq-eqb have 0 k.number) refl (sole _ k.placed refl)
+shaped from to pieces index (kind.Grant name version (Shared bytes)) k = by (same_and name.home from name.serial k.home k.serial) (le-leb 1 version k.number.0) (region _ _ k.placed refl).0 (region _ _ k.placed refl).1
+shaped from to pieces index (kind.Grant name version (Exclusive bytes)) k = by (same_and name.home from name.serial k.home k.serial) (le-leb 1 version k.number.0) (region _ _ k.placed refl).0 (region _ _ k.placed refl).1
+shaped from to pieces index (kind.Grant name version Upgrade) k = by (same_and name.home from name.serial k.home k.serial) (le-leb 1 version k.number.0) refl (sole _ k.placed refl)
+shaped from to pieces index (kind.Recall name version) k = by (same_and name.home from name.serial k.home k.serial) (le-leb 1 version k.number.0) refl (sole _ k.placed refl)
+shaped from to pieces index (kind.Yield name version) k = by (same_and name.home from name.serial k.home k.serial) (le-leb 1 version k.number.0) refl (sole _ k.placed refl)
+shaped from to pieces index (kind.Return name version None) k = by (same_and name.home to name.serial k.home k.serial) (le-leb 1 version k.number.0) refl (sole _ k.placed refl)
+shaped from to pieces index (kind.Return name version (Some bytes)) k = by (same_and name.home to name.serial k.home k.serial) (le-leb 1 version k.number.0) (region _ _ k.placed refl).0 (region _ _ k.placed refl).1
+shaped from to pieces index (kind.Release name version bytes) k = by (same_and name.home to name.serial k.home k.serial) (le-leb 1 version k.number.0) (region _ _ k.placed refl).0 (region _ _ k.placed refl).1
+shaped from to pieces index (kind.DeleteAsk name) k = by (same_and name.home to name.serial k.home k.serial) refl refl (sole _ k.placed refl)
+shaped from to pieces index (kind.DeleteIs name delete_told.Done) k = by (same_and name.home from name.serial k.home k.serial) refl refl (sole _ k.placed refl)
+shaped from to pieces index (kind.DeleteIs name delete_told.Unknown) k = by (same_and name.home from name.serial k.home k.serial) refl refl (sole _ k.placed refl)
+shaped from to pieces index (kind.DeleteIs name delete_told.Deleted) k = by (same_and name.home from name.serial k.home k.serial) refl refl (sole _ k.placed refl)
+shaped from to pieces index (kind.Purge name) k = by (same_and name.home from name.serial k.home k.serial) refl refl (sole _ k.placed refl)
+shaped from to pieces index (kind.Purged name) k = by (same_and name.home to name.serial k.home k.serial) refl refl (sole _ k.placed refl)
+shaped from to pieces index (kind.Come round part.Barrier) k = by (third_zero to k.home) (le-leb 1 round k.number.0) refl (sole _ k.placed refl)
+shaped from to pieces index (kind.Come round (part.Send bytes)) k = by (third_zero to k.home) (le-leb 1 round k.number.0) (within 1 65536 (length bytes) k.value.0 k.value.1) (sole _ k.placed refl)
+shaped from to pieces index (kind.Come round part.Receive) k = by (third_zero to k.home) (le-leb 1 round k.number.0) refl (sole _ k.placed refl)
+shaped from to pieces index (kind.Come round (part.Sum v)) k = by (third_zero to k.home) (le-leb 1 round k.number.0) refl (sole _ k.placed refl)
+shaped from to pieces index (kind.Come round (part.Min v)) k = by (third_zero to k.home) (le-leb 1 round k.number.0) refl (sole _ k.placed refl)
+shaped from to pieces index (kind.Come round (part.Max v)) k = by (third_zero to k.home) (le-leb 1 round k.number.0) refl (sole _ k.placed refl)
+shaped from to pieces index (kind.Result round fold.Barrier) k = by (third_zero from k.home) (le-leb 1 round k.number.0) refl (sole _ k.placed refl)
+shaped from to pieces index (kind.Result round (fold.Broadcast bytes)) k = by (third_zero from k.home) (le-leb 1 round k.number.0) (within 1 65536 (length bytes) k.value.0 k.value.1) (sole _ k.placed refl)
+shaped from to pieces index (kind.Result round (fold.Sum v)) k = by (third_zero from k.home) (le-leb 1 round k.number.0) refl (sole _ k.placed refl)
+shaped from to pieces index (kind.Result round (fold.Min v)) k = by (third_zero from k.home) (le-leb 1 round k.number.0) refl (sole _ k.placed refl)
+shaped from to pieces index (kind.Result round (fold.Max v)) k = by (third_zero from k.home) (le-leb 1 round k.number.0) refl (sole _ k.placed refl)
+shaped from to pieces index (kind.Result round fold.Mixed) k = by (third_zero from k.home) (le-leb 1 round k.number.0) refl (sole _ k.placed refl)
 
-fits_of : (p : Piece) → Known p → Shaped p → Fits p
-fits_of p k s =
-    let pieces = k.placed.is.pieces in
-    record {
-      in_table = (omega arith, both_true (both_true (both_true (both_true (ends_shaped p.message k.ends) s.home) s.number) s.len) s.place);
-      serial = s.serial;
-      number = s.word;
-      values = s.values;
-    }
+in_table : (p : Piece) → Known p → Shaped p → IsInTable p
+in_table p k s =
+    let pieces = k.placed.is.pieces in (omega arith, both_true (both_true (both_true (both_true (ends_shaped p.message k.ends) s.home) s.number) s.len) s.place)
 
-pub known_fits : (p : Piece) → Known p → Fits p
-known_fits p k = fits_of p k (shaped p.message.sender p.message.addressee p.pieces p.index p.message.kind k)
+pub known_in_table : (p : Piece) → Known p → IsInTable p
+known_in_table p k = in_table p k (shaped p.message.sender p.message.addressee p.pieces p.index p.message.kind k)
+
+-- One whose numbers are within the types of their fields has a frame.
+serial_word : (k : Kind) → FitsSerial k → (name_of k).serial < 2 ^ 32
+serial_word (kind.Come round part) s = omega arith
+serial_word (kind.Result round fold) s = omega arith
+serial_word _ s = s.1
+
+number_word : (k : Kind) → FitsNumber k → FitsSize k → number_of k < 2 ^ 64
+number_word (kind.InfoIs name (told.Live size)) n s = let few = s.1 in omega arith
+number_word (kind.InfoIs name told.Unknown) n s = omega arith
+number_word (kind.InfoIs name told.Deleted) n s = omega arith
+number_word (kind.Ask name true have) n s = n
+number_word (kind.Ask name false have) n s = omega arith
+number_word (kind.Grant name version granted) n s = n.1
+number_word (kind.Recall name version) n s = n.1
+number_word (kind.Yield name version) n s = n.1
+number_word (kind.Return name version bytes) n s = n.1
+number_word (kind.Release name version bytes) n s = n.1
+number_word (kind.Come round part) n s = n.1
+number_word (kind.Result round fold) n s = n.1
+number_word _ n s = omega arith
+
+values_within : (k : Kind) → ValueFits k → FitsValues k
+values_within (kind.Come round part.Barrier) v = tt
+values_within (kind.Come round (part.Send bytes)) v = tt
+values_within (kind.Come round part.Receive) v = tt
+values_within (kind.Come round (part.Sum x)) v = v.1
+values_within (kind.Come round (part.Min x)) v = v.1
+values_within (kind.Come round (part.Max x)) v = v.1
+values_within (kind.Result round fold.Barrier) v = tt
+values_within (kind.Result round (fold.Broadcast bytes)) v = tt
+values_within (kind.Result round (fold.Sum x)) v = v
+values_within (kind.Result round (fold.Min x)) v = v
+values_within (kind.Result round (fold.Max x)) v = v
+values_within (kind.Result round fold.Mixed) v = tt
+values_within _ v = tt
+
+pub known_fits : (p : Piece) → Known p → FitsSerial p.message.kind → ValueFits p.message.kind → Fits p
+known_fits p k s v =
+    record { in_table = known_in_table p k; serial = serial_word p.message.kind s; number = number_word p.message.kind k.number k.size; values = values_within p.message.kind v }

@@ -54,14 +54,18 @@ pub record IsTypedRun (count capacity : ℕ) (run : List Event) : Type 0 where
 abbrev pub OfEachPiece : (Piece → Type 0) → Type 0
 OfEachPiece Holds = (count capacity : ℕ) (run : List Event) → IsTypedRun count capacity run → AllByRecursion Holds (pieces_in_boxes (world_of count capacity run))
 
--- and of the piece at each place of an outbox, which is carried from there
+-- The same of each run among at most 64 nodes, whatever its calls have; and of the piece at each place of an outbox, which
+-- is carried from there.
+abbrev pub OfEachPieceOfFew : (Piece → Type 0) → Type 0
+OfEachPieceOfFew Holds = (count capacity : ℕ) (run : List Event) → count ≤ NODE_LIMIT → IsRun count capacity run → AllByRecursion Holds (pieces_in_boxes (world_of count capacity run))
+
 abbrev pub HoldsOf : (Piece → Type 0) → Option (Taken Piece) → Type 0
 HoldsOf Holds None = Unit {0}
 HoldsOf Holds (Some t) = Holds t.taken
 
 abbrev pub OfEachToCarry : (Piece → Type 0) → Type 0
 OfEachToCarry Holds =
-    (count capacity : ℕ) (run : List Event) → IsTypedRun count capacity run
+    (count capacity : ℕ) (run : List Event) → count ≤ NODE_LIMIT → IsRun count capacity run
     → let w = world_of count capacity run in (i place : ℕ) → i < w.count → HoldsOf Holds (take_out place (w.nodes i).outbox)
 
 -- the frame is read as the piece

@@ -2,7 +2,7 @@ use Rattle.crl_framed.proofs.Laws.{all_up}
 use Rattle.crl_protocol.specs.World.{world_of, pieces_in_boxes}
 use Rattle.crl_wire.specs.Frame.{Fits}
 use Rattle.crl_frames.specs.Frames.{IsReadAgain}
-use Rattle.crl_frames.proofs.Laws.{all_fit, all_byte_frames, all_to_carry}
+use Rattle.crl_frames.proofs.Laws.{all_fit, all_byte_frames}
 use Rattle.crl_frames.proofs.theorems.messages_have_frames.Goals as goal
 
 pub returns-clause-fits : goal.returns-clause-fits
@@ -14,6 +14,3 @@ returns-clause-again c = λ count capacity run r.
 
 pub returns-clause-bytes : goal.returns-clause-bytes
 returns-clause-bytes c = all_byte_frames
-
-pub returns-clause-carried : goal.returns-clause-carried
-returns-clause-carried c = all_to_carry
