@@ -49,7 +49,7 @@ side_step g n s rest x r f = record {
   flight = all_append (FlyingNumbered g.home.last) rest (sent_by n s.posts) f (sent_by_numbered g.home.last n s.posts x.posts);
 }
 
-put_back : {A : Type 0} (P : A → Type 0) {x : A} {xs rest : List A} → Took x xs rest → P x → AllByRecursion P rest → AllByRecursion P xs
+pub put_back : {A : Type 0} (P : A → Type 0) {x : A} {xs rest : List A} → Took x xs rest → P x → AllByRecursion P rest → AllByRecursion P xs
 put_back P here p h = (p, h)
 put_back P (there t) p h = (h.0, put_back P t p h.1)
 

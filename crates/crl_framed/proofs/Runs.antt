@@ -29,11 +29,11 @@ stepped w v x after s = record {
     go q h there (Some g) e = goes_on_numbered q.home _ _ (s.go_on.goes_on q g e) (x.numbered q g e)
 
 -- A run by its events so far.
-last_world : (w : World) (es : List Event) (e : Event) → world_after w (es ++ e ∷ []) ≡ (step e (world_after w es)).world
+pub last_world : (w : World) (es : List Event) (e : Event) → world_after w (es ++ e ∷ []) ≡ (step e (world_after w es)).world
 last_world w [] e = refl
 last_world w (x ∷ es) e = last_world (step x w).world es e
 
-last_run : (w : World) (es : List Event) (e : Event) → IsRunFrom w es → is_enabled e (world_after w es) ≡ true → IsRunFrom w (es ++ e ∷ [])
+pub last_run : (w : World) (es : List Event) (e : Event) → IsRunFrom w es → is_enabled e (world_after w es) ≡ true → IsRunFrom w (es ++ e ∷ [])
 last_run w [] e r may = (may, tt)
 last_run w (x ∷ es) e r may = (r.0, last_run (step x w).world es e r.1 may)
 
@@ -46,16 +46,16 @@ reached_from count capacity before (e ∷ after) r s x =
     (reached_from count capacity (before ++ e ∷ []) after (last_run (new_world count capacity) before e r s.0) (subst (λ v. IsRunFrom v after) (sym same) s.1)
     (subst Reached (sym same) (stepped (world_of count capacity before) _ x _ (regions_step count capacity before r e s.0 x.under x.arrays x.hold))))
 
-nothing_yet : (count capacity : ℕ) → Reached (new_world count capacity)
-nothing_yet count capacity = record { arrays = λ q. []; under = []; hold = regions_start count capacity; numbered = λ q h there. absurd (none_there q h there) }
+pub no_table : (count capacity : ℕ) (q : Name) (h : Home) → table_of q (new_world count capacity) ≡ Some h → ⊥
+no_table count capacity q h e = go (q.home == q.home) (q.serial == 0) e
   where
-    none_there : (q : Name) (h : Home) → table_of q (new_world count capacity) ≡ Some h → ⊥
-    none_there q h e = go (q.home == q.home) (q.serial == 0) e
-      where
-        go : (mine first : Bool) → (if mine then (if first then None else None) else None) ≡ Some h → ⊥
-        go true true e = cc
-        go true false e = cc
-        go false first e = cc
+    go : (mine first : Bool) → (if mine then (if first then None else None) else None) ≡ Some h → ⊥
+    go true true e = cc
+    go true false e = cc
+    go false first e = cc
+
+nothing_yet : (count capacity : ℕ) → Reached (new_world count capacity)
+nothing_yet count capacity = record { arrays = λ q. []; under = []; hold = regions_start count capacity; numbered = λ q h there. absurd (no_table count capacity q h there) }
 
 pub reached : (count capacity : ℕ) (run : List Event) → IsRunFrom (new_world count capacity) run → Reached (world_of count capacity run)
 reached count capacity run r = reached_from count capacity [] run tt r (nothing_yet count capacity)

@@ -40,7 +40,7 @@ found_rest : (P : Flying → Type 0) (o : Option Flying) (rest : List Flying) �
 found_rest P None rest h = h
 found_rest P (Some g) rest h = h.1
 
-found : (P : Flying → Type 0) (q : Name) (f : Flying) {m : Message} {messages rest : List Message} → Took m messages rest → flying q m ≡ Some f → AllByRecursion P (find_all (flying q) messages) → P f
+pub found : (P : Flying → Type 0) (q : Name) (f : Flying) {m : Message} {messages rest : List Message} → Took m messages rest → flying q m ≡ Some f → AllByRecursion P (find_all (flying q) messages) → P f
 found P q f (here {x = m} {xs = ms}) e h = found_first P (flying q m) f (find_all (flying q) ms) e h
 found P q f (there {y = y} {xs = ms} t) e h = found P q f t e (found_rest P (flying q y) (find_all (flying q) ms) h)
 
@@ -63,7 +63,7 @@ Bounded tables count k = (q : Name) (h : Home) (mail : Mail) → q.home < count 
 in_word : (last version : ℕ) → IsVersion last version × (last ≤ 2 ^ 62) → FitsWord version
 in_word last version f = (f.0.0, (let a = f.0.1 in let b = f.1 in omega arith))
 
-about_self : (name : Name) (mail : Mail) → ◌≡◌ {A = Option Mail} (if name_eq name name then Some mail else None) (Some mail)
+pub about_self : (name : Name) (mail : Mail) → ◌≡◌ {A = Option Mail} (if name_eq name name then Some mail else None) (Some mail)
 about_self name mail = cond-true (name_eq name name) (Some mail) None (name_self name)
 
 number_of_kind : (tables : Tables) (count from to : ℕ) (k : Kind) → from < count → to < count → FitsTables tables from to k → Bounded tables count k → CopyNumber k

@@ -124,21 +124,28 @@ AreTyped (_ ∷ es) = AreTyped es
 abbrev pub IsSerial : ℕ → Type 0
 IsSerial serial = (1 ≤ serial) × (serial < 2 ^ 32)
 
+-- of the serial of the name, where there is one
+abbrev pub OfSerial : (ℕ → Type 0) → Kind → Type 0
+OfSerial Holds (kind.InfoAsk name) = Holds name.serial
+OfSerial Holds (kind.InfoIs name told) = Holds name.serial
+OfSerial Holds (kind.Ask name write have) = Holds name.serial
+OfSerial Holds (kind.Grant name version granted) = Holds name.serial
+OfSerial Holds (kind.Recall name version) = Holds name.serial
+OfSerial Holds (kind.Yield name version) = Holds name.serial
+OfSerial Holds (kind.Return name version bytes) = Holds name.serial
+OfSerial Holds (kind.Release name version bytes) = Holds name.serial
+OfSerial Holds (kind.DeleteAsk name) = Holds name.serial
+OfSerial Holds (kind.DeleteIs name told) = Holds name.serial
+OfSerial Holds (kind.Purge name) = Holds name.serial
+OfSerial Holds (kind.Purged name) = Holds name.serial
+OfSerial Holds (kind.Come round part) = Unit {0}
+OfSerial Holds (kind.Result round fold) = Unit {0}
+
 abbrev pub FitsSerial : Kind → Type 0
-FitsSerial (kind.InfoAsk name) = IsSerial name.serial
-FitsSerial (kind.InfoIs name told) = IsSerial name.serial
-FitsSerial (kind.Ask name write have) = IsSerial name.serial
-FitsSerial (kind.Grant name version granted) = IsSerial name.serial
-FitsSerial (kind.Recall name version) = IsSerial name.serial
-FitsSerial (kind.Yield name version) = IsSerial name.serial
-FitsSerial (kind.Return name version bytes) = IsSerial name.serial
-FitsSerial (kind.Release name version bytes) = IsSerial name.serial
-FitsSerial (kind.DeleteAsk name) = IsSerial name.serial
-FitsSerial (kind.DeleteIs name told) = IsSerial name.serial
-FitsSerial (kind.Purge name) = IsSerial name.serial
-FitsSerial (kind.Purged name) = IsSerial name.serial
-FitsSerial (kind.Come round part) = Unit {0}
-FitsSerial (kind.Result round fold) = Unit {0}
+FitsSerial k = OfSerial IsSerial k
+
+abbrev pub SerialIsReal : Message → Type 0
+SerialIsReal m = OfSerial (λ serial. 1 ≤ serial) m.kind
 
 abbrev pub SerialFits : Message → Type 0
 SerialFits m = FitsSerial m.kind

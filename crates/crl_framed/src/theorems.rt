@@ -1,5 +1,5 @@
 //! The theorems, of each piece in a box of any node after any run of at most 2^62 events.
-ghost use Rattle.crl_framed.specs.Framed.{InEachBox, InBoxesOfFew, FitsEnds, HomeIsAnEnd, InBoxesOfTypedRuns, NumberFits, SerialFits, SizeFits, PiecesInEachBox, PieceIsPlaced};
+ghost use Rattle.crl_framed.specs.Framed.{InEachBox, InBoxesOfFew, FitsEnds, HomeIsAnEnd, InBoxesOfTypedRuns, NumberFits, SerialFits, SerialIsReal, SizeFits, PiecesInEachBox, PieceIsPlaced};
 
 /// Among at most 64 nodes, the piece goes from a node to another one, and both numbers are below 64.
 pub fn ends_fit()
@@ -33,4 +33,9 @@ pub fn sizes_fit()
 /// After a run whose calls are typed, the serial of a name is from 1 and fits 32 bits.
 pub fn serials_fit()
     ensures { InBoxesOfTypedRuns SerialFits }
+{}
+
+/// The serial of a name is from 1, whatever the calls are.
+pub fn serials_are_real()
+    ensures { InEachBox SerialIsReal }
 {}
