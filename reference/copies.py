@@ -183,7 +183,6 @@ class Copies:
                 self.lower(message.name)
         elif remote.asking and (copy is None or message.version > copy[1]):
             if remote.due is None or message.version > remote.due[1]:
-                self.world.notes.append("due")
                 remote.due = (message.kind, message.version)
 
     def on_return(self, message):

@@ -18,7 +18,7 @@ class World:
     def __init__(self, text):
         self.plan = Plan(text)
         self.nodes = [Node(number, self) for number in range(self.plan.nodes)]
-        self.parts, self.lines, self.messages, self.events, self.notes = {}, [], 0, 0, []
+        self.parts, self.lines, self.messages, self.events = {}, [], 0, 0
 
     def entry(self, node, *words):
         self.lines.append(" ".join([str(node), *map(shown, words)]))
