@@ -53,8 +53,6 @@ stands_nowhere name (x ∷ xs) none =
     record { it = rw other h.it; rest = rw other (ap (λ gs. given x ∷ gs) h.rest) }
 
 -- other bytes are written where the newest guard stands
-pub written : (name : Name) (guards seen : List Held) (place : ℕ) (f : List ℕ → List ℕ) (old new : Held) → GuardStandsAt name seen place → seen ≡ guards → old ≡ slice_index_or guards place old
+pub written : (name : Name) (guards : List Held) (place : ℕ) (f : List ℕ → List ℕ) (old new : Held) → GuardStandsAt name guards place → old ≡ slice_index_or guards place old
     → given new ≡ with_bytes_in (given old) (f (guard_in old).bytes) → map given (slice_set guards place new) ≡ guards_with name f (map given guards)
-written name guards seen place f old new at same there e =
-    let h : GuardStandsAt name guards place = rw same at at in
-    sym (h.change f old new (e ∙ ap (λ o. with_bytes_in (given o) (f (guard_in o).bytes)) there))
+written name guards place f old new stands there e = sym (stands.change f old new (e ∙ ap (λ o. with_bytes_in (given o) (f (guard_in o).bytes)) there))

@@ -18,6 +18,7 @@ use crl_model::call::{Call, Refusal};
 use crl_model::name::Name;
 use crl_model::statement::Statement;
 use std::alloc::Global;
+use std::collections::VecDeque;
 use std::marker::Model;
 
 /// A node's place in its list of statements, and the guards of its open sections, the newest first. A contract sees it as
@@ -25,17 +26,18 @@ use std::marker::Model;
 #[derive(Drop)]
 pub struct Player {
     place: usize,
-    guards: Vec<Held>,
+    guards: VecDeque<Held>,
 }
 
 impl Model for Player {
-    ghost use Rattle.std.specs.Prelude.{◌-◌, map, vec_len, vec_capacity};
+    ghost use Rattle.std.specs.Prelude.{◌-◌, map};
+    ghost use Rattle.std.specs.VecDeque.{deque_len, deque_capacity};
     ghost use Rattle.crl_run.specs.PlayerState.{PlayerState};
     ghost use Rattle.crl_run.specs.Holding.{given};
 
     ghost Value = { PlayerState };
 
-    ghost view = { λ p. record { place = p.place; guards = map given p.guards.items; room = vec_capacity p.guards - vec_len p.guards } };
+    ghost view = { λ p. record { place = p.place; guards = map given p.guards.items; room = deque_capacity p.guards - deque_len p.guards } };
 }
 
 impl Player {
@@ -46,7 +48,7 @@ impl Player {
     {
         Player {
             place: 0,
-            guards: Vec::new(alloc),
+            guards: VecDeque::new(alloc),
         }
     }
 
@@ -128,8 +130,8 @@ impl Player {
         ensures taken { option_map given result ≡ newest name self.old.guards }
         ensures guards { self.new.guards ≡ guards_without name self.old.guards }
     {
-        match place_of(self.guards.as_slice(), name) {
-            Some(place) => Some(self.guards.remove(place)),
+        match place_of(&self.guards, name) {
+            Some(place) => self.guards.remove(place),
             None => None,
         }
     }
@@ -140,7 +142,7 @@ impl Player {
         ensures place { self.new.place ≡ self.old.place }
         ensures guards { self.new.guards ≡ guards_with name (put_at offset bytes.now) self.old.guards }
     {
-        match place_of(self.guards.as_slice(), name) {
+        match place_of(&self.guards, name) {
             Some(place) => self.guards[place].put(offset, bytes),
             None => unreachable!(),
         }
@@ -152,7 +154,7 @@ impl Player {
         ensures place { self.new.place ≡ self.old.place }
         ensures guards { self.new.guards ≡ guards_with name (with_sum offset number) self.old.guards }
     {
-        match place_of(self.guards.as_slice(), name) {
+        match place_of(&self.guards, name) {
             Some(place) => self.guards[place].add(offset, number),
             None => unreachable!(),
         }
@@ -229,16 +231,13 @@ impl Player {
         ensures place { self.new.place ≡ self.old.place }
         ensures guards { self.new.guards ≡ given held ∷ self.old.guards }
     {
-        match self.guards.insert(0, held) {
-            Ok(()) => {}
-            Err(_) => unreachable!(),
-        }
+        self.guards.push_front_reserved(held);
     }
 }
 
 /// The place of the newest guard of the region, if there is one.
-fn place_of(guards: &[Held], name: Name) -> Option<usize>
-    ensures { MatchOption result (GuardStandsNowhere name guards.now) (GuardStandsAt name guards.now) }
+fn place_of(guards: &VecDeque<Held>, name: Name) -> Option<usize>
+    ensures { MatchOption result (GuardStandsNowhere name guards.now.items) (GuardStandsAt name guards.now.items) }
 {
     for place in 0..guards.len() {
         if guards[place].name() == name {

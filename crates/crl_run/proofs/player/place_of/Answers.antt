@@ -5,8 +5,11 @@ use Rattle.crl_run.proofs.player.place_of.Goals as goal
 
 pub returns-then-eq : goal.returns-then-eq
 returns-then-eq c =
-    stands_here c.args.name c.args.guards.now c.loop-place.place c.index-guards-place.result c.loop-place.invariant c.loop-place-test.true
-    (ap (λ h. is_of c.args.name h) (sym c.index-guards-place.is) ∙ ap (λ n. name_eq n c.args.name) (sym c.name.ensures) ∙ sym c.eq.ensures ∙ c.if-eq.true)
+    let long = c.args.guards.now.ok.0 in
+    stands_here c.args.name c.args.guards.now.items c.loop-place.place c.index.result.now c.loop-place.invariant (omega (arith, c.loop-place-test.true))
+    (ap (λ h. is_of c.args.name h) (sym c.index.ensures) ∙ ap (λ n. name_eq n c.args.name) (sym c.name.ensures) ∙ sym c.eq.ensures ∙ c.if-eq.true)
 
 pub returns : goal.returns
-returns c = stands_nowhere c.args.name c.args.guards.now (λ j d before within. c.loop-place.invariant j d (omega (arith, c.loop-place-test.false)) within)
+returns c =
+    let long = c.args.guards.now.ok.0 in
+    stands_nowhere c.args.name c.args.guards.now.items (λ j d before within. c.loop-place.invariant j d (omega (arith, c.loop-place-test.false)) within)
