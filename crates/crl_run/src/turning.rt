@@ -57,11 +57,11 @@ fn take_turn<N: Member>(
         IfOk result (λ more. TurnIsTaken (map (λ b. b.items) blocks.now) w players.old order.old more v players.new order.new) }
 {
     let left = nodes_left(alloc, blocks, players)?;
-    let count = world.choice_count(left.as_slice());
-    if count == 0 {
+    let counts = world.counts(left.as_slice());
+    if counts.all == 0 {
         return Ok(false);
     }
-    let choice = world.choice(left.as_slice(), order.next(count));
+    let choice = world.choice(left.as_slice(), &counts, order.next(counts.all));
     take_choice(alloc, blocks, world, players, choice)?;
     Ok(true)
 }
