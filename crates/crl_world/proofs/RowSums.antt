@@ -7,7 +7,6 @@ use Rattle.crl_protocol.specs.Parcels.{Piece}
 use Rattle.crl_protocol.specs.Chosen.{handles_of, carries_of}
 use Rattle.crl_protocol.specs.World.{World}
 use Rattle.crl_world.specs.Choosing.{choices_in, row_from, row_of, AreCounts}
-use Rattle.crl_world.specs.declared.counts.Counts.{Counts}
 use Rattle.crl_world.specs.declared.rows.Rows.TheVariants.{Nexts, Inboxes, Outboxes}
 
 pub handles_long : (i p : ℕ) (ms : List Piece) → length (handles_of i p ms) ≡ length ms

@@ -1,4 +1,3 @@
-use Rattle.std.proofs.Common.{◌≡◌, ◌*◌, ◌^◌, ◌≤◌, length}
 use Rattle.crl_world.specs.Seen.{world_seen}
 use Rattle.crl_world.specs.Choosing.{left_in}
 use Rattle.crl_world.proofs.RowSums.{SumsTo}

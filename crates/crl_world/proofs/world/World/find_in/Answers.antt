@@ -1,6 +1,6 @@
-use Rattle.std.proofs.Common.{◌≡◌, ◌∙◌, ◌<◌, ◌+◌, ap, sym, subst, arith, length, zero-add}
+use Rattle.std.proofs.Common.{◌∙◌, ◌<◌, sym, subst, zero-add}
 use Rattle.std.proofs.lemmas.List.{length-map}
-use Rattle.crl_world.specs.Choosing.{choices_in, row_from, left_in}
+use Rattle.crl_world.specs.Choosing.{choices_in, left_in}
 use Rattle.crl_world.specs.Seen.{world_seen}
 use Rattle.crl_world.proofs.RowSums.{rest_more, row_found}
 use Rattle.crl_world.proofs.world.World.find_in.Goals as goal
