@@ -180,10 +180,14 @@ fn carry<N: Member>(world: &mut World<N>, i: NodeNo, place: usize) -> bool
 fn first_choice<N: Member>(world: &World<N>, left: &[bool]) -> Option<Choice>
     ensures { IfSome result (MayPass (world_seen N.state world.now)) }
 {
-    if left.len() != world.count() as usize || world.choice_count(left) == 0 {
+    if left.len() != world.count() as usize {
         return None;
     }
-    Some(world.choice(left, 0))
+    let counts = world.counts(left);
+    if counts.all == 0 {
+        return None;
+    }
+    Some(world.choice(left, &counts, 0))
 }
 
 /// The first message is handled or carried, if no node has an answer to take. Whether there was one.

@@ -16,27 +16,28 @@ use crl_order::Order;
 use crl_world::World;
 use std::alloc::Global;
 
-/// Which nodes have a statement left.
+/// The list then says which nodes have a statement left, whatever was in it.
 ///
 /// # Errors
 ///
 /// `OutOfMemory`.
-fn nodes_left(
-    alloc: Global,
+fn say_what_is_left(
     blocks: &[Vec<Statement>],
     players: &[Player],
-) -> Result<Vec<bool>, OutOfMemory>
+    left: &mut Vec<bool>,
+) -> Result<(), OutOfMemory>
     requires nodes { length blocks.now ≡ length players.now }
-    ensures { IfOk result (λ left. SayWhatIsLeft (map (λ b. b.items) blocks.now) players.now left.items) }
+    ensures { OnOk result (SayWhatIsLeft (map (λ b. b.items) blocks.now) players.now left.new.items) }
 {
-    let mut left = Vec::with_capacity(alloc, players.len())?;
+    left.clear();
     for i in 0..players.len() {
         left.push(!players[i].is_done(blocks[i].as_slice()))?;
     }
-    Ok(left)
+    Ok(())
 }
 
-/// One turn: the choice is taken at the place that the order's next word gives. Or there is no choice left.
+/// One turn: the choice is taken at the place that the order's next word gives. Or there is no choice left. The list
+/// `left` is room for what is asked of each node.
 ///
 /// # Errors
 ///
@@ -47,6 +48,7 @@ fn take_turn<N: Member>(
     world: &mut World<N>,
     players: &mut [Player],
     order: &mut Order,
+    left: &mut Vec<bool>,
 ) -> Result<bool, OutOfMemory>
     requires nodes { length blocks.now ≡ length players.old }
     requires short { AreShort (map (λ b. b.items) blocks.now) }
@@ -56,12 +58,12 @@ fn take_turn<N: Member>(
         let v = world_seen N.state world.new in
         IfOk result (λ more. TurnIsTaken (map (λ b. b.items) blocks.now) w players.old order.old more v players.new order.new) }
 {
-    let left = nodes_left(alloc, blocks, players)?;
-    let count = world.choice_count(left.as_slice());
-    if count == 0 {
+    say_what_is_left(blocks, players, left)?;
+    let counts = world.counts(left.as_slice());
+    if counts.all == 0 {
         return Ok(false);
     }
-    let choice = world.choice(left.as_slice(), order.next(count));
+    let choice = world.choice(left.as_slice(), &counts, order.next(counts.all));
     take_choice(alloc, blocks, world, players, choice)?;
     Ok(true)
 }
@@ -90,8 +92,9 @@ pub(crate) fn take_turns<N: Member>(
         let v = world_seen N.state world.new in
         OnOk result (RunIsOver (map (λ b. b.items) blocks.now) (words_to_come order.old) w players.old v players.new) }
 {
+    let mut left = Vec::with_capacity(alloc, players.len())?;
     for _ in 0..TURN_LIMIT {
-        if !take_turn(alloc, blocks, world, players, order)? {
+        if !take_turn(alloc, blocks, world, players, order, &mut left)? {
             return Ok(());
         }
     }

@@ -1,11 +1,13 @@
 -- Rows of choices: how many there are up to a node, and which stands at a place.
-use Rattle.std.proofs.Common.{◌≡◌, ℕ, zero, suc, ◌+◌, ◌-◌, ◌<◌, ◌≤◌, List, [], ◌∷◌, ◌++◌, length, refl, ap, ap₂, sym, ◌∙◌, subst, arith, Some, length-append, append_assoc, append-nil, add-zero, zero-add}
+use Rattle.std.proofs.Common.{◌≡◌, ℕ, zero, suc, ◌+◌, ◌-◌, ◌*◌, ◌^◌, ◌<◌, ◌≤◌, Bool, List, [], ◌∷◌, ◌++◌, length, refl, ap, ap₂, sym, ◌∙◌, subst, arith, Some, length-append, append_assoc, append-nil, add-zero, zero-add}
 use Rattle.std.specs.Prelude.{slice_get}
 use Rattle.crl_model.specs.declared.choice.Choice.{Choice}
 use Rattle.crl_model.specs.declared.choice.Choice.TheVariants as choice
 use Rattle.crl_protocol.specs.Parcels.{Piece}
 use Rattle.crl_protocol.specs.Chosen.{handles_of, carries_of}
-use Rattle.crl_world.specs.Choosing.{row_from}
+use Rattle.crl_protocol.specs.World.{World}
+use Rattle.crl_world.specs.Choosing.{choices_in, row_from, row_of, AreCounts}
+use Rattle.crl_world.specs.declared.rows.Rows.TheVariants.{Nexts, Inboxes, Outboxes}
 
 pub handles_long : (i p : ℕ) (ms : List Piece) → length (handles_of i p ms) ≡ length ms
 handles_long i p [] = refl
@@ -94,3 +96,39 @@ three_long xs ys zs = length-append xs (ys ++ zs) ∙ ap (λ n. length xs + n) (
   where
     assoc : (a b c : ℕ) → a + (b + c) ≡ (a + b) + c
     assoc a b c = omega arith
+
+-- the sums of the three rows, up to a node
+pub record SumsTo (left : ℕ → Bool) (w : World) (i nexts inboxes outboxes : ℕ) : Type 0 where
+  pub first : nexts ≡ length (row_from (choices_in Nexts left w) 0 i)
+  pub second : inboxes ≡ length (row_from (choices_in Inboxes left w) 0 i)
+  pub third : outboxes ≡ length (row_from (choices_in Outboxes left w) 0 i)
+  pub few_first : nexts ≤ i * 2 ^ 64
+  pub few_second : inboxes ≤ i * 2 ^ 64
+  pub few_third : outboxes ≤ i * 2 ^ 64
+
+pub no_sums : (left : ℕ → Bool) (w : World) → SumsTo left w 0 0 0 0
+no_sums left w = record { first = refl; second = refl; third = refl; few_first = omega arith; few_second = omega arith; few_third = omega arith }
+
+pub more_sums : (left : ℕ → Bool) (w : World) (i nexts inboxes outboxes a b c : ℕ) → SumsTo left w i nexts inboxes outboxes
+    → a ≡ length (choices_in Nexts left w i) → b ≡ length (choices_in Inboxes left w i) → c ≡ length (choices_in Outboxes left w i)
+    → a < 2 ^ 64 → b < 2 ^ 64 → c < 2 ^ 64 → SumsTo left w (i + 1) (nexts + a) (inboxes + b) (outboxes + c)
+more_sums left w i nexts inboxes outboxes a b c s is_a is_b is_c few_a few_b few_c = record {
+  first = sum_more (choices_in Nexts left w) i nexts a s.first is_a;
+  second = sum_more (choices_in Inboxes left w) i inboxes b s.second is_b;
+  third = sum_more (choices_in Outboxes left w) i outboxes c s.third is_c;
+  few_first = omega (arith, s.few_first, few_a);
+  few_second = omega (arith, s.few_second, few_b);
+  few_third = omega (arith, s.few_third, few_c);
+}
+
+pub all_sums : (left : ℕ → Bool) (w : World) (i nexts inboxes outboxes : ℕ) → SumsTo left w i nexts inboxes outboxes → i ≡ w.count
+    → AreCounts left w (record { nexts = nexts; with_inboxes = nexts + inboxes; all = (nexts + inboxes) + outboxes })
+all_sums left w i nexts inboxes outboxes s e =
+    let first = s.first ∙ ap (λ n. length (row_from (choices_in Nexts left w) 0 n)) e in
+    let second = s.second ∙ ap (λ n. length (row_from (choices_in Inboxes left w) 0 n)) e in
+    let third = s.third ∙ ap (λ n. length (row_from (choices_in Outboxes left w) 0 n)) e in
+    record {
+      nexts = first;
+      inboxes = ap₂ (λ a b. a + b) first second;
+      all = ap₂ (λ a b. a + b) (ap₂ (λ a b. a + b) first second) third ∙ sym (three_long (row_of Nexts left w) (row_of Inboxes left w) (row_of Outboxes left w));
+    }

@@ -1,14 +1,12 @@
 -- The choices of a turn, by which nodes have a statement left.
-use Rattle.std.specs.Prelude.{◌≡◌, ℕ, zero, suc, ◌+◌, Bool, true, false, List, [], ◌∷◌, ◌++◌, length, slice_get, slice_index_or}
-use Rattle.std.specs.declared.option.Option.TheVariants.{Some}
-use Rattle.std.specs.declared.result.Result.{Result}
-use Rattle.std.specs.declared.result.Result.TheVariants.{Ok, Err}
+use Rattle.std.specs.Prelude.{◌≡◌, ℕ, zero, suc, ◌+◌, Bool, true, false, List, [], ◌∷◌, ◌++◌, length, slice_index_or}
 use Rattle.crl_model.specs.declared.choice.Choice.{Choice}
 use Rattle.crl_model.specs.declared.choice.Choice.TheVariants as choice
 use Rattle.crl_model.specs.declared.statement.Statement.{Statement}
 use Rattle.crl_protocol.specs.Node.{Activity, Free, Waiting, Ready}
 use Rattle.crl_protocol.specs.World.{World}
 use Rattle.crl_protocol.specs.Chosen.{handles_of, carries_of}
+use Rattle.crl_world.specs.declared.counts.Counts.{Counts}
 use Rattle.crl_world.specs.declared.rows.Rows.{Rows}
 use Rattle.crl_world.specs.declared.rows.Rows.TheVariants.{Nexts, Inboxes, Outboxes}
 
@@ -44,7 +42,8 @@ abbrev pub has_some : List Statement → Bool
 has_some [] = false
 has_some (s ∷ left) = true
 
--- The choice at a place of a list, or else how far the place is past its end.
-abbrev pub Finds : List Choice → ℕ → Result Choice ℕ → Type 0
-Finds list place (Ok c) = slice_get list place ≡ Some c
-Finds list place (Err past) = place ≡ length list + past
+-- how many choices there are up to the end of each row
+pub record AreCounts (left : ℕ → Bool) (w : World) (c : Counts) : Type 0 where
+  pub nexts : c.nexts ≡ length (row_of Nexts left w)
+  pub inboxes : c.with_inboxes ≡ length (row_of Nexts left w) + length (row_of Inboxes left w)
+  pub all : c.all ≡ length (choices_by left w)

@@ -1,8 +1,9 @@
 //! The choices of a turn. They take a few steps for each node, and no memory.
 ghost use Rattle.std.specs.Prelude.{◌≡◌, ◌<◌, ◌≤◌, ◌*◌, ◌^◌, length, Some, slice_get};
 ghost use Rattle.crl_world.specs.Seen.{world_seen};
-ghost use Rattle.crl_world.specs.Choosing.{choices_in, row_of, choices_by, left_in, Finds};
+ghost use Rattle.crl_world.specs.Choosing.{choices_in, row_of, choices_by, left_in, AreCounts};
 
+use crate::counts::Counts;
 use crate::rows::Rows;
 use crate::world::World;
 use crl_member::Member;
@@ -47,62 +48,56 @@ impl<N: Member> World<N> {
         }
     }
 
-    /// The number of choices in these rows.
-    fn count_in(&self, rows: Rows, left: &[bool]) -> u128
+    /// The numbers of choices, where `left` says of each node whether it has a statement left.
+    pub fn counts(&self, left: &[bool]) -> Counts
         requires { length left.now ≡ length self.now.nodes }
-        ensures count { result ≡ length (row_of rows (left_in left.now) (world_seen N.state self.now)) }
-        ensures few { result ≤ 2 ^ 80 }
+        ensures { AreCounts (left_in left.now) (world_seen N.state self.now) result }
     {
-        let mut sum: u128 = 0;
+        let mut nexts: u128 = 0;
+        let mut inboxes: u128 = 0;
+        let mut outboxes: u128 = 0;
         for i in 0..self.count() {
-            sum += self.count_at(rows, left, i) as u128;
+            nexts += self.count_at(Rows::Nexts, left, i) as u128;
+            inboxes += self.count_at(Rows::Inboxes, left, i) as u128;
+            outboxes += self.count_at(Rows::Outboxes, left, i) as u128;
         }
-        sum
+        Counts {
+            nexts,
+            with_inboxes: nexts + inboxes,
+            all: nexts + inboxes + outboxes,
+        }
     }
 
-    /// The choice at this place of these rows, or else how far the place is past their end.
-    fn find_in(&self, rows: Rows, left: &[bool], k: u128) -> Result<Choice, u128>
-        requires { length left.now ≡ length self.now.nodes }
-        ensures { Finds (row_of rows (left_in left.now) (world_seen N.state self.now)) k result }
+    /// The choice at this place of these rows.
+    fn find_in(&self, rows: Rows, left: &[bool], k: u128) -> Choice
+        requires nodes { length left.now ≡ length self.now.nodes }
+        requires there { k < length (row_of rows (left_in left.now) (world_seen N.state self.now)) }
+        ensures { slice_get (row_of rows (left_in left.now) (world_seen N.state self.now)) k ≡ Some result }
     {
         let mut rest = k;
         for i in 0..self.count() {
             let here = self.count_at(rows, left, i);
             if rest < here as u128 {
-                return Ok(self.choice_at(rows, left, i, rest as usize));
+                return self.choice_at(rows, left, i, rest as usize);
             }
             rest -= here as u128;
         }
-        Err(rest)
-    }
-
-    /// The number of choices, where `left` says of each node whether it has a statement left.
-    pub fn choice_count(&self, left: &[bool]) -> u128
-        requires { length left.now ≡ length self.now.nodes }
-        ensures { result ≡ length (choices_by (left_in left.now) (world_seen N.state self.now)) }
-    {
-        self.count_in(Rows::Nexts, left)
-            + self.count_in(Rows::Inboxes, left)
-            + self.count_in(Rows::Outboxes, left)
+        unreachable!()
     }
 
     /// The choice at this place, from 0.
-    pub fn choice(&self, left: &[bool], k: u128) -> Choice
+    pub fn choice(&self, left: &[bool], counts: &Counts, k: u128) -> Choice
         requires nodes { length left.now ≡ length self.now.nodes }
-        requires there { k < length (choices_by (left_in left.now) (world_seen N.state self.now)) }
+        requires counts { AreCounts (left_in left.now) (world_seen N.state self.now) counts.now }
+        requires there { k < counts.now.all }
         ensures { slice_get (choices_by (left_in left.now) (world_seen N.state self.now)) k ≡ Some result }
     {
-        let rest = match self.find_in(Rows::Nexts, left, k) {
-            Ok(choice) => return choice,
-            Err(rest) => rest,
-        };
-        let rest = match self.find_in(Rows::Inboxes, left, rest) {
-            Ok(choice) => return choice,
-            Err(rest) => rest,
-        };
-        match self.find_in(Rows::Outboxes, left, rest) {
-            Ok(choice) => choice,
-            Err(_) => unreachable!(),
+        if k < counts.nexts {
+            self.find_in(Rows::Nexts, left, k)
+        } else if k < counts.with_inboxes {
+            self.find_in(Rows::Inboxes, left, k - counts.nexts)
+        } else {
+            self.find_in(Rows::Outboxes, left, k - counts.with_inboxes)
         }
     }
 }

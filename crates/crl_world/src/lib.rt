@@ -4,6 +4,7 @@
 
 mod carrying;
 mod choosing;
+mod counts;
 mod ending;
 mod ends;
 mod faults;
@@ -15,6 +16,7 @@ mod stuck;
 pub mod theorems;
 mod world;
 
+pub use counts::Counts;
 pub use faults::{CallFault, EndFault, StartFault, StepFault};
 pub use steps::EVENT_LIMIT;
 pub use world::World;

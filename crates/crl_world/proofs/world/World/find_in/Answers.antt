@@ -1,6 +1,6 @@
-use Rattle.std.proofs.Common.{◌≡◌, ◌∙◌, ◌<◌, ◌+◌, ap, sym, subst, arith, length, zero-add}
+use Rattle.std.proofs.Common.{◌∙◌, ◌<◌, sym, subst, zero-add}
 use Rattle.std.proofs.lemmas.List.{length-map}
-use Rattle.crl_world.specs.Choosing.{choices_in, row_from, left_in}
+use Rattle.crl_world.specs.Choosing.{choices_in, left_in}
 use Rattle.crl_world.specs.Seen.{world_seen}
 use Rattle.crl_world.proofs.RowSums.{rest_more, row_found}
 use Rattle.crl_world.proofs.world.World.find_in.Goals as goal
@@ -18,9 +18,3 @@ returns-then-rest-here g c =
 pub loop-i-preserved : goal.loop-i-preserved
 loop-i-preserved g c =
     rest_more (choices_in c.args.rows (left_in c.args.left.now) (world_seen g.N.Member.state c.args.self.now)) c.loop-i.i c.args.k c.loop-i.rest c.count_at-here.result c.loop-i.invariant c.count_at-here.ensures c.if-rest-here.false
-
-pub returns : goal.returns
-returns g c =
-    let same : c.loop-i.i ≡ c.count-i-end.result = omega arith in
-    c.loop-i.invariant
-    ∙ ap (λ n. length (row_from (choices_in c.args.rows (left_in c.args.left.now) (world_seen g.N.Member.state c.args.self.now)) 0 n) + c.loop-i.rest) (same ∙ c.count-i-end.ensures ∙ sym (length-map c.args.self.now.nodes g.N.Member.state))
