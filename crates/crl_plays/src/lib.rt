@@ -1,0 +1,11 @@
+//! Runs whose nodes each make the calls of their statements are runs of the script. There is no code here but an empty
+//! function, whose contract is the theorem.
+#![tactic(auto)]
+
+ghost use Rattle.crl_plays.specs.Plays.{PlaysAreRuns};
+
+/// Where each node of a run is somewhere in its statements, by what it heard alone, the run is one that the script and some
+/// order of steps choose.
+pub fn plays_are_runs()
+    ensures { PlaysAreRuns }
+{}
