@@ -1,0 +1,6 @@
+pub mod Laws
+mod Allowed
+mod Following
+mod Free
+mod Heard
+mod Runs

@@ -1,12 +1,13 @@
 -- How far a node is in its statements, by what it heard alone; and that a run whose nodes all are somewhere in theirs is one
 -- that the script and some order of steps choose.
-use Rattle.std.specs.Prelude.{◌≡◌, ℕ, ◌<◌, List, [], ◌∷◌, ◌++◌}
+use Rattle.std.specs.Prelude.{◌≡◌, ℕ, ◌<◌, Bool, true, false, List, [], ◌∷◌, ◌++◌}
 use Rattle.std.specs.declared.option.Option.TheVariants.{None}
 use Rattle.crl_model.specs.declared.call.Call.{Call}
+use Rattle.crl_model.specs.declared.call.Call.TheVariants as call
 use Rattle.crl_model.specs.declared.event.Event.{Event}
 use Rattle.crl_model.specs.declared.name.Name.{Name}
 use Rattle.crl_model.specs.declared.statement.Statement.{Statement}
-use Rattle.crl_protocol.specs.Node.{Node, Answer, Free}
+use Rattle.crl_protocol.specs.Node.{Node, Answer, Free, Wait}
 use Rattle.crl_protocol.specs.Talk.{Heard, Called, Collected, hears}
 use Rattle.crl_protocol.specs.Verdict.{verdict}
 use Rattle.crl_protocol.specs.World.{World, new_world, world_of, IsRun}
@@ -23,6 +24,23 @@ pub record HasHeard (i : ℕ) (heard : List Heard) (n : Node) : Type 0 where
   pub within : i < count
   pub hears : hears i (new_world count capacity) run ≡ heard
   pub node : n ≡ (world_of count capacity run).nodes i
+
+-- A node is free until it makes a call that waits, and again once it has taken the answer.
+abbrev pub is_free_by : Heard → Bool
+is_free_by (Called c Wait) = false
+is_free_by (Called c answer) = true
+is_free_by (Collected answer) = true
+
+abbrev pub is_free_after : Bool → List Heard → Bool
+is_free_after was [] = was
+is_free_after was (h ∷ hs) = is_free_after (is_free_by h) hs
+
+-- the calls that a node allows by the write section that is open there
+abbrev pub IsInWriting : Call → Type 0
+IsInWriting (call.EndWrite name after) = Unit {0}
+IsInWriting (call.Put name offset len) = Unit {0}
+IsInWriting (call.Add name offset) = Unit {0}
+IsInWriting c = ⊥
 
 -- Node i, which heard this, has these of its statements left, and its open write sections these drafts: the statements
 -- before gave its calls, in order, and changes that are allowed are made on the drafts and are no calls.
