@@ -12,7 +12,7 @@ use Rattle.crl_model.specs.declared.message.Kind.{Kind}
 use Rattle.crl_protocol.specs.Parcels.{Piece, with_load, PartsGathered}
 use Rattle.crl_protocol.specs.Places.{Took}
 use Rattle.crl_protocol.specs.Sections.{Guard}
-use Rattle.crl_protocol.specs.Node.{Node, Answer, Done, Activity, Free, Waiting, Ready, ForMap, Outcome, guard_answer}
+use Rattle.crl_protocol.specs.Node.{Node, Activity, Free, Waiting, Ready, ForMap, Outcome, guard_answer}
 use Rattle.crl_protocol.specs.Calls.{node_calls, answer_of}
 use Rattle.crl_protocol.specs.Handlers.{purges_waiting}
 use Rattle.crl_protocol.specs.Talk.{Heard, Called, Collected, hears_of, hears}
@@ -24,7 +24,6 @@ use Rattle.crl_deeds.specs.Deeds as deed
 use Rattle.crl_deeds.specs.NodeFacts.{IsAway, Fits}
 use Rattle.crl_deeds.proofs.Laws.{call_deed, own_waits, grant_waits, going_own, known_step}
 use Rattle.crl_talk.proofs.Laws.{with_rest, is_away, Moves, each_moved, handle_moves, carry_moves}
-use Rattle.crl_talk.proofs.Laws as talk
 use Rattle.crl_plays.specs.Plays.{is_free_by, is_free_after}
 
 -- A call leaves the node free just where it has an answer.
@@ -105,31 +104,6 @@ moved_free n was w v m known h =
     (λ i p rest parcels part o took d k e.
     (message_leaves i (record (w.nodes i) { inbox = rest; parcels = parcels }) _ _ o d (with_rest i (w.nodes i) p rest parcels took (known.fits i)) (is_away i (w.nodes i) p rest part took (known.fits i)) ∙ k e))
     (λ j e. subst (λ i. is_free (w.nodes i).activity ≡ was) (sym e) h) n refl
-
--- what a message answers to its node: nothing
-done_copies : (n : Node) (from : ℕ) (k : Kind) (o : Outcome) → Copies n (Hears from k) o → o.answer ≡ Done
-done_copies n from k o (deed.home_serves x y name h s is e z) = refl
-done_copies n from k o _ = refl
-
-done_lives : (n : Node) (from : ℕ) (k : Kind) (o : Outcome) → Lives n (Hears from k) o → o.answer ≡ Done
-done_lives n from k o (deed.map_comes x name purged size e) = refl
-done_lives n from k o _ = refl
-
-done_rounds : (n : Node) (from : ℕ) (k : Kind) (o : Outcome) → Rounds n (Hears from k) o → o.answer ≡ Done
-done_rounds n from k o (deed.result_comes x round f c e) = refl
-done_rounds n from k o _ = refl
-
-done_hears : (n : Node) (from : ℕ) (k : Kind) (o : Outcome) → Deed n (Hears from k) o → o.answer ≡ Done
-done_hears n from k o (deed.copies d) = done_copies n from k o d
-done_hears n from k o (deed.lives d) = done_lives n from k o d
-done_hears n from k o (deed.rounds d) = done_rounds n from k o d
-done_hears n from k o (deed.idles h) = refl
-
-pub moved_answer : (w : World) (v : WorldStep) → Moves w v → v.answer ≡ Done
-moved_answer w v (talk.hears i e p rest parcels part o few took d) = done_hears _ _ _ o d
-moved_answer w v (talk.gathers i e p rest parcels key few took keyed) = refl
-moved_answer w v (talk.carriage i e p rest few took) = refl
-moved_answer w v talk.rests = refl
 
 -- An event.
 pub free_if : (a : Activity) → is_free a ≡ true → a ≡ Free

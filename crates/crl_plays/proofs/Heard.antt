@@ -1,5 +1,5 @@
 -- What a node heard in a run that has one event more, and what is known of it by what it heard.
-use Rattle.std.proofs.Common.{◌≡◌, ℕ, ◌≤◌, ◌^◌, Bool, true, if◌then◌else◌, Option, Some, None, List, [], ◌∷◌, ◌++◌, length, refl, ap, sym, ◌∙◌, subst, arith, length-append}
+use Rattle.std.proofs.Common.{◌≡◌, ℕ, ◌≤◌, ◌^◌, Bool, true, false, if◌then◌else◌, Option, Some, None, List, [], ◌∷◌, ◌++◌, length, refl, ap, sym, ◌∙◌, subst, arith, length-append}
 use Rattle.std.proofs.Common.{append_assoc}
 use Rattle.crl_model.specs.declared.name.Name.{Name}
 use Rattle.crl_model.specs.declared.directory.Section.TheVariants as section
@@ -65,6 +65,7 @@ open_by [] = None
 open_by (g ∷ gs) = if g.write then Some (record { section = section.Writing; number = g.guard.number; bytes = g.guard.bytes }) else over_reads g (open_by gs)
 
 by_guards : (n : ℕ) (gs : List Given) (o : Option OpenSection) → AreGuards n gs o → o ≡ open_by gs
+unfolding open_by over_reads
 by_guards n gs o closed = refl
 by_guards n gs o (writing g e) = refl
 by_guards n gs o (reading g e) = refl

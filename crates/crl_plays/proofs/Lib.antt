@@ -3,4 +3,5 @@ mod Allowed
 mod Following
 mod Free
 mod Heard
+mod Quiet
 mod Runs
