@@ -1,5 +1,5 @@
 -- A run that follows the script so far, with the statements that each node has left and its drafts; and with one step more.
-use Rattle.std.proofs.Common.{◌≡◌, ℕ, ◌<◌, ◌&&◌, ◌==◌, Bool, true, false, if◌then◌else◌, Option, Some, None, List, [], ◌∷◌, ◌++◌, length, refl, ap, sym, ◌∙◌, subst}
+use Rattle.std.proofs.Common.{append_assoc, ◌≡◌, ℕ, ◌<◌, ◌&&◌, ◌==◌, Bool, true, false, if◌then◌else◌, Option, Some, None, List, [], ◌∷◌, ◌++◌, length, refl, ap, sym, ◌∙◌, subst}
 use Rattle.std.proofs.lemmas.Bool.{cond-true, cond-false, eqb-true, eq-eqb}
 use Rattle.crl_model.specs.declared.name.Name.{Name}
 use Rattle.crl_model.specs.declared.call.Call.{Call}
@@ -28,6 +28,13 @@ follow_more (changes i s left h n inside f) g = changes i s left h n inside (fol
 follow_more (calls i s left h n out f) g = calls i s left h n out (follow_more f g)
 follow_more (happens i e own quiet may f) g = happens i e own quiet may (follow_more f g)
 
+-- the events of what follows
+pub follow_events : {r end : Running} {es : List Event} → Follows r es end → end.events ≡ r.events ++ es
+follow_events (ended {r = r}) = sym (append_nil r.events)
+follow_events (changes i s left h n e f) = follow_events f
+follow_events {r = r} (calls {es = es} i s left h n e f) = follow_events f ∙ append_assoc r.events (event.Call i (next_call r i s) ∷ []) es
+follow_events {r = r} (happens {es = es} i e a b c f) = follow_events f ∙ append_assoc r.events (e ∷ []) es
+
 pub record Reached (count capacity : ℕ) (blocks : List (List Statement)) (history : List Event) (left : ℕ → List Statement) (drafts : ℕ → Drafts) : Type 0 where
   pub end : Running
   pub follows : Follows (running count capacity blocks) history end
@@ -49,7 +56,7 @@ left_same (Writing guard) a = refl
 left_same _ a = refl
 
 -- Of a node's actor, where one actor is another.
-here : {A : Type 0} (f : ℕ → A) (i : ℕ) (x : A) → at_node f i x i ≡ x
+pub here : {A : Type 0} (f : ℕ → A) (i : ℕ) (x : A) → at_node f i x i ≡ x
 here f i x = cond-true (i == i) x (f i) (eq-eqb i i refl)
 
 -- a field of actors, one of which is another
@@ -60,7 +67,7 @@ each_is g f k i a x j e h = go (i == j)
     go true = e
     go false = h
 
-twice : {A : Type 0} (f : ℕ → A) (i : ℕ) (x y : A) (j : ℕ) → at_node (at_node f i x) i y j ≡ at_node f i y j
+pub twice : {A : Type 0} (f : ℕ → A) (i : ℕ) (x y : A) (j : ℕ) → at_node (at_node f i x) i y j ≡ at_node f i y j
 twice f i x y j = go (i == j)
   where
     go : (b : Bool) → (if b then y else if b then x else f j) ≡ (if b then y else f j)

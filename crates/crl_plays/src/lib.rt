@@ -4,8 +4,12 @@
 
 ghost use Rattle.crl_plays.specs.Plays.{PlaysAreRuns};
 
+use crl_deeds::theorems::choices_give_all_runs;
+
 /// Where each node of a run is somewhere in its statements, by what it heard alone, the run is one that the script and some
 /// order of steps choose.
 pub fn plays_are_runs()
     ensures { PlaysAreRuns }
-{}
+{
+    choices_give_all_runs();
+}
