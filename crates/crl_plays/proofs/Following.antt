@@ -19,7 +19,6 @@ use Rattle.crl_deeds.specs.Laws.{IsNext, past_statement, next_call, is_inside, n
 use Rattle.crl_deeds.proofs.Laws.{append_nil, follow_world}
 use Rattle.crl_talk.specs.Script.{Drafts, drafts_given, Changes, puts, adds, IsPlain, CallsFor, plain, leaves, cant_leave, cant_change}
 use Rattle.crl_plays.specs.Plays.{IsInWriting}
-use Rattle.crl_plays.proofs.Heard.{world_then}
 
 -- One step after another.
 follow_more : {r mid end : Running} {es fs : List Event} → Follows r es mid → Follows mid fs end → Follows r (es ++ fs) end

@@ -1,5 +1,5 @@
 -- What a node heard in a run that has one event more, and what is known of it by what it heard.
-use Rattle.std.proofs.Common.{◌≡◌, ℕ, ◌≤◌, ◌^◌, Bool, true, false, if◌then◌else◌, Option, Some, None, List, [], ◌∷◌, ◌++◌, length, refl, ap, sym, ◌∙◌, subst, arith, length-append}
+use Rattle.std.proofs.Common.{◌≡◌, ℕ, ◌<◌, ◌≤◌, ◌^◌, Bool, true, false, if◌then◌else◌, Option, Some, None, List, [], ◌∷◌, ◌++◌, length, refl, ap, sym, ◌∙◌, subst, arith, length-append}
 use Rattle.std.proofs.Common.{append_assoc}
 use Rattle.crl_model.specs.declared.name.Name.{Name}
 use Rattle.crl_model.specs.declared.directory.Section.TheVariants as section
@@ -23,10 +23,6 @@ hears_then n w (x ∷ run) e =
     ap (λ hs. hears_of n x (step x w).answer ++ hs) (hears_then n (step x w).world run e)
     ∙ sym (append_assoc (hears_of n x (step x w).answer) (hears n (step x w).world run) (hears_of n e (step e (world_after (step x w).world run)).answer))
 
-pub world_then : (w : World) (run : List Event) (e : Event) → world_after w (run ++ e ∷ []) ≡ (step e (world_after w run)).world
-world_then w [] e = refl
-world_then w (x ∷ run) e = world_then (step x w).world run e
-
 run_before : (w : World) (run : List Event) (e : Event) → IsRunFrom w (run ++ e ∷ []) → IsRunFrom w run × (is_enabled e (world_after w run) ≡ true)
 run_before w [] e r = (tt, r.0)
 run_before w (x ∷ run) e r = let rest = run_before (step x w).world run e r.1 in ((r.0, rest.0), rest.1)
@@ -41,6 +37,10 @@ is_run_before count capacity run e r =
 pub count_in_run : (w : World) (run : List Event) → IsRunFrom w run → (world_after w run).count ≡ w.count
 count_in_run w [] r = refl
 count_in_run w (e ∷ run) r = count_in_run (step e w).world run r.1 ∙ turn_count w _ (turn_of w e r.0)
+
+-- A node of a run has heard what it heard there.
+pub has_heard : (count capacity : ℕ) (run : List Event) (i : ℕ) → IsRun count capacity run → i < count → HasHeard i (hears i (new_world count capacity) run) ((world_of count capacity run).nodes i)
+has_heard count capacity run i r few = record { count = count; capacity = capacity; run = run; is_run = r; within = few; hears = refl; node = refl }
 
 -- A node that heard this.
 pub known_heard : (i : ℕ) (heard : List Heard) (n : Node) (h : HasHeard i heard n) → Known (world_of h.count h.capacity h.run)

@@ -22,7 +22,7 @@ use Rattle.crl_plays.specs.Plays.{HasHeard, IsInWriting, Plays, begins, inside, 
 use Rattle.crl_plays.proofs.Allowed.{allowed_as_heard}
 use Rattle.crl_plays.proofs.Following.{Agree, Reached, reached_as, here, itself, twice, changed, called, happened}
 use Rattle.crl_plays.proofs.Free.{free_if, may_call}
-use Rattle.crl_plays.proofs.Heard.{hears_then, is_run_before, count_in_run, both_free}
+use Rattle.crl_plays.proofs.Heard.{has_heard, hears_then, is_run_before, count_in_run, both_free}
 use Rattle.crl_plays.proofs.Quiet.{handle_done, carry_done}
 
 -- Changes that the node makes one after another, having heard this.
@@ -87,9 +87,6 @@ last_of i block (collects {heard = heard} {left = left} {d = d} answer p) front 
     subst (λ x. Last i block front x left (drafts_given answer d)) same.1 (record { first = left; before = d; plays = subst (λ hs. Plays i block hs left d) same.0 p; behind = none })
 
 -- A node that has heard nothing allows no change: it is at its first statement.
-new_heard : (i : ℕ) (n : Node) (h : HasHeard i [] n) → HasHeard i [] ((new_world h.count h.capacity).nodes i)
-new_heard i n h = record { count = h.count; capacity = h.capacity; run = []; is_run = record { enabled = tt; limit = omega arith }; within = h.within; hears = refl; node = refl }
-
 new_refuses : {A : Type 0} (count capacity i : ℕ) (d after : Drafts) (s : Statement) (c : Call) → Changes d s c after → verdict ((new_world count capacity).nodes i) c ≡ None → A
 unfolding verdict
 new_refuses count capacity i d after s c (puts name offset bytes) e = cc
@@ -103,11 +100,11 @@ first_of : (i : ℕ) (block : List Statement) {heard : List Heard} {left : List 
 first_of i block begins e = (refl, refl)
 first_of i block (inside {d = d} {after = after} s c n has free change allowed p) e =
     let h = subst (λ hs. HasHeard i hs n) e has in
-    new_refuses h.count h.capacity i d after s c change (allowed_as_heard i [] n ((new_world h.count h.capacity).nodes i) c h (new_heard i n h) free (is_change_call d after s c change) allowed)
+    new_refuses h.count h.capacity i d after s c change (allowed_as_heard i [] n ((new_world h.count h.capacity).nodes i) c h (has_heard h.count h.capacity [] i (record { enabled = tt; limit = omega arith }) h.within) free (is_change_call d after s c change) allowed)
 first_of i block (calls {heard = heard} s c answer n has makes p) e = some_end heard (Called c answer) e
 first_of i block (collects {heard = heard} answer p) e = some_end heard (Collected answer) e
 
--- A node of a run has heard what it heard there.
+-- A node of the run, and one that heard the same.
 module _ (count capacity : ℕ) (blocks : List (List Statement)) (history : List Event) (r : IsRun count capacity history) where
   abbrev world : World
   world = world_of count capacity history
@@ -115,20 +112,17 @@ module _ (count capacity : ℕ) (blocks : List (List Statement)) (history : List
   abbrev told : ℕ → List Heard
   told i = hears i (new_world count capacity) history
 
-  has_heard : (i : ℕ) → i < count → HasHeard i (told i) (world.nodes i)
-  has_heard i few = record { count = count; capacity = capacity; run = history; is_run = r; within = few; hears = refl; node = refl }
-
   counted : world.count ≡ count
   counted = count_in_run (new_world count capacity) history r.enabled
 
   agrees : (i : ℕ) (n : Node) → i < count → HasHeard i (told i) n → n.activity ≡ Free → Agree n (world.nodes i)
-  agrees i n few h free c is e = allowed_as_heard i (told i) n (world.nodes i) c h (has_heard i few) free is e
+  agrees i n few h free c is e = allowed_as_heard i (told i) n (world.nodes i) c h (has_heard count capacity history i r few) free is e
 
   agrees_back : (i : ℕ) (n : Node) → i < count → HasHeard i (told i) n → (world.nodes i).activity ≡ Free → Agree (world.nodes i) n
-  agrees_back i n few h free c is e = allowed_as_heard i (told i) (world.nodes i) n c (has_heard i few) h free is e
+  agrees_back i n few h free c is e = allowed_as_heard i (told i) (world.nodes i) n c (has_heard count capacity history i r few) h free is e
 
   node_free : (i : ℕ) (n : Node) → i < count → HasHeard i (told i) n → n.activity ≡ Free → (world.nodes i).activity ≡ Free
-  node_free i n few h free = both_free i (told i) n (world.nodes i) h (has_heard i few) free
+  node_free i n few h free = both_free i (told i) n (world.nodes i) h (has_heard count capacity history i r few) free
 
   -- changes of node i
   all_changed : (i : ℕ) (left : ℕ → List Statement) (drafts : ℕ → Drafts) (first : List Statement) (before : Drafts) → i < count → Reached count capacity blocks history (at_node left i first) (at_node drafts i before)
@@ -210,10 +204,10 @@ module _ (count capacity : ℕ) (blocks : List (List Statement)) (history : List
       let d = k.before in
       let s = k.statement in
       let n = k.node in
-      let n_free = both_free i (hears i start history) (now.nodes i) n (has_heard count capacity blocks history was i few) k.has free in
+      let n_free = both_free i (hears i start history) (now.nodes i) n (has_heard count capacity history i was few) k.has free in
       let reached = before was (at_node left i (s ∷ first)) (at_node drafts i d) (all_before i (s ∷ first) d quiet k.plays) in
       let so = called count capacity blocks history (at_node left i (s ∷ first)) (at_node drafts i d) reached i n s first c (counted count capacity blocks history was) few (here left i (s ∷ first)) free
-          (agrees count capacity blocks history was i n few k.has n_free) (agrees_back count capacity blocks history was i n few k.has free) (subst (λ (x : Drafts). CallsFor n x s c) (sym (here drafts i d)) k.makes) in
+      (agrees count capacity blocks history was i n few k.has n_free) (agrees_back count capacity blocks history was i n few k.has free) (subst (λ (x : Drafts). CallsFor n x s c) (sym (here drafts i d)) k.makes) in
       let given : Drafts = drafts_given (step (event.Call i c) now).answer (at_node drafts i d i) in
       let gives : given ≡ drafts_given answer d = ap (λ x. drafts_given (step x now).answer (at_node drafts i d i)) (sym is) ∙ ap (drafts_given answer) (here drafts i d) in
       all_after i (Called c answer) first (drafts_given answer d) few heard k.behind

@@ -5,14 +5,13 @@ use Rattle.std.specs.declared.option.Option.TheVariants.{None}
 use Rattle.crl_model.specs.declared.call.Call.{Call}
 use Rattle.crl_model.specs.declared.call.Call.TheVariants as call
 use Rattle.crl_model.specs.declared.event.Event.{Event}
-use Rattle.crl_model.specs.declared.name.Name.{Name}
 use Rattle.crl_model.specs.declared.statement.Statement.{Statement}
 use Rattle.crl_protocol.specs.Node.{Node, Answer, Free, Wait}
 use Rattle.crl_protocol.specs.Talk.{Heard, Called, Collected, hears}
 use Rattle.crl_protocol.specs.Verdict.{verdict}
 use Rattle.crl_protocol.specs.World.{World, new_world, world_of, IsRun}
 use Rattle.crl_protocol.specs.Chosen.{Running, block_of}
-use Rattle.crl_deeds.specs.Laws.{AreStatements, IsChosenBySome}
+use Rattle.crl_deeds.specs.Laws.{IsChosenBySome}
 use Rattle.crl_talk.specs.Script.{Drafts, no_drafts, drafts_given, Changes, CallsFor}
 
 -- In some run node i heard this, and is this node after it.
@@ -46,10 +45,11 @@ IsInWriting c = ⊥
 -- before gave its calls, in order, and changes that are allowed are made on the drafts and are no calls.
 pub data Plays (i : ℕ) (block : List Statement) : List Heard → List Statement → Drafts → Type 0 where
   begins : Plays i block [] block no_drafts
-  inside : {heard : List Heard} {left : List Statement} {d after : Drafts} (s : Statement) (c : Call) (n : Node) → HasHeard i heard n → n.activity ≡ Free → Changes d s c after → verdict n c ≡ None
-      → Plays i block heard (s ∷ left) d → Plays i block heard left after
-  calls : {heard : List Heard} {left : List Statement} {d : Drafts} (s : Statement) (c : Call) (answer : Answer) (n : Node) → HasHeard i heard n → CallsFor n d s c
-      → Plays i block heard (s ∷ left) d → Plays i block (heard ++ Called c answer ∷ []) left (drafts_given answer d)
+  inside : {heard : List Heard} {left : List Statement} {d after : Drafts} (s : Statement) (c : Call) (n : Node)
+      → HasHeard i heard n → n.activity ≡ Free → Changes d s c after → verdict n c ≡ None → Plays i block heard (s ∷ left) d → Plays i block heard left after
+  calls : {heard : List Heard} {left : List Statement} {d : Drafts} (s : Statement) (c : Call) (answer : Answer) (n : Node)
+      → HasHeard i heard n → CallsFor n d s c → Plays i block heard (s ∷ left) d
+      → Plays i block (heard ++ Called c answer ∷ []) left (drafts_given answer d)
   collects : {heard : List Heard} {left : List Statement} {d : Drafts} (answer : Answer)
       → Plays i block heard left d → Plays i block (heard ++ Collected answer ∷ []) left (drafts_given answer d)
 
@@ -61,7 +61,7 @@ pub record IsFollowed (count capacity : ℕ) (blocks : List (List Statement)) (h
   pub events : reached.events ≡ history
   pub world : reached.world ≡ world_of count capacity history
   pub left_is : (i : ℕ) → i < count → (reached.actors i).left ≡ left i
-  pub drafts_are : (i : ℕ) (name : Name) → i < count → (reached.actors i).drafts name ≡ drafts i name
+  pub drafts_are : (i : ℕ) → i < count → (reached.actors i).drafts ≡ drafts i
 
 -- What each node heard in the run it may have heard for its statements.
 abbrev pub AllPlay : ℕ → ℕ → List (List Statement) → List Event → (ℕ → List Statement) → (ℕ → Drafts) → Type 0
@@ -69,5 +69,5 @@ AllPlay count capacity blocks history left drafts = (i : ℕ) → i < count → 
 
 abbrev pub PlaysAreRuns : Type 0
 PlaysAreRuns =
-    (count capacity : ℕ) (blocks : List (List Statement)) (history : List Event) (left : ℕ → List Statement) (drafts : ℕ → Drafts) → AreStatements blocks → IsRun count capacity history
+    (count capacity : ℕ) (blocks : List (List Statement)) (history : List Event) (left : ℕ → List Statement) (drafts : ℕ → Drafts) → IsRun count capacity history
     → AllPlay count capacity blocks history left drafts → IsFollowed count capacity blocks history left drafts

@@ -1,11 +1,10 @@
-use Rattle.std.proofs.Common.{ap, ◌∙◌}
 use Rattle.crl_deeds.proofs.Laws.{follow_world}
 use Rattle.crl_plays.proofs.Following.{follow_events}
 use Rattle.crl_plays.proofs.Runs.{plays_follow}
 use Rattle.crl_plays.proofs.plays_are_runs.Goals as goal
 
 pub returns : goal.returns
-returns c count capacity blocks history left drafts statements run all =
+returns c count capacity blocks history left drafts run all =
     let r = plays_follow count capacity blocks history left drafts run all in
     record {
       reached = r.end;
@@ -13,5 +12,5 @@ returns c count capacity blocks history left drafts statements run all =
       events = follow_events r.follows;
       world = follow_world r.follows;
       left_is = r.left_is;
-      drafts_are = λ i name few. ap (λ d. d name) (r.drafts_are i few);
+      drafts_are = r.drafts_are;
     }
