@@ -1,6 +1,6 @@
 -- A run that follows the script so far, with the statements that each node has left and its drafts; and with one step more.
-use Rattle.std.proofs.Common.{append_assoc, ◌≡◌, ℕ, ◌<◌, ◌&&◌, ◌==◌, Bool, true, false, if◌then◌else◌, Option, Some, None, List, [], ◌∷◌, ◌++◌, length, refl, ap, sym, ◌∙◌, subst}
-use Rattle.std.proofs.lemmas.Bool.{cond-true, cond-false, eqb-true, eq-eqb}
+use Rattle.std.proofs.Common.{append_assoc, ◌≡◌, ℕ, ◌<◌, ◌&&◌, ◌==◌, Bool, true, false, if◌then◌else◌, Option, Some, None, List, [], ◌∷◌, ◌++◌, refl, ap, sym, ◌∙◌, subst}
+use Rattle.std.proofs.lemmas.Bool.{cond-true, eqb-true, eq-eqb}
 use Rattle.crl_model.specs.declared.name.Name.{Name}
 use Rattle.crl_model.specs.declared.call.Call.{Call}
 use Rattle.crl_model.specs.declared.call.Call.TheVariants as call
@@ -8,14 +8,13 @@ use Rattle.crl_model.specs.declared.call.Refusal.{Refusal}
 use Rattle.crl_model.specs.declared.event.Event.{Event}
 use Rattle.crl_model.specs.declared.event.Event.TheVariants as event
 use Rattle.crl_model.specs.declared.statement.Statement.{Statement}
-use Rattle.crl_model.specs.declared.statement.Statement.TheVariants as statement
 use Rattle.crl_model.specs.Names.{at_node, at_name}
 use Rattle.crl_model.specs.Patches.{put_at}
 use Rattle.crl_protocol.specs.Node.{Node, Answer, Writing, Free}
 use Rattle.crl_protocol.specs.Verdict.{verdict}
-use Rattle.crl_protocol.specs.World.{World, new_world, step, is_enabled, world_of}
-use Rattle.crl_protocol.specs.Chosen.{Actor, Running, running, block_of, call_of, call_with, draft_of, after_change, is_change, is_allowed, takes_guard, goes_on, with_actor, with_sum}
-use Rattle.crl_deeds.specs.Laws.{IsNext, past_statement, next_call, is_inside, node_of, is_call_event, Follows, ended, changes, calls, happens}
+use Rattle.crl_protocol.specs.World.{World, step, is_enabled, world_of}
+use Rattle.crl_protocol.specs.Chosen.{Actor, Running, running, call_of, call_with, draft_of, after_change, is_change, is_allowed, takes_guard, goes_on, with_actor, with_sum}
+use Rattle.crl_deeds.specs.Laws.{IsNext, past_statement, next_call, node_of, is_call_event, Follows, ended, changes, calls, happens}
 use Rattle.crl_deeds.proofs.Laws.{append_nil, follow_world}
 use Rattle.crl_talk.specs.Script.{Drafts, drafts_given, Changes, puts, adds, IsPlain, CallsFor, plain, leaves, cant_leave, cant_change}
 use Rattle.crl_plays.specs.Plays.{IsInWriting}

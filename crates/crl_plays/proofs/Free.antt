@@ -1,6 +1,6 @@
 -- Whether a node is free is known by what it heard.
-use Rattle.std.proofs.Common.{◌≡◌, ℕ, ◌<◌, ◌==◌, ◌&&◌, Bool, true, false, if◌then◌else◌, List, [], ◌∷◌, ◌++◌, refl, ap, sym, ◌∙◌, subst}
-use Rattle.std.proofs.lemmas.Bool.{and_parts, ltb-true, eqb-true}
+use Rattle.std.proofs.Common.{◌≡◌, ℕ, ◌<◌, ◌==◌, Bool, true, false, if◌then◌else◌, List, [], ◌∷◌, ◌++◌, refl, ap, sym, ◌∙◌, subst}
+use Rattle.std.proofs.lemmas.Bool.{and_parts, ltb-true}
 use Rattle.crl_model.specs.declared.name.Name.{Name}
 use Rattle.crl_model.specs.declared.collective.Fold.{Fold}
 use Rattle.crl_model.specs.declared.collective.Fold.TheVariants as fold
@@ -9,15 +9,13 @@ use Rattle.crl_model.specs.declared.entry.What.{What}
 use Rattle.crl_model.specs.declared.event.Event.{Event}
 use Rattle.crl_model.specs.declared.event.Event.TheVariants as event
 use Rattle.crl_model.specs.declared.message.Kind.{Kind}
-use Rattle.crl_protocol.specs.Parcels.{Piece, with_load, PartsGathered}
-use Rattle.crl_protocol.specs.Places.{Took}
 use Rattle.crl_protocol.specs.Sections.{Guard}
 use Rattle.crl_protocol.specs.Node.{Node, Activity, Free, Waiting, Ready, ForMap, Outcome, guard_answer}
 use Rattle.crl_protocol.specs.Calls.{node_calls, answer_of}
 use Rattle.crl_protocol.specs.Handlers.{purges_waiting}
 use Rattle.crl_protocol.specs.Talk.{Heard, Called, Collected, hears_of, hears}
 use Rattle.crl_protocol.specs.Verdict.{verdict}
-use Rattle.crl_protocol.specs.World.{World, WorldStep, new_world, step, is_enabled, is_free, is_ready, collects, noted_call, commits, IsRunFrom, world_after}
+use Rattle.crl_protocol.specs.World.{World, WorldStep, step, is_enabled, is_free, is_ready, collects, noted_call, commits, IsRunFrom, world_after}
 use Rattle.crl_deeds.specs.Counts.{Known}
 use Rattle.crl_deeds.specs.Deeds.{Calls, Hears, Copies, Lives, Rounds, Notes, Deed}
 use Rattle.crl_deeds.specs.Deeds as deed

@@ -1,11 +1,9 @@
 -- A run whose nodes are all somewhere in their statements follows the script: by its events, from the start. Changes that a
 -- node makes are put right behind the event before them of the node.
-use Rattle.std.proofs.Common.{◌≡◌, ℕ, ◌<◌, ◌≤◌, ◌^◌, ◌==◌, Bool, true, false, if◌then◌else◌, Some, None, List, [], ◌∷◌, ◌++◌, length, refl, ap, sym, ◌∙◌, subst, arith}
+use Rattle.std.proofs.Common.{◌≡◌, ℕ, ◌<◌, ◌==◌, Bool, true, false, if◌then◌else◌, None, List, [], ◌∷◌, ◌++◌, refl, ap, sym, ◌∙◌, subst, arith}
 use Rattle.std.proofs.Common.{append_assoc}
 use Rattle.std.proofs.lemmas.Bool.{and_parts, ltb-true, cond-true, cond-false, eqb-true, eq-eqb}
-use Rattle.crl_model.specs.declared.name.Name.{Name}
 use Rattle.crl_model.specs.declared.call.Call.{Call}
-use Rattle.crl_model.specs.declared.call.Call.TheVariants as call
 use Rattle.crl_model.specs.declared.event.Event.{Event}
 use Rattle.crl_model.specs.declared.event.Event.TheVariants as event
 use Rattle.crl_model.specs.declared.statement.Statement.{Statement}
@@ -14,7 +12,7 @@ use Rattle.crl_protocol.specs.Node.{Node, Answer, Done, Free}
 use Rattle.crl_protocol.specs.Talk.{Heard, Called, Collected, hears_of, hears}
 use Rattle.crl_protocol.specs.Verdict.{verdict}
 use Rattle.crl_protocol.specs.World.{World, new_world, step, is_enabled, IsRun, world_of}
-use Rattle.crl_protocol.specs.Chosen.{Running, running, block_of}
+use Rattle.crl_protocol.specs.Chosen.{running, block_of}
 use Rattle.crl_deeds.specs.Laws.{node_of, is_call_event, ended}
 use Rattle.crl_deeds.proofs.Laws.{append_nil}
 use Rattle.crl_talk.specs.Script.{Drafts, no_drafts, drafts_given, Changes, puts, adds, CallsFor}

@@ -1,5 +1,5 @@
--- How far a node is in its statements, by what it heard alone; and that a run whose nodes all are somewhere in theirs is one
--- that the script and some order of steps choose.
+-- How far a node is in its statements, by what it heard alone; and that a run whose nodes all play is one that the script and
+-- some order of steps choose.
 use Rattle.std.specs.Prelude.{◌≡◌, ℕ, ◌<◌, Bool, true, false, List, [], ◌∷◌, ◌++◌}
 use Rattle.std.specs.declared.option.Option.TheVariants.{None}
 use Rattle.crl_model.specs.declared.call.Call.{Call}
@@ -9,7 +9,7 @@ use Rattle.crl_model.specs.declared.statement.Statement.{Statement}
 use Rattle.crl_protocol.specs.Node.{Node, Answer, Free, Wait}
 use Rattle.crl_protocol.specs.Talk.{Heard, Called, Collected, hears}
 use Rattle.crl_protocol.specs.Verdict.{verdict}
-use Rattle.crl_protocol.specs.World.{World, new_world, world_of, IsRun}
+use Rattle.crl_protocol.specs.World.{new_world, world_of, account, IsRun}
 use Rattle.crl_protocol.specs.Chosen.{Running, block_of}
 use Rattle.crl_deeds.specs.Laws.{IsChosenBySome}
 use Rattle.crl_talk.specs.Script.{Drafts, no_drafts, drafts_given, Changes, CallsFor}
@@ -60,12 +60,14 @@ pub record IsFollowed (count capacity : ℕ) (blocks : List (List Statement)) (h
   pub chosen : IsChosenBySome count capacity blocks reached
   pub events : reached.events ≡ history
   pub world : reached.world ≡ world_of count capacity history
+  pub entries : reached.entries ≡ account count capacity history
   pub left_is : (i : ℕ) → i < count → (reached.actors i).left ≡ left i
   pub drafts_are : (i : ℕ) → i < count → (reached.actors i).drafts ≡ drafts i
 
--- What each node heard in the run it may have heard for its statements.
+-- Each node of the run plays its block: by what it heard it has these statements left, and these drafts.
 abbrev pub AllPlay : ℕ → ℕ → List (List Statement) → List Event → (ℕ → List Statement) → (ℕ → Drafts) → Type 0
-AllPlay count capacity blocks history left drafts = (i : ℕ) → i < count → Plays i (block_of blocks i) (hears i (new_world count capacity) history) (left i) (drafts i)
+AllPlay count capacity blocks history left drafts =
+    (i : ℕ) → i < count → Plays i (block_of blocks i) (hears i (new_world count capacity) history) (left i) (drafts i)
 
 abbrev pub PlaysAreRuns : Type 0
 PlaysAreRuns =
