@@ -33,6 +33,7 @@ follow_events (changes i s left h n e f) = follow_events f
 follow_events {r = r} (calls {es = es} i s left h n e f) = follow_events f ∙ append_assoc r.events (event.Call i (next_call r i s) ∷ []) es
 follow_events {r = r} (happens {es = es} i e a b c f) = follow_events f ∙ append_assoc r.events (e ∷ []) es
 
+-- A run of these events that follows the script, with what each node has left.
 pub record Reached (count capacity : ℕ) (blocks : List (List Statement)) (history : List Event) (left : ℕ → List Statement) (drafts : ℕ → Drafts) : Type 0 where
   pub end : Running
   pub follows : Follows (running count capacity blocks) history end
@@ -53,7 +54,7 @@ left_same : (answer : Answer) (a : Actor) → (takes_guard answer a).left ≡ a.
 left_same (Writing guard) a = refl
 left_same _ a = refl
 
--- Of a node's actor, where one actor is another.
+-- A function with one value changed: at the place, once more there, and where the value is what it was.
 pub here : {A : Type 0} (f : ℕ → A) (i : ℕ) (x : A) → at_node f i x i ≡ x
 here f i x = cond-true (i == i) x (f i) (eq-eqb i i refl)
 
@@ -72,7 +73,6 @@ twice f i x y j = go (i == j)
     go true = refl
     go false = refl
 
--- the same at a place
 pub itself : {A : Type 0} (f : ℕ → A) (i j : ℕ) → at_node f i (f i) j ≡ f j
 itself f i j = go (i == j) refl
   where
