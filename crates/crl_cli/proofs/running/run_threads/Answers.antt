@@ -4,7 +4,7 @@ use Rattle.crl_cli.proofs.Runs.{few, history, ended_some}
 use Rattle.crl_cli.proofs.running.run_threads.Goals as goal
 
 pub work-requires-clause-few : goal.work-requires-clause-few
-work-requires-clause-few g c = few c.args.script.now c.nodes.result c.cache.result _ c.blocks-2.ensures c.nodes.ensures.count c.nodes.ensures.script (c.if-not-fits.ensures.0 refl)
+work-requires-clause-few g c = λ κs lives. few c.args.script.now c.nodes.result c.cache.result _ c.blocks-2.ensures c.nodes.ensures.count c.nodes.ensures.script (c.if-not-fits.ensures.0 refl)
 
 pub returns : goal.returns
 returns g c =
