@@ -77,7 +77,10 @@ fn threads_have_words(rt: HostRuntime) -> Result<(), OutOfMemory> {
         assert_eq!(rt; answer.as_str(), usage);
     }
     // A call that waits for nobody has no threads.
-    assert_eq!(rt; answered(rt.alloc(), "threads 4", b"nodes 1")?.as_str(), usage);
+    assert_eq!(rt;
+        answered(rt.alloc(), "threads 4", b"nodes 1")?.as_str(),
+        usage
+    );
     Ok(())
 }
 
@@ -107,6 +110,7 @@ const ENDWRITE: usize = 3;
 const LOOKS: u64 = 10_000_000;
 
 /// A gate that each node passes before its `endwrite` only when so many nodes have come to theirs.
+#[derive(Drop)]
 struct Meeting {
     nodes: u64,
     came: AtomicU64,
@@ -133,7 +137,9 @@ impl Gate for Meeting {
 fn own_regions(alloc: Global, nodes: u64) -> Result<String, OutOfMemory> {
     let mut script = format!(in alloc; "nodes {nodes}\n")?;
     for i in 0..nodes {
-        let block = format!(in alloc; "node {i}\ncreate r{i} 4\nmap r{i}\nwrite r{i}\nendwrite r{i}\n")?;
+        let block = format!(in alloc;
+            "node {i}\ncreate r{i} 4\nmap r{i}\nwrite r{i}\nendwrite r{i}\n"
+        )?;
         script.push_str(block.as_str())?;
     }
     Ok(script)
