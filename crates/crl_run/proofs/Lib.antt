@@ -3,6 +3,7 @@ mod AllTurns
 mod Choices
 mod Counting
 mod Ending
+mod Events
 mod Fitting
 mod Heard
 mod Holding
@@ -11,6 +12,7 @@ pub mod Laws
 mod Likeness
 mod Playing
 mod ReportSums
+mod Returned
 mod Scripts
 mod Shown
 mod Stages

@@ -1,5 +1,6 @@
 pub mod Acting
 pub mod Actors
+pub mod Finishing
 pub mod Fits
 pub mod Hearing
 pub mod Holders
@@ -12,3 +13,4 @@ pub mod Reporting
 pub mod Runs
 pub mod Staging
 pub mod Turning
+pub mod Words
