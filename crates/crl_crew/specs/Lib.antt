@@ -1,0 +1,3 @@
+pub mod Standing
+pub mod Driving
+pub mod Working
