@@ -31,6 +31,9 @@ gen_named = record { met = refl; found = refl; other = refl }
 summary_named : IsNamed (codes "summary")
 summary_named = record { met = refl; found = refl; other = refl }
 
+threads_named : IsNamed (codes "threads")
+threads_named = record { met = refl; found = refl; other = refl }
+
 by_name : (w name : Text) → IsNamed name → bytes_eq w name ≡ true → IsNamed w
 by_name w name named e = subst IsNamed (sym ((bytes_eq-Decides w name).0 e)) named
 
@@ -44,21 +47,22 @@ swapped a w e = go (bytes_eq a w) refl
 abbrev IsNoCommand : Text → Type 0
 IsNoCommand w = (subcommand_met names idle w ≡ None) × ((words : List Text) → command_named w words ≡ None)
 
-is_other : (w : Text) → bytes_eq w (codes "order") ≡ false → bytes_eq w (codes "check") ≡ false → bytes_eq w (codes "gen") ≡ false → bytes_eq w (codes "summary") ≡ false → IsNoCommand w
-is_other w a b c d = (
-  rw (swapped (codes "order") w a, swapped (codes "check") w b, swapped (codes "gen") w c, swapped (codes "summary") w d) refl,
-  λ words. rw (a, b, c, d) refl,
+is_other : (w : Text) → bytes_eq w (codes "order") ≡ false → bytes_eq w (codes "check") ≡ false → bytes_eq w (codes "gen") ≡ false → bytes_eq w (codes "summary") ≡ false → bytes_eq w (codes "threads") ≡ false → IsNoCommand w
+is_other w a b c d e = (
+  rw (swapped (codes "order") w a, swapped (codes "check") w b, swapped (codes "gen") w c, swapped (codes "summary") w d, swapped (codes "threads") w e) refl,
+  λ words. rw (a, b, c, d, e) refl,
 )
 
 known : (w : Text) → IsNamed w ⊎ IsNoCommand w
-known w = go (bytes_eq w (codes "order")) (bytes_eq w (codes "check")) (bytes_eq w (codes "gen")) (bytes_eq w (codes "summary")) refl refl refl refl
+known w = go (bytes_eq w (codes "order")) (bytes_eq w (codes "check")) (bytes_eq w (codes "gen")) (bytes_eq w (codes "summary")) (bytes_eq w (codes "threads")) refl refl refl refl refl
   where
-    go : (a b c d : Bool) → bytes_eq w (codes "order") ≡ a → bytes_eq w (codes "check") ≡ b → bytes_eq w (codes "gen") ≡ c → bytes_eq w (codes "summary") ≡ d → IsNamed w ⊎ IsNoCommand w
-    go true b c d e f g h = inl (by_name w (codes "order") order_named e)
-    go false true c d e f g h = inl (by_name w (codes "check") check_named f)
-    go false false true d e f g h = inl (by_name w (codes "gen") gen_named g)
-    go false false false true e f g h = inl (by_name w (codes "summary") summary_named h)
-    go false false false false e f g h = inr (is_other w e f g h)
+    go : (a b c d x : Bool) → bytes_eq w (codes "order") ≡ a → bytes_eq w (codes "check") ≡ b → bytes_eq w (codes "gen") ≡ c → bytes_eq w (codes "summary") ≡ d → bytes_eq w (codes "threads") ≡ x → IsNamed w ⊎ IsNoCommand w
+    go true b c d x e f g h k = inl (by_name w (codes "order") order_named e)
+    go false true c d x e f g h k = inl (by_name w (codes "check") check_named f)
+    go false false true d x e f g h k = inl (by_name w (codes "gen") gen_named g)
+    go false false false true x e f g h k = inl (by_name w (codes "summary") summary_named h)
+    go false false false false true e f g h k = inl (by_name w (codes "threads") threads_named k)
+    go false false false false false e f g h k = inr (is_other w e f g h k)
 
 -- ---- words
 
@@ -73,7 +77,7 @@ none_anyhow false o e = e
 
 -- no command is its name alone
 alone : (w : Text) → command_named w [] ≡ None
-alone w = none_anyhow (bytes_eq w (codes "order")) _ (none_anyhow (bytes_eq w (codes "check")) _ (none_anyhow (bytes_eq w (codes "gen")) _ (none_anyhow (bytes_eq w (codes "summary")) _ refl)))
+alone w = none_anyhow (bytes_eq w (codes "order")) _ (none_anyhow (bytes_eq w (codes "check")) _ (none_anyhow (bytes_eq w (codes "gen")) _ (none_anyhow (bytes_eq w (codes "summary")) _ (none_anyhow (bytes_eq w (codes "threads")) _ refl))))
 
 -- clap takes the words exactly where the table has the name, and a word stands behind it
 agrees : (words : List Text) → any_hyphenated words ≡ false → Agrees words

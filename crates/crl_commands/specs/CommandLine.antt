@@ -25,7 +25,8 @@ abbrev pub with_command : App → Text → App
 with_command line name = with_subcommand line (words_behind name).top
 
 abbrev pub command_line : App
-command_line = with_command (with_command (with_command (with_command program (codes "order")) (codes "check")) (codes "gen")) (codes "summary")
+command_line =
+    with_command (with_command (with_command (with_command (with_command program (codes "order")) (codes "check")) (codes "gen")) (codes "summary")) (codes "threads")
 
 -- the name that was found, and the words behind it
 abbrev pub named_words : Option (Text × List Row) → Option (Text × List Text)

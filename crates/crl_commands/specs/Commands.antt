@@ -6,7 +6,7 @@ use Rattle.crl_order.specs.Words.{generator_of_seed}
 use Rattle.crl_order.specs.declared.order.Order.TheVariants.{First, Picks, Seed}
 use Rattle.crl_script.specs.Words.{natural_of}
 use Rattle.crl_commands.specs.declared.command.Command.{Command}
-use Rattle.crl_commands.specs.declared.command.Command.TheVariants.{Order, Check, Gen, Summary}
+use Rattle.crl_commands.specs.declared.command.Command.TheVariants.{Order, Check, Gen, Summary, Threads}
 use Rattle.crl_commands.specs.declared.command.Recipe.{Recipe}
 use Rattle.crl_commands.specs.Picks.{picks_of}
 
@@ -48,6 +48,11 @@ abbrev pub check_of : List (List ℕ) → Option Command
 check_of (nodes ∷ []) = option_map Check (number_of 1 64 nodes)
 check_of words = None
 
+-- `WORKERS`
+abbrev pub threads_of : List (List ℕ) → Option Command
+threads_of (workers ∷ []) = option_map Threads (number_of 1 16 workers)
+threads_of words = None
+
 -- a script of at most so many statements and regions
 abbrev pub recipe_within : ℕ → ℕ → ℕ → ℕ → Option Recipe
 recipe_within seed nodes regions rounds =
@@ -74,6 +79,7 @@ command_named name words =
     else if bytes_eq name (codes "check") then check_of words
     else if bytes_eq name (codes "gen") then option_map Gen (recipe_of words)
     else if bytes_eq name (codes "summary") then option_map Summary (recipe_of words)
+    else if bytes_eq name (codes "threads") then threads_of words
     else None
 
 -- the words with the name before them
@@ -102,3 +108,4 @@ IsSound (Order order) = Unit {0}
 IsSound (Check nodes) = (1 ≤ nodes) × (nodes ≤ 64)
 IsSound (Gen recipe) = IsRecipe recipe
 IsSound (Summary recipe) = IsRecipe recipe
+IsSound (Threads workers) = (1 ≤ workers) × (workers ≤ 16)

@@ -14,6 +14,8 @@ pub enum Command {
     Gen(Recipe),
     /// `summary SEED NODES REGIONS ROUNDS`: runs it under the order of the seed, and prints one line.
     Summary(Recipe),
+    /// `threads WORKERS`: runs a script by so many threads, 1 to 16.
+    Threads(u16),
 }
 
 /// What a script is made from.

@@ -22,7 +22,8 @@ pub(crate) fn command_line<'a>(alloc: Global) -> Result<Command<'a>, OutOfMemory
         .subcommand(words_behind(alloc, "order")?)?
         .subcommand(words_behind(alloc, "check")?)?
         .subcommand(words_behind(alloc, "gen")?)?
-        .subcommand(words_behind(alloc, "summary")?)
+        .subcommand(words_behind(alloc, "summary")?)?
+        .subcommand(words_behind(alloc, "threads")?)
 }
 
 /// A command of this name, with words behind it.

@@ -1,7 +1,7 @@
 //! The table of the commands.
 ghost use Rattle.std.specs.Prelude.{◌≡◌, map, string_bytes, IfOk, IfSome};
 ghost use Rattle.clap.specs.Words.{subcommand_rows_of};
-ghost use Rattle.crl_commands.specs.Commands.{command_of, command_named, order_of, order_by, first_of, check_of, IsSound};
+ghost use Rattle.crl_commands.specs.Commands.{command_of, command_named, order_of, order_by, first_of, check_of, threads_of, IsSound};
 ghost use Rattle.crl_commands.specs.CommandLine.{command_in, named_words};
 
 use crate::command::Command;
@@ -13,6 +13,9 @@ use clap::error::ErrorKind;
 use crl_model::{NODE_LIMIT, NodeNo, OutOfMemory};
 use crl_order::{Order, Picks, Seeded};
 use std::alloc::Global;
+
+/// The most threads that run a script.
+const WORKER_LIMIT: u64 = 16;
 
 /// The command that the words are, if they are one. What `clap` says of other words is dropped.
 ///
@@ -59,6 +62,7 @@ fn command_named(alloc: Global, name: &str, words: &[&str]) -> Result<Option<Com
         "check" => Ok(check_of(words)),
         "gen" => Ok(recipe_of(words).map(Command::Gen)),
         "summary" => Ok(recipe_of(words).map(Command::Summary)),
+        "threads" => Ok(threads_of(words)),
         _ => Ok(None),
     }
 }
@@ -114,6 +118,20 @@ fn check_of(words: &[&str]) -> Option<Command>
         [nodes] => {
             let nodes = number_of(nodes, 1, NODE_LIMIT as u64)?;
             Some(Command::Check(nodes as NodeNo))
+        }
+        _ => None,
+    }
+}
+
+/// The run by so many threads.
+fn threads_of(words: &[&str]) -> Option<Command>
+    ensures command { result ≡ threads_of (map (λ w. w.now) words.now) }
+    ensures sound { IfSome result IsSound }
+{
+    match words {
+        [workers] => {
+            let workers = number_of(workers, 1, WORKER_LIMIT)?;
+            Some(Command::Threads(workers as u16))
         }
         _ => None,
     }

@@ -57,6 +57,7 @@ fn orders(rt: HostRuntime) -> Result<(), OutOfMemory> {
 fn numbers(rt: HostRuntime) -> Result<(), OutOfMemory> {
     let alloc = rt.alloc();
     assert!(rt; matches!(command(alloc, "check 64")?, Some(Command::Check(64))));
+    assert!(rt; matches!(command(alloc, "threads 016")?, Some(Command::Threads(16))));
     let most = Recipe {
         seed: 18_446_744_073_709_551_615,
         nodes: 64,
@@ -97,6 +98,11 @@ fn no_commands(rt: HostRuntime) -> Result<(), OutOfMemory> {
         "gen 1 64 1001 1",
         "gen 1 2 3",
         "summary 1 2 3 4 5",
+        "threads",
+        "threads 0",
+        "threads 17",
+        "threads four",
+        "threads 2 2",
         "help",
         "ord first",
     ];

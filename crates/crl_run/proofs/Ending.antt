@@ -17,10 +17,13 @@ use Rattle.crl_world.specs.Records.{records_by_node}
 use Rattle.crl_run.specs.PlayerState.{PlayerState}
 use Rattle.crl_run.specs.Staging.{IsOnItsWay}
 use Rattle.crl_run.specs.Playing.{player_of}
-use Rattle.crl_run.specs.Turning.{IsAtStart, IsOver}
+use Rattle.crl_run.specs.Turning.{words_then, IsAt, IsOver, RunIsOver}
+use Rattle.crl_run.specs.Finishing.{IsAtSomeTurn, IsPrintedFrom}
+use Rattle.crl_run.specs.declared.finishing.Printed.{Printed}
 use Rattle.crl_run.specs.Reporting.{running_seen, PrintsWhatIs, IsReportOf}
 use Rattle.crl_run.specs.Runs.{AreNewPlayers}
 use Rattle.crl_run.proofs.Lasting.{chosen_on}
+use Rattle.crl_run.proofs.AllTurns.{at_words}
 use Rattle.crl_run.proofs.Taken.{players_begin}
 use Rattle.crl_run.proofs.Playing.{counted, as_many}
 use Rattle.crl_run.proofs.ReportSums.{stuck_same, blocked_same}
@@ -38,8 +41,8 @@ follow_account {r = r} (happens {es = es} i e a b c f) =
 same_reports : (a b : Reported) → a.entries ≡ b.entries → a.regions ≡ b.regions → a.blocked ≡ b.blocked → a.events ≡ b.events → a.messages ≡ b.messages → a ≡ b
 same_reports a b e f g h k = λ i. record { entries = e i; regions = f i; blocked = g i; events = h i; messages = k i }
 
-pub begins_there : (count capacity : ℕ) (blocks : List (List Statement)) (w : World) (players : List PlayerState) → w ≡ new_world count capacity → AreNewPlayers count players → IsAtStart capacity blocks w players
-begins_there count capacity blocks w players e new = record {
+pub begins_there : (count capacity : ℕ) (blocks : List (List Statement)) (words : ℕ → ℕ) (w : World) (players : List PlayerState) → w ≡ new_world count capacity → AreNewPlayers count players → IsAt capacity blocks words 0 w players
+begins_there count capacity blocks words w players e new = record {
   world = e ∙ ap (λ n. new_world n capacity) (sym new.many);
   all = players_begin (length players) capacity blocks (player_of players) (λ i lt. new.are i (subst (λ n. i < n) new.many lt));
 }
@@ -77,6 +80,28 @@ module _ (capacity : ℕ) (blocks : List (List Statement)) (words : ℕ → ℕ)
             (is.messages ∙ ap messages_sent over.stands.world);
         is_so = sym stuck;
       }
+
+-- Of what stood for a run on its way, when the rest is over.
+module _ (blocks : List (List Statement)) (rest : ℕ → ℕ) (w : World) (players : List PlayerState) (v : World) (later : List PlayerState) (are : AreStatements blocks) (over : RunIsOver blocks rest w players v later) where
+  some_over : IsAtSomeTurn blocks w players → (capacity : ℕ) × (words : ℕ → ℕ) × IsOver capacity blocks words v later
+  some_over (capacity, t) = go (at_words capacity blocks w players t)
+    where
+      go : (words : ℕ → ℕ) × (k : ℕ) × IsAt capacity blocks words k w players → (capacity : ℕ) × (words : ℕ → ℕ) × IsOver capacity blocks words v later
+      go (words, k, at) = (capacity, words_then k words rest, over.1 capacity words k at)
+
+  pub rest_counted : IsAtSomeTurn blocks w players → v.count ≡ length later
+  rest_counted some = let o = some_over some in end_counted o.0 blocks o.1 v later are o.2
+
+  pub rest_messages : IsAtSomeTurn blocks w players → messages_sent v ≤ statements_in (length players) blocks * most_messages (length players)
+  rest_messages some =
+      let o = some_over some in
+      subst (λ n. messages_sent v ≤ statements_in n blocks * most_messages n) over.0 (end_messages o.0 blocks o.1 v later are o.2)
+
+  pub rest_printed : (printed : Printed) → printed.stuck ≡ is_stuck (running_seen blocks v later) → PrintsWhatIs blocks v later printed.report → IsPrintedFrom blocks rest w players printed
+  rest_printed printed stuck is capacity words k at =
+      subst (λ n. IsReportOf n capacity blocks (words_then k words rest) printed.stuck printed.report) over.0
+      (subst (λ b. IsReportOf (length later) capacity blocks (words_then k words rest) b printed.report) (sym stuck)
+      (end_reported capacity blocks (words_then k words rest) v later are (over.1 capacity words k at) printed.report is))
 
 -- The numbers fit.
 module _ (count statements : ℕ) (few : count ≤ 64) (script : statements ≤ 2 ^ 40) where

@@ -3,6 +3,7 @@ mod AllTurns
 mod Choices
 mod Counting
 mod Ending
+mod Events
 mod Fitting
 mod Heard
 mod Holding

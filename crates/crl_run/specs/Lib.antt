@@ -1,5 +1,6 @@
 pub mod Acting
 pub mod Actors
+pub mod Finishing
 pub mod Fits
 pub mod Hearing
 pub mod Holders

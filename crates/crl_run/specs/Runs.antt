@@ -5,7 +5,6 @@ use Rattle.crl_model.specs.declared.statement.Statement.{Statement}
 use Rattle.crl_run.specs.PlayerState.{PlayerState}
 use Rattle.crl_run.specs.Playing.{player_of}
 use Rattle.crl_run.specs.Reporting.{IsReportOf}
-use Rattle.crl_run.specs.declared.running.Printed.{Printed}
 use Rattle.crl_run.specs.declared.running.RunFault.{RunFault}
 use Rattle.crl_run.specs.declared.running.RunFault.TheVariants.{Stuck, OutOfMemory}
 
@@ -13,9 +12,6 @@ use Rattle.crl_run.specs.declared.running.RunFault.TheVariants.{Stuck, OutOfMemo
 pub record AreNewPlayers (count : ℕ) (players : List PlayerState) : Type 0 where
   pub many : length players ≡ count
   pub are : (i : ℕ) → i < count → ((player_of players i).place ≡ 0) × ((player_of players i).guards ≡ [])
-
-abbrev pub IsPrinted : ℕ → ℕ → List (List Statement) → (ℕ → ℕ) → Printed → Type 0
-IsPrinted count capacity blocks words printed = IsReportOf count capacity blocks words printed.stuck printed.report
 
 -- the fault has the report of a run that is stuck
 abbrev pub HasReport : Bool → Reported → RunFault → Type 0

@@ -1,5 +1,5 @@
 -- A world and its players stand for a run on its way.
-use Rattle.std.specs.Prelude.{◌≡◌, ℕ, suc, ◌+◌, ◌<◌, ◌≤◌, true, false, List, [], ◌∷◌, ◌++◌, drop}
+use Rattle.std.specs.Prelude.{◌≡◌, ℕ, suc, ◌+◌, ◌<◌, ◌≤◌, true, false, List, [], ◌∷◌, ◌++◌, length, drop}
 use Rattle.std.specs.declared.option.Option.{Option}
 use Rattle.std.specs.declared.option.Option.TheVariants.{None, Some}
 use Rattle.crl_model.specs.declared.call.Call.{Call}
@@ -84,11 +84,13 @@ abbrev pub CallsMayCome : ℕ → ℕ → List (List Statement) → Running → 
 CallsMayCome count capacity blocks r =
     (i : ℕ) (s : Statement) (left : List Statement) → i < r.world.count → (r.world.nodes i).activity ≡ Free → (r.actors i).left ≡ s ∷ left → is_inside r i s ≡ false → is_enabled (event.Call i (next_call r i s)) r.world ≡ true
 
--- What is chosen in so many turns is on its way. After as many turns as there may be at most, no choice is left.
+-- What is chosen in so many turns is on its way, with no more events than a run has turns. After as many turns as there may
+-- be at most, no choice is left.
 pub record IsChosenOn (count capacity : ℕ) (blocks : List (List Statement)) (words : ℕ → ℕ) (k : ℕ) : Type 0 where
   pub way : IsOnItsWay count capacity (chosen count capacity blocks words k)
   pub calls : CallsMayCome count capacity blocks (chosen count capacity blocks words k)
   pub next : chosen count capacity blocks words (k + 1) ≡ turn (words (k + 1)) (chosen count capacity blocks words k)
+  pub few : length (chosen count capacity blocks words k).events ≤ most_turns count (statements_in count blocks)
   pub last : most_turns count (statements_in count blocks) ≤ k → choices (chosen count capacity blocks words k) ≡ []
 
 -- New players stand for the run at its start; where they stand for a run on its way, they follow its turns; and what is

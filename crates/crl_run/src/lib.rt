@@ -4,6 +4,7 @@
 mod act;
 pub mod actors;
 mod choosing;
+mod finishing;
 mod guards;
 mod held;
 mod player;
@@ -14,6 +15,7 @@ mod turning;
 pub mod turns;
 
 pub use act::Act;
+pub use finishing::finish;
 pub use guards::{Reading, Writing};
 pub use held::Held;
 pub use player::Player;

@@ -7,11 +7,10 @@ ghost use Rattle.crl_world.specs.Seen.{world_seen};
 ghost use Rattle.crl_protocol.specs.World.{new_world};
 ghost use Rattle.crl_run.specs.Playing.{AreShort};
 ghost use Rattle.crl_run.specs.Reporting.{IsReportOf};
-ghost use Rattle.crl_run.specs.Runs.{AreNewPlayers, IsPrinted, IsFaultOf, HasReport};
+ghost use Rattle.crl_run.specs.Runs.{AreNewPlayers, IsFaultOf};
 
+use crate::finishing::finish_by;
 use crate::player::Player;
-use crate::reporting::{is_stuck, report_of};
-use crate::turning::take_turns;
 use crl_member::Member;
 use crl_model::report::Report;
 use crl_model::statement::Statement;
@@ -26,13 +25,6 @@ pub enum RunFault {
     /// The run is stuck: some nodes wait for each other. The report says what blocks each node that isn't finished.
     Stuck(Report),
     OutOfMemory,
-}
-
-/// A report, and whether its run is stuck.
-#[derive(Drop)]
-pub(crate) struct Printed {
-    pub stuck: bool,
-    pub report: Report,
 }
 
 /// The players of nodes that did nothing yet.
@@ -70,66 +62,6 @@ fn first_world<N: Member>(
     }
 }
 
-/// The run to its end, and its report.
-///
-/// # Errors
-///
-/// `OutOfMemory`.
-fn run_to_end<N: Member>(
-    alloc: Global,
-    blocks: &[Vec<Statement>],
-    nodes: NodeNo,
-    capacity: u16,
-    order: &mut Order,
-    world: &mut World<N>,
-) -> Result<Printed, OutOfMemory>
-    requires nodes { (0 < nodes) × (nodes ≤ 64) × (length blocks.now ≡ nodes) }
-    requires statements { AreStatements (map (λ b. b.items) blocks.now) }
-    requires short { AreShort (map (λ b. b.items) blocks.now) }
-    requires few { statements_in nodes (map (λ b. b.items) blocks.now) ≤ 2 ^ 40 }
-    requires start { world_seen N.state world.old ≡ new_world nodes capacity }
-    ensures { IfOk result (IsPrinted nodes capacity (map (λ b. b.items) blocks.now) (words_to_come order.old)) }
-{
-    let mut players = new_players(alloc, nodes)?;
-    play(
-        alloc,
-        blocks,
-        nodes,
-        capacity,
-        order,
-        world,
-        players.as_mut_slice(),
-    )
-}
-
-/// The run to its end by these players, and its report.
-///
-/// # Errors
-///
-/// `OutOfMemory`.
-fn play<N: Member>(
-    alloc: Global,
-    blocks: &[Vec<Statement>],
-    nodes: NodeNo,
-    capacity: u16,
-    order: &mut Order,
-    world: &mut World<N>,
-    players: &mut [Player],
-) -> Result<Printed, OutOfMemory>
-    requires nodes { (0 < nodes) × (nodes ≤ 64) × (length blocks.now ≡ nodes) }
-    requires statements { AreStatements (map (λ b. b.items) blocks.now) }
-    requires short { AreShort (map (λ b. b.items) blocks.now) }
-    requires few { statements_in nodes (map (λ b. b.items) blocks.now) ≤ 2 ^ 40 }
-    requires start { world_seen N.state world.old ≡ new_world nodes capacity }
-    requires players { AreNewPlayers nodes players.old }
-    ensures { IfOk result (IsPrinted nodes capacity (map (λ b. b.items) blocks.now) (words_to_come order.old)) }
-{
-    take_turns(alloc, blocks, world, players, order)?;
-    let stuck = is_stuck(blocks, world, players);
-    let report = report_of(alloc, blocks, world, players, stuck)?;
-    Ok(Printed { stuck, report })
-}
-
 /// The run that the script and the order choose, to its end: its report, in which no node is blocked. `blocks` has the
 /// statements of each node, and each cache has room for `capacity` names.
 ///
@@ -150,23 +82,11 @@ pub fn run<N: Member>(
     ensures { let all = map (λ b. b.items) blocks.now in
         MatchResult result (IsReportOf nodes capacity all (words_to_come order) false) (IsFaultOf nodes capacity all (words_to_come order)) }
 {
-    let mut order = order;
-    let mut world: World<N> = match first_world(alloc, nodes, capacity) {
-        Ok(world) => world,
-        Err(_) => return Err(RunFault::OutOfMemory),
+    let Ok(world) = first_world(alloc, nodes, capacity) else {
+        return Err(RunFault::OutOfMemory);
     };
-    match run_to_end(alloc, blocks, nodes, capacity, &mut order, &mut world) {
-        Ok(printed) => printed_as(printed),
-        Err(_) => Err(RunFault::OutOfMemory),
-    }
-}
-
-/// The report, or the fault that has it.
-fn printed_as(printed: Printed) -> Result<Report, RunFault>
-    ensures { MatchResult result (λ report. (printed.stuck ≡ false) × (report ≡ printed.report)) (HasReport printed.stuck printed.report) }
-{
-    if printed.stuck {
-        return Err(RunFault::Stuck(printed.report));
-    }
-    Ok(printed.report)
+    let Ok(players) = new_players(alloc, nodes) else {
+        return Err(RunFault::OutOfMemory);
+    };
+    finish_by(alloc, blocks, world, players, order)
 }

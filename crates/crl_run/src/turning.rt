@@ -5,7 +5,8 @@ ghost use Rattle.crl_order.specs.Words.{words_to_come};
 ghost use Rattle.crl_stuck.specs.Ends.{statements_in, most_turns};
 ghost use Rattle.crl_world.specs.Seen.{world_seen};
 ghost use Rattle.crl_run.specs.Playing.{AreShort};
-ghost use Rattle.crl_run.specs.Turning.{SayWhatIsLeft, SomeTurn, TurnIsTaken, IsAtSomeStart, RunIsOver};
+ghost use Rattle.crl_run.specs.Turning.{SayWhatIsLeft, SomeTurn, TurnIsTaken, RunIsOver};
+ghost use Rattle.crl_run.specs.Finishing.{IsAtSomeTurn};
 
 use crate::choosing::take_choice;
 use crate::player::Player;
@@ -71,7 +72,7 @@ fn take_turn<N: Member>(
 /// The largest number of turns, 2^60. A script of at most 2^40 statements has fewer.
 const TURN_LIMIT: u64 = 0x1000_0000_0000_0000;
 
-/// All turns, until no choice is left.
+/// All turns that are left, until there is no choice.
 ///
 /// # Errors
 ///
@@ -87,7 +88,7 @@ pub(crate) fn take_turns<N: Member>(
     requires short { AreShort (map (λ b. b.items) blocks.now) }
     requires statements { AreStatements (map (λ b. b.items) blocks.now) }
     requires limit { most_turns (length players.old) (statements_in (length players.old) (map (λ b. b.items) blocks.now)) ≤ 2 ^ 60 }
-    requires start { IsAtSomeStart (map (λ b. b.items) blocks.now) (world_seen N.state world.old) players.old }
+    requires begun { IsAtSomeTurn (map (λ b. b.items) blocks.now) (world_seen N.state world.old) players.old }
     ensures { let w = world_seen N.state world.old in
         let v = world_seen N.state world.new in
         OnOk result (RunIsOver (map (λ b. b.items) blocks.now) (words_to_come order.old) w players.old v players.new) }

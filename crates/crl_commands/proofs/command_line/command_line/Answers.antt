@@ -19,4 +19,5 @@ returns c =
     c.in_ok-subcommand.ensures.shape c.in_ok-words_behind.ensures.local ∙ ap₂ with_subcommand bare (ap top_of c.in_ok-words_behind.ensures.shape) in
     let check = c.in_ok-subcommand-2.ensures.shape c.in_ok-words_behind-2.ensures.local ∙ ap₂ with_subcommand order (ap top_of c.in_ok-words_behind-2.ensures.shape) in
     let gen = c.in_ok-subcommand-3.ensures.shape c.in_ok-words_behind-3.ensures.local ∙ ap₂ with_subcommand check (ap top_of c.in_ok-words_behind-3.ensures.shape) in
-    IfOk-weaker c.subcommand-4.result _ _ (λ r h. h.shape c.in_ok-words_behind-4.ensures.local ∙ ap₂ with_subcommand gen (ap top_of c.in_ok-words_behind-4.ensures.shape)) c.subcommand-4.ensures
+    let summary = c.in_ok-subcommand-4.ensures.shape c.in_ok-words_behind-4.ensures.local ∙ ap₂ with_subcommand gen (ap top_of c.in_ok-words_behind-4.ensures.shape) in
+    IfOk-weaker c.subcommand-5.result _ _ (λ r h. h.shape c.in_ok-words_behind-5.ensures.local ∙ ap₂ with_subcommand summary (ap top_of c.in_ok-words_behind-5.ensures.shape)) c.subcommand-5.ensures
