@@ -1,50 +1,35 @@
--- A node that a worker holds, with the node's player.
-use Rattle.std.specs.Prelude.{◌≡◌, ℕ, ◌++◌, List, [], ◌∷◌, suc}
+-- What is done at a held node for a statement.
+use Rattle.std.specs.Prelude.{◌≡◌, ℕ, ◌++◌, List, [], ◌∷◌}
 use Rattle.std.specs.declared.option.Option.{Option}
 use Rattle.std.specs.declared.option.Option.TheVariants.{None, Some}
 use Rattle.crl_model.specs.declared.call.Call.{Call}
 use Rattle.crl_model.specs.declared.event.Event.{Event}
 use Rattle.crl_model.specs.declared.event.Event.TheVariants as event
-use Rattle.crl_model.specs.declared.statement.Statement.{Statement}
 use Rattle.crl_protocol.specs.Node.{Node, Answer}
 use Rattle.crl_protocol.specs.World.{step, IsRun}
 use Rattle.crl_talk.specs.Guards.{Given}
 use Rattle.crl_turns.specs.declared.turned.Shape.{Shape}
 use Rattle.crl_turns.specs.declared.view.View.{View}
-use Rattle.crl_turns.specs.declared.view.Place.TheVariants.{Free}
-use Rattle.crl_turns.specs.Rule.{value_place}
 use Rattle.crl_member.specs.Fitting.{MayCall}
 use Rattle.crl_cluster.specs.declared.held.Held.{Held}
 use Rattle.crl_cluster.specs.Standing.{world_at, heard_at, MayCome}
 use Rattle.crl_cluster.specs.Clusters.{IsHeld}
 use Rattle.crl_run.specs.declared.act.Act.{Act}
 use Rattle.crl_run.specs.declared.act.Act.TheVariants as act
-use Rattle.crl_run.specs.PlayerState.{PlayerState}
 use Rattle.crl_run.specs.Players.{guards_given}
 use Rattle.crl_run.specs.Fits.{GuardFits}
-use Rattle.crl_crew.specs.Standing.{StandsAt}
-
--- the pass holds no node but this
-abbrev pub HoldsOnly : ℕ → View → Type 0
-HoldsOnly i view = (j : ℕ) → (j ≡ i → ⊥) → value_place j view.holds ≡ Free
 
 module _ {N T : Type 0} (state : N → Node) (s : Shape) where
-  -- The pass holds this node and no other, and the player stands for what the node heard.
-  pub record Drives (statements : List Statement) (view : View) (held : Held N T) (p : PlayerState) : Type 0 where
-    pub held_is : IsHeld state s view held
-    pub only : HoldsOnly held.number view
-    pub stands : StandsAt held.number statements (heard_at s held.number view.front) p
-
-  -- The same node is still held, it is as it was, and it has heard nothing.
-  pub record IsStill (old : View) (held_old : Held N T) (new : View) (held_new : Held N T) : Type 0 where
-    pub held_is : IsHeld state s new held_new
-    pub number : held_new.number ≡ held_old.number
+  -- The same node is held, as it was, and it has heard nothing more.
+  pub record IsStill (old : View) (held_old : Held N T) (new : View) (held : Held N T) : Type 0 where
+    pub held_is : IsHeld state s new held
+    pub number : held.number ≡ held_old.number
     pub holds : new.holds ≡ old.holds
     pub node : (world_at s new.front).nodes held_old.number ≡ (world_at s old.front).nodes held_old.number
     pub heard : heard_at s held_old.number new.front ≡ heard_at s held_old.number old.front
 
-  -- An event of the held node is done, with this answer. Before it the node was as it was when the pass knew the first front.
-  pub record IsEventOf (e : Event) (old : View) (held_old : Held N T) (answer : Answer) (new : View) (held_new : Held N T) : Type 0 where
+  -- An event of the held node is done, with this answer. Until it came the node was as it was, and heard nothing more.
+  pub record IsEventOf (e : Event) (old : View) (held_old : Held N T) (answer : Answer) (new : View) (held : Held N T) : Type 0 where
     pub before : List Event
     pub run : IsRun s.parts s.extra before
     pub enabled : MayCome s before e
@@ -52,15 +37,15 @@ module _ {N T : Type 0} (state : N → Node) (s : Shape) where
     pub heard : heard_at s held_old.number before ≡ heard_at s held_old.number old.front
     pub answer_is : answer ≡ (step e (world_at s before)).answer
     pub front : new.front ≡ before ++ e ∷ []
-    pub held_is : IsHeld state s new held_new
-    pub number : held_new.number ≡ held_old.number
+    pub held_is : IsHeld state s new held
+    pub number : held.number ≡ held_old.number
     pub holds : new.holds ≡ old.holds
 
-  -- What was done for a statement: the node made this call, and the player keeps the guard of the answer; or there was no call.
+  -- The node made this call, and the player keeps the guard of the answer; or there was no call.
   abbrev pub IsDoneFor : Option Call → View → Held N T → List Given → View → Held N T → List Given → Type 0
-  IsDoneFor None old held_old guards_old new held_new guards_new = IsStill old held_old new held_new × (guards_new ≡ guards_old)
-  IsDoneFor (Some c) old held_old guards_old new held_new guards_new =
-      (answer : Answer) × IsEventOf (event.Call held_old.number c) old held_old answer new held_new × (guards_new ≡ guards_given answer ++ guards_old)
+  IsDoneFor None old held_old guards_old new held guards = IsStill old held_old new held × (guards ≡ guards_old)
+  IsDoneFor (Some c) old held_old guards_old new held guards =
+      (answer : Answer) × IsEventOf (event.Call held_old.number c) old held_old answer new held × (guards ≡ guards_given answer ++ guards_old)
 
 -- What is done for a statement may be done at the node.
 abbrev pub MayDo : ℕ → Node → Act → Type 0

@@ -1,3 +1,4 @@
 pub mod Standing
 pub mod Driving
 pub mod Working
+pub mod Ending

@@ -1,13 +1,16 @@
-// A library with one function.
+//! Worker threads that drive all nodes of a script together, and the report of what they did.
 #![tactic(auto)]
 
-ghost use Rattle.std.specs.Prelude.{◌≡◌};
-ghost use Rattle.crl_crew.specs.Echo.{echo_of};
+mod acting;
+mod crew;
+mod ending;
+mod gate;
+mod making;
+mod messages;
+mod place;
+mod threads;
+mod visiting;
+mod workers;
 
-// The `ensures` clause is the contract: what `echo` returns is `echo_of` of its argument, a definition
-// in `specs/Echo.antt`, which a caller's clause can cite too.
-pub fn echo(x: usize) -> usize
-    ensures { result ≡ echo_of x }
-{
-    x
-}
+pub use crew::work;
+pub use gate::{Gate, NoGate};
