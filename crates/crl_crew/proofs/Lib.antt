@@ -1,0 +1,4 @@
+mod Calls
+mod Places
+mod Statements
+mod Views
