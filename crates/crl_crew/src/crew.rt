@@ -13,7 +13,7 @@ ghost use Rattle.crl_crew.specs.Ending.{IsEnd};
 use crate::ending::{close_all, players_of};
 use crate::gate::Gate;
 use crate::place::{Place, Scripted};
-use crate::threads::{jobs_for, join_all, run_jobs};
+use crate::threads::work_all;
 use crl_cluster::{Closed, Cluster};
 use crl_member::Member;
 use crl_model::report::Report;
@@ -24,6 +24,7 @@ use crl_run::{RunFault, finish};
 use std::alloc::Global;
 use std::marker::Brand;
 use std::sync::Wait;
+use std::sync::atomic::AtomicBool;
 use std::thread::Threads;
 
 /// A new cluster is driven by so many workers, and closed.
@@ -31,7 +32,7 @@ use std::thread::Threads;
 /// # Errors
 ///
 /// `OutOfMemory`.
-fn drive<N: Member + Send, G: Gate + Sync, R: Threads + Wait + Sync, S: Scripted>(
+fn drive<N: Member + Send, G: Gate + Sync, R: Threads + Wait + Sync, S: Scripted + Send + Sync>(
     rt: &R,
     alloc: Global,
     blocks: &[Vec<Statement>],
@@ -41,7 +42,7 @@ fn drive<N: Member + Send, G: Gate + Sync, R: Threads + Wait + Sync, S: Scripted
     gate: &G,
 ) -> Result<Closed<N, Place<S>>, OutOfMemory>
     requires nodes { (0 < nodes) × (nodes ≤ 64) × (length blocks.now ≡ nodes) }
-    requires workers { workers ≤ 16 }
+    requires workers { (0 < workers) × (workers ≤ 16) }
     requires statements { AreStatements (map (λ b. b.items) blocks.now) }
     requires short { AreShort (map (λ b. b.items) blocks.now) }
     requires script { map (λ b. b.items) blocks.now ≡ S.blocks }
@@ -51,10 +52,10 @@ fn drive<N: Member + Send, G: Gate + Sync, R: Threads + Wait + Sync, S: Scripted
     let Ok((cluster, first)) = Cluster::<N, Place<S>>::start(alloc, nodes, capacity) else {
         return Err(OutOfMemory);
     };
-    let mut pass = first;
-    let jobs = jobs_for(alloc, &cluster, &mut pass, workers)?;
-    let ends = run_jobs(rt, alloc, &cluster, blocks, jobs, gate)?;
-    join_all(&cluster, &mut pass, ends)?;
+    let stop = AtomicBool::new(false);
+    let pass = work_all(
+        rt, alloc, &cluster, first, blocks, 0, workers, gate, &stop,
+    )?;
     close_all(rt, alloc, cluster, pass)
 }
 
@@ -93,7 +94,7 @@ fn report_of<N: Member, S: Scripted>(
 /// # Errors
 ///
 /// As of `work`.
-fn work_as<N: Member + Send, G: Gate + Sync, R: Threads + Wait + Sync, S: Scripted>(
+fn work_as<N: Member + Send, G: Gate + Sync, R: Threads + Wait + Sync, S: Scripted + Send + Sync>(
     rt: &R,
     alloc: Global,
     blocks: &[Vec<Statement>],
@@ -103,7 +104,7 @@ fn work_as<N: Member + Send, G: Gate + Sync, R: Threads + Wait + Sync, S: Script
     gate: &G,
 ) -> Result<Report, RunFault>
     requires nodes { (0 < nodes) × (nodes ≤ 64) × (length blocks.now ≡ nodes) }
-    requires workers { workers ≤ 16 }
+    requires workers { (0 < workers) × (workers ≤ 16) }
     requires statements { AreStatements (map (λ b. b.items) blocks.now) }
     requires short { AreShort (map (λ b. b.items) blocks.now) }
     requires few { statements_in nodes (map (λ b. b.items) blocks.now) ≤ 2 ^ 40 }

@@ -1,111 +1,74 @@
 //! The threads of the workers.
-ghost use Rattle.std.specs.Prelude.{◌≡◌, ◌≤◌, map, OnOk, IfOk};
-ghost use Rattle.std.specs.List.{All};
+ghost use Rattle.std.specs.Prelude.{◌≡◌, ◌<◌, ◌≤◌, ◌+◌, ◌^◌, map, IfOk};
 ghost use Rattle.std.specs.Thread.{IsSync};
 ghost use Rattle.crl_cluster.specs.Clusters.{node_count};
 ghost use Rattle.crl_crew.specs.Working.{IsIdle, IsScriptOf};
-ghost use Rattle.crl_crew.specs.Ending.{CanWork};
 
 use crate::gate::Gate;
 use crate::place::{Place, Scripted};
 use crate::workers::work_on;
-use crl_cluster::{Cluster, Pass};
+use crl_cluster::{Cluster, Luggage, Pass};
 use crl_member::Member;
 use crl_model::statement::Statement;
 use crl_model::{NodeNo, OutOfMemory};
 use std::alloc::Global;
 use std::sync::Wait;
 use std::sync::atomic::AtomicBool;
-use std::thread;
-use std::thread::Threads;
+use std::thread::{Threads, join};
 
-/// A worker's pass, and the node at which it begins.
-#[derive(Drop)]
-pub(crate) struct Job {
-    pub(crate) pass: Pass,
-    pub(crate) first: NodeNo,
-}
-
-/// A pass for each worker, split from this one. Worker w begins at node w.
+/// So many workers at once, each in a thread of its own where one can be made, with a pass of its own. They begin at the
+/// nodes from `first` on. What is left is their passes, joined to one.
 ///
 /// # Errors
 ///
-/// `OutOfMemory`.
-pub(crate) fn jobs_for<N: Member, S: Scripted>(
-    alloc: Global,
-    nodes: &Cluster<N, Place<S>>,
-    pass: &mut Pass,
-    workers: u16,
-) -> Result<Vec<Job>, OutOfMemory>
-    requires idle { IsIdle nodes.now pass.old }
-    requires few { workers ≤ 16 }
-    ensures pass { IsIdle nodes.now pass.new }
-    ensures jobs { IfOk result (λ jobs. All (λ job. CanWork nodes.now job.pass job.first) jobs.items) }
-{
-    let mut jobs = Vec::with_capacity(alloc, workers as usize)?;
-    for first in 0..workers {
-        let own = nodes.split(pass);
-        jobs.push(Job { pass: own, first })?;
-    }
-    Ok(jobs)
-}
-
-/// All workers at once, each to its end. Each leaves its pass, or wanted memory.
-///
-/// # Errors
-///
-/// `OutOfMemory`.
-pub(crate) fn run_jobs<
+/// `OutOfMemory` where a worker wanted memory.
+pub(crate) fn work_all<
     N: Member + Send,
-    S: Scripted,
+    S: Scripted + Send + Sync,
     G: Gate + Sync,
     R: Threads + Wait + Sync,
 >(
     rt: &R,
     alloc: Global,
     nodes: &Cluster<N, Place<S>>,
+    pass: Pass,
     blocks: &[Vec<Statement>],
-    jobs: Vec<Job>,
+    first: NodeNo,
+    workers: u16,
     gate: &G,
-) -> Result<Vec<Result<Pass, OutOfMemory>>, OutOfMemory>
-    requires jobs { All (λ job. CanWork nodes.now job.pass job.first) jobs.items }
+    stop: &AtomicBool,
+) -> Result<Pass, OutOfMemory>
+    requires idle { IsIdle nodes.now pass }
     requires blocks { map (λ b. b.items) blocks.now ≡ S.blocks }
     requires script { IsScriptOf (node_count nodes.now) S.blocks }
-    ensures { IfOk result (λ ends. All (λ end. IfOk end (λ pass. IsIdle nodes.now pass)) ends.items) }
+    requires some { (0 < workers) × (first + workers < 2 ^ 15) }
+    ensures { IfOk result (λ pass. IsIdle nodes.now pass) }
 {
-    let stop = AtomicBool::new(false);
-    let stop = &stop;
-    thread::map_vec(
+    if workers < 2 {
+        return work_on(rt, alloc, nodes, pass, blocks, first, gate, stop);
+    }
+    let mut own = pass;
+    let other = nodes.split(&mut own);
+    let (theirs, mine) = join(
         rt,
-        jobs,
-        &|job: Job| -> Result<Pass, OutOfMemory>
-            requires { CanWork nodes.now job.pass job.first × (map (λ b. b.items) blocks.now ≡ S.blocks) × IsScriptOf (node_count nodes.now) S.blocks }
+        move || -> Result<Pass, OutOfMemory>
+            requires { IsSync R.row × IsSync G.row × IsIdle nodes.now other × (map (λ b. b.items) blocks.now ≡ S.blocks) × IsScriptOf (node_count nodes.now) S.blocks × (1 < workers) × (first + workers < 2 ^ 15) }
             ensures { IfOk result (λ pass. IsIdle nodes.entry.now pass) }
-        {
-            let Job { pass, first } = job;
-            work_on(rt, alloc, nodes, pass, blocks, first, gate, stop)
-        },
-    )
+        { work_all(rt, alloc, nodes, other, blocks, first + 1, workers - 1, gate, stop) },
+        move || -> Result<Pass, OutOfMemory>
+            requires { IsIdle nodes.now own × (map (λ b. b.items) blocks.now ≡ S.blocks) × IsScriptOf (node_count nodes.now) S.blocks × (first < 2 ^ 15) }
+            ensures { IfOk result (λ pass. IsIdle nodes.entry.now pass) }
+        { work_on(rt, alloc, nodes, own, blocks, first, gate, stop) },
+    );
+    Ok(joined(nodes, mine?, theirs?))
 }
 
-/// The passes that the workers left are joined to this one.
-///
-/// # Errors
-///
-/// `OutOfMemory` where a worker wanted memory.
-pub(crate) fn join_all<N: Member, S: Scripted>(
-    nodes: &Cluster<N, Place<S>>,
-    pass: &mut Pass,
-    ends: Vec<Result<Pass, OutOfMemory>>,
-) -> Result<(), OutOfMemory>
-    requires idle { IsIdle nodes.now pass.old }
-    requires ends { All (λ end. IfOk end (λ pass. IsIdle nodes.now pass)) ends.items }
-    ensures { OnOk result (IsIdle nodes.now pass.new) }
+/// Both passes as one.
+fn joined<N: Member, T: Luggage>(nodes: &Cluster<N, T>, one: Pass, other: Pass) -> Pass
+    requires { IsIdle nodes.now one × IsIdle nodes.now other }
+    ensures { IsIdle nodes.now result }
 {
-    let mut ends = ends;
-    while let Some(end) = ends.pop() {
-        let other = end?;
-        nodes.join(pass, other);
-    }
-    Ok(())
+    let mut pass = one;
+    nodes.join(&mut pass, other);
+    pass
 }

@@ -1,5 +1,5 @@
 //! A worker goes round the nodes until it finds nothing to do.
-ghost use Rattle.std.specs.Prelude.{◌≡◌, ◌<◌, map, OnOk, IfOk};
+ghost use Rattle.std.specs.Prelude.{◌≡◌, ◌<◌, ◌^◌, map, OnOk, IfOk};
 ghost use Rattle.crl_cluster.specs.Clusters.{node_count};
 ghost use Rattle.crl_crew.specs.Working.{IsIdle, IsScriptOf};
 
