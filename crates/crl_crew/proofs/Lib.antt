@@ -1,4 +1,5 @@
 mod Calls
 mod Places
+mod Runs
 mod Statements
 mod Views
