@@ -14,7 +14,6 @@ use Rattle.crl_check.specs.Histories.{IsFirstIllegal}
 use Rattle.crl_commands.specs.declared.command.Command.{Command}
 use Rattle.crl_commands.specs.declared.command.Command.TheVariants as command
 use Rattle.crl_commands.specs.declared.command.Recipe.{Recipe}
-use Rattle.crl_commands.specs.Commands.{command_of}
 use Rattle.crl_cli.specs.declared.TheConstants.{SCRIPT_LIMIT, ACCOUNT_LIMIT}
 use Rattle.crl_cli.specs.declared.status.Status.{Status}
 use Rattle.crl_cli.specs.declared.status.Status.TheVariants as status
@@ -27,6 +26,7 @@ does_read (command.Order order) = true
 does_read (command.Check nodes) = true
 does_read (command.Gen recipe) = false
 does_read (command.Summary recipe) = false
+does_read (command.Threads workers) = true
 
 abbrev pub reads_any : Option Command → Bool
 reads_any None = false
@@ -37,6 +37,16 @@ limit_of (command.Order order) = SCRIPT_LIMIT
 limit_of (command.Check nodes) = ACCOUNT_LIMIT
 limit_of (command.Gen recipe) = 0
 limit_of (command.Summary recipe) = 0
+limit_of (command.Threads workers) = SCRIPT_LIMIT
+
+-- the commands of a call that waits for nobody
+abbrev pub quietly : Option Command → Option Command
+quietly (Some (command.Threads workers)) = None
+quietly other = other
+
+abbrev pub IsQuiet : Command → Type 0
+IsQuiet (command.Threads workers) = ⊥
+IsQuiet _ = Unit {0}
 
 -- the bytes that were read: all that the source had, or one more than the text may have
 pub record IsInput (limit : ℕ) (left later : Option (List ℕ)) (bytes : List ℕ) : Type 0 where
@@ -78,6 +88,10 @@ SaysOrder words status.Stuck bytes text = IsRun words true bytes text
 SaysOrder words status.BadScript bytes text = IsBadScript bytes text
 SaysOrder words _ bytes text = ⊥
 
+-- of a run that some words choose
+abbrev pub SaysSome : Status → List ℕ → List ℕ → Type 0
+SaysSome status bytes text = (words : ℕ → ℕ) × SaysOrder words status bytes text
+
 abbrev pub SaysCheck : ℕ → Status → List ℕ → List ℕ → Type 0
 SaysCheck nodes status.Ok bytes text = IsLegalAccount nodes bytes text
 SaysCheck nodes status.Illegal bytes text = IsIllegal nodes bytes text
@@ -97,6 +111,7 @@ Says (command.Order order) status bytes text = SaysOrder (words_to_come order) s
 Says (command.Check nodes) status bytes text = SaysCheck nodes status bytes text
 Says (command.Gen recipe) status bytes text = SaysMade recipe status text
 Says (command.Summary recipe) status bytes text = SaysSummary recipe status text
+Says (command.Threads workers) status bytes text = SaysSome status bytes text
 
 -- what is said of the entries of an account
 abbrev pub SaysEntries : ℕ → Status → List Entry → List ℕ → Type 0
@@ -115,23 +130,23 @@ SaysOf words status.Ok program text = IsAccountOf program words false text
 SaysOf words status.Stuck program text = IsAccountOf program words true text
 SaysOf words _ program text = ⊥
 
--- what an answer rests on: the words, the bytes that the source has left before and after, and the counts
--- of its faults before and after
+-- what an answer rests on: the command that the words are, the bytes that the source has left before and after, and the
+-- counts of its faults before and after
 pub record Asked : Type 0 where
-  pub words : List (List ℕ)
+  pub command : Option Command
   pub left : Option (List ℕ)
   pub later : Option (List ℕ)
   pub faults : ℕ
   pub faults_later : ℕ
 
-abbrev pub asked : List (List ℕ) → Option (List ℕ) → Option (List ℕ) → ℕ → ℕ → Asked
-asked words left later faults faults_later = record { words = words; left = left; later = later; faults = faults; faults_later = faults_later }
+abbrev pub asked : Option Command → Option (List ℕ) → Option (List ℕ) → ℕ → ℕ → Asked
+asked command left later faults faults_later = record { command = command; left = left; later = later; faults = faults; faults_later = faults_later }
 
 -- The status comes, with this text: the words are no command; the source failed; or the command says so, of the bytes that
 -- were read if it reads any.
 pub data Comes (a : Asked) : Status → List ℕ → Type 0 where
-  usage : command_of a.words ≡ None → Comes a status.Usage usage_text
-  read_fault : (c : Command) → command_of a.words ≡ Some c → does_read c ≡ true → Rose a.faults a.faults_later → Comes a status.ReadFault read_fault_text
-  said : (c : Command) (status : Status) (bytes text : List ℕ) → command_of a.words ≡ Some c → does_read c ≡ true → IsInput (limit_of c) a.left a.later bytes
+  usage : a.command ≡ None → Comes a status.Usage usage_text
+  read_fault : (c : Command) → a.command ≡ Some c → does_read c ≡ true → Rose a.faults a.faults_later → Comes a status.ReadFault read_fault_text
+  said : (c : Command) (status : Status) (bytes text : List ℕ) → a.command ≡ Some c → does_read c ≡ true → IsInput (limit_of c) a.left a.later bytes
       → Says c status bytes text → Comes a status text
-  made : (c : Command) (status : Status) (text : List ℕ) → command_of a.words ≡ Some c → does_read c ≡ false → Says c status [] text → Comes a status text
+  made : (c : Command) (status : Status) (text : List ℕ) → a.command ≡ Some c → does_read c ≡ false → Says c status [] text → Comes a status text

@@ -20,6 +20,10 @@ use Rattle.crl_cli.specs.Texts.{summary_text}
 abbrev pub IsHistoryOf : Program → (ℕ → ℕ) → Bool → Reported → Type 0
 IsHistoryOf program words stuck report = IsOneHistory program.nodes program.cache program.blocks words stuck report
 
+-- It is that of a run which some words choose.
+abbrev pub IsSomeHistoryOf : Program → Bool → Reported → Type 0
+IsSomeHistoryOf program stuck report = (words : ℕ → ℕ) × IsHistoryOf program words stuck report
+
 -- The text has the lines of such a report, and `check` reads it as the report's entries.
 pub record IsAccountOf (program : Program) (words : ℕ → ℕ) (stuck : Bool) (text : List ℕ) : Type 0 where
   pub report : Reported

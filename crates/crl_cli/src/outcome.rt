@@ -1,7 +1,7 @@
 //! What a command ends with: its status, and the text to be printed with it.
-ghost use Rattle.std.specs.Prelude.{◌≡◌, ◌≤◌, ◌+◌, IfOk, None, false, length, map, string_bytes};
-ghost use Rattle.crl_commands.specs.Commands.{command_of, IsSound};
-ghost use Rattle.crl_cli.specs.Outcome.{Says, Comes, asked, limit_of, does_read, reads_any};
+ghost use Rattle.std.specs.Prelude.{◌≡◌, ◌≤◌, ◌+◌, IfOk, IfSome, false, length};
+ghost use Rattle.crl_commands.specs.Commands.{IsSound};
+ghost use Rattle.crl_cli.specs.Outcome.{Says, Comes, asked, limit_of, does_read, reads_any, quietly, IsQuiet};
 ghost use Rattle.crl_cli.specs.Texts.{usage_text, read_fault_text};
 
 use crate::check::check_text;
@@ -11,7 +11,6 @@ use crate::status::Status;
 use crate::summary::summarize;
 use crate::{ACCOUNT_LIMIT, SCRIPT_LIMIT};
 use crl_commands::command::Command;
-use crl_commands::command_of;
 use crl_model::OutOfMemory;
 use crl_outside::source::Source;
 use crl_outside::whole::{ReadFault, read_all};
@@ -24,17 +23,18 @@ pub(crate) struct Outcome {
     pub(crate) text: Vec<u8>,
 }
 
-/// The answer to the words, before any of it is printed.
-pub(crate) fn outcome_of<S: Source>(
+/// The answer of a call that waits for nobody, before any of it is printed. `threads` is no command of it.
+pub(crate) fn quiet_outcome<S: Source>(
     alloc: Global,
-    words: &[String],
+    command: Option<Command>,
     source: &mut S,
 ) -> Result<Outcome, OutOfMemory>
-    ensures comes { IfOk result (λ o. Comes (asked (map string_bytes words.now) (S.left source.old) (S.left source.new) (S.faults source.old) (S.faults source.new)) o.status o.text.items) }
-    ensures unpulled { reads_any (command_of (map string_bytes words.now)) ≡ false → source.new ≡ source.old }
+    requires sound { IfSome command IsSound }
+    ensures comes { IfOk result (λ o. Comes (asked (quietly command) (S.left source.old) (S.left source.new) (S.faults source.old) (S.faults source.new)) o.status o.text.items) }
+    ensures unpulled { reads_any (quietly command) ≡ false → source.new ≡ source.old }
     ensures later { S.faults source.old ≤ S.faults source.new }
 {
-    let Some(command) = command_of(alloc, words)? else {
+    let Some(command) = quietly(command) else {
         return usage(alloc);
     };
     if !does_read(&command) {
@@ -47,12 +47,25 @@ pub(crate) fn outcome_of<S: Source>(
     }
 }
 
+/// The command, but for `threads`.
+fn quietly(command: Option<Command>) -> Option<Command>
+    requires sound { IfSome command IsSound }
+    ensures command { result ≡ quietly command }
+    ensures quiet { IfSome result IsQuiet }
+    ensures sound { IfSome result IsSound }
+{
+    match command {
+        Some(Command::Threads(_)) => None,
+        other => other,
+    }
+}
+
 /// Whether the command reads a text.
 fn does_read(command: &Command) -> bool
     ensures { result ≡ does_read command.now }
 {
     match command {
-        Command::Order(_) | Command::Check(_) => true,
+        Command::Order(_) | Command::Check(_) | Command::Threads(_) => true,
         Command::Gen(_) | Command::Summary(_) => false,
     }
 }
@@ -62,7 +75,7 @@ fn limit_of(command: &Command) -> usize
     ensures { result ≡ limit_of command.now }
 {
     match command {
-        Command::Order(_) => SCRIPT_LIMIT,
+        Command::Order(_) | Command::Threads(_) => SCRIPT_LIMIT,
         Command::Check(_) => ACCOUNT_LIMIT,
         Command::Gen(_) | Command::Summary(_) => 0,
     }
@@ -72,6 +85,7 @@ fn limit_of(command: &Command) -> usize
 fn say(alloc: Global, command: Command, bytes: &[u8]) -> Result<Outcome, OutOfMemory>
     requires within { length bytes.now ≤ limit_of command + 1 }
     requires sound { IsSound command }
+    requires quiet { IsQuiet command }
     ensures { IfOk result (λ o. Says command o.status bytes.now o.text.items) }
 {
     match command {
@@ -79,6 +93,7 @@ fn say(alloc: Global, command: Command, bytes: &[u8]) -> Result<Outcome, OutOfMe
         Command::Check(nodes) => check_text(alloc, bytes, nodes),
         Command::Gen(recipe) => generate(alloc, recipe),
         Command::Summary(recipe) => summarize(alloc, recipe),
+        Command::Threads(_) => unreachable!(),
     }
 }
 
@@ -94,7 +109,7 @@ fn usage(alloc: Global) -> Result<Outcome, OutOfMemory>
 }
 
 /// The answer to a source that failed.
-fn read_fault(alloc: Global) -> Result<Outcome, OutOfMemory>
+pub(crate) fn read_fault(alloc: Global) -> Result<Outcome, OutOfMemory>
     ensures status { IfOk result (λ o. o.status ≡ Status.ReadFault) }
     ensures text { IfOk result (λ o. o.text.items ≡ read_fault_text) }
 {

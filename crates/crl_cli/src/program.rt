@@ -5,6 +5,7 @@ ghost use Rattle.crl_cli.specs.Answers.{PrintsForWords};
 
 use crate::answer::top;
 use crate::status::Status;
+use crl_crew::NoGate;
 use crl_outside::sink::Sink;
 use crl_outside::source::Source;
 use std::env::{self, Env};
@@ -27,7 +28,7 @@ pub fn run<R: Threads + Wait + Sync + Env + AllocGlobal, S: Source, K: Sink>(
         Err(error) if error.kind() == ErrorKind::OutOfMemory => return Status::OutOfMemory,
         Err(_) => Vec::new(rt.alloc()),
     };
-    top(rt, rt.alloc(), words.as_slice(), source, sink)
+    top(rt, rt.alloc(), words.as_slice(), source, sink, &NoGate)
 }
 
 /// The words after the program's name.

@@ -10,7 +10,8 @@ use Rattle.crl_order.specs.declared.order.Order.{Order}
 use Rattle.crl_order.specs.Words.{words_to_come}
 use Rattle.crl_run.specs.PlayerState.{PlayerState}
 use Rattle.crl_run.specs.Playing.{StandsFor}
-use Rattle.crl_run.specs.Turning.{IsTurn, SomeTurn, TurnIsTaken, HasGiven, words_then, IsAt, AfterTurns, IsOver, RunIsOver}
+use Rattle.crl_run.specs.Words.{words_then}
+use Rattle.crl_run.specs.Turning.{IsTurn, SomeTurn, TurnIsTaken, HasGiven, IsAt, AfterTurns, IsOver, RunIsOver}
 use Rattle.crl_run.specs.Finishing.{IsAtTurn, IsAtSomeTurn}
 use Rattle.crl_run.proofs.Lasting.{chosen_on}
 use Rattle.crl_run.proofs.Playing.{as_many}
@@ -46,7 +47,7 @@ then_itself words = λ i p. same p i
   where
     same : (p : ℕ) → words_then 0 words words p ≡ words p
     same zero = refl
-    same (suc p) = refl
+    same (suc p) = then_after 0 words words (suc p) p (omega arith)
 
 -- What stands for a run on its way stands for what some words choose in so many turns.
 pub at_words : (capacity : ℕ) (blocks : List (List Statement)) (w : World) (players : List PlayerState) → IsAtTurn capacity blocks w players → (words : ℕ → ℕ) × (k : ℕ) × IsAt capacity blocks words k w players

@@ -1,12 +1,12 @@
 -- A run that is over: its report.
-use Rattle.std.proofs.Common.{◌≡◌, ◌∙◌, sym, ap, ap₂, ◌*◌, ◌<◌, ◌≤◌, ◌^◌, if◌then◌else◌, ℕ, List, [], ◌++◌, length, subst, append_assoc, arith}
+use Rattle.std.proofs.Common.{◌≡◌, ◌∙◌, refl, sym, ap, ap₂, ◌*◌, ◌<◌, ◌≤◌, ◌^◌, if◌then◌else◌, ℕ, List, [], ◌++◌, length, subst, append_assoc, arith}
 use Rattle.std.proofs.Math.Nat.{mul-le-mul_right}
 use Rattle.crl_model.specs.Reports.{Reported}
 use Rattle.crl_model.specs.declared.event.Event.{Event}
 use Rattle.crl_model.specs.declared.event.Event.TheVariants as event
 use Rattle.crl_model.specs.declared.statement.Statement.{Statement}
 use Rattle.crl_protocol.specs.World.{World, new_world, step, world_of, messages_sent, account, account_from}
-use Rattle.crl_protocol.specs.Chosen.{Running}
+use Rattle.crl_protocol.specs.Chosen.{Running, running, always_first}
 use Rattle.crl_protocol.specs.Ends.{report, is_stuck, regions}
 use Rattle.crl_deeds.specs.Laws.{AreStatements, chosen, Follows, ended, changes, calls, happens, next_call}
 use Rattle.crl_deeds.proofs.Laws.{follow_turns, append_nil}
@@ -17,8 +17,9 @@ use Rattle.crl_world.specs.Records.{records_by_node}
 use Rattle.crl_run.specs.PlayerState.{PlayerState}
 use Rattle.crl_run.specs.Staging.{IsOnItsWay}
 use Rattle.crl_run.specs.Playing.{player_of}
-use Rattle.crl_run.specs.Turning.{words_then, IsAt, IsOver, RunIsOver}
-use Rattle.crl_run.specs.Finishing.{IsAtSomeTurn, IsPrintedFrom}
+use Rattle.crl_run.specs.Words.{words_then}
+use Rattle.crl_run.specs.Turning.{IsAt, IsOver, RunIsOver}
+use Rattle.crl_run.specs.Finishing.{IsAtTurn, IsAtSomeTurn, IsPrintedFrom}
 use Rattle.crl_run.specs.declared.finishing.Printed.{Printed}
 use Rattle.crl_run.specs.Reporting.{running_seen, PrintsWhatIs, IsReportOf}
 use Rattle.crl_run.specs.Runs.{AreNewPlayers}
@@ -45,6 +46,13 @@ pub begins_there : (count capacity : ℕ) (blocks : List (List Statement)) (word
 begins_there count capacity blocks words w players e new = record {
   world = e ∙ ap (λ n. new_world n capacity) (sym new.many);
   all = players_begin (length players) capacity blocks (player_of players) (λ i lt. new.are i (subst (λ n. i < n) new.many lt));
+}
+
+pub at_start : (count capacity : ℕ) (blocks : List (List Statement)) (w : World) (players : List PlayerState) → w ≡ new_world count capacity → AreNewPlayers count players → IsAtTurn capacity blocks w players
+at_start count capacity blocks w players e new = record {
+  reached = running (length players) capacity blocks;
+  chosen = (always_first, 0, refl);
+  stands = begins_there count capacity blocks always_first w players e new;
 }
 
 module _ (capacity : ℕ) (blocks : List (List Statement)) (words : ℕ → ℕ) (v : World) (players : List PlayerState) (are : AreStatements blocks) (over : IsOver capacity blocks words v players) where

@@ -12,6 +12,7 @@ pub mod Laws
 mod Likeness
 mod Playing
 mod ReportSums
+mod Returned
 mod Scripts
 mod Shown
 mod Stages

@@ -9,7 +9,8 @@ use Rattle.crl_run.specs.PlayerState.{PlayerState}
 use Rattle.crl_run.specs.Playing.{StandsFor}
 use Rattle.crl_run.specs.Reporting.{IsReportOf}
 use Rattle.crl_run.specs.Runs.{IsFaultOf}
-use Rattle.crl_run.specs.Turning.{words_then, IsAt}
+use Rattle.crl_run.specs.Words.{words_then}
+use Rattle.crl_run.specs.Turning.{IsAt}
 use Rattle.crl_run.specs.declared.finishing.Printed.{Printed}
 use Rattle.crl_run.specs.declared.running.RunFault.{RunFault}
 

@@ -13,3 +13,4 @@ pub mod Reporting
 pub mod Runs
 pub mod Staging
 pub mod Turning
+pub mod Words

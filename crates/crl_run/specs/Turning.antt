@@ -1,5 +1,5 @@
 -- A turn of a run.
-use Rattle.std.specs.Prelude.{◌≡◌, ℕ, suc, ◌+◌, ◌-◌, ◌<◌, nat_le, Bool, true, false, not, if◌then◌else◌, List, [], length, drop, slice_index_or}
+use Rattle.std.specs.Prelude.{◌≡◌, ℕ, suc, ◌+◌, ◌<◌, Bool, true, false, not, List, [], length, drop, slice_index_or}
 use Rattle.crl_model.specs.declared.statement.Statement.{Statement}
 use Rattle.crl_protocol.specs.Home.{is_empty}
 use Rattle.crl_protocol.specs.World.{World}
@@ -7,6 +7,7 @@ use Rattle.crl_protocol.specs.Chosen.{Running, block_of, choices, turn, IsChosen
 use Rattle.crl_deeds.specs.Laws.{chosen}
 use Rattle.crl_order.specs.declared.order.Order.{Order}
 use Rattle.crl_order.specs.Words.{words_to_come}
+use Rattle.crl_run.specs.Words.{words_then}
 use Rattle.crl_run.specs.PlayerState.{PlayerState}
 use Rattle.crl_run.specs.Staging.{IsOnItsWay, CallsMayCome}
 use Rattle.crl_run.specs.Playing.{player_of, StandsFor}
@@ -40,10 +41,6 @@ AfterTurn capacity blocks r w players order true v then order' = StandsFor capac
 abbrev pub TurnIsTaken : List (List Statement) → World → List PlayerState → Order → Bool → World → List PlayerState → Order → Type 0
 TurnIsTaken blocks w players order more v then order' = (capacity : ℕ) (r : Running) → IsTurn capacity blocks r w players → AfterTurn capacity blocks r w players order more v then order'
 
--- so many words, and then the others, each counted from 1
-abbrev pub words_then : ℕ → (ℕ → ℕ) → (ℕ → ℕ) → ℕ → ℕ
-words_then k words rest p = if nat_le p k then words p else rest (p - k)
-
 -- They stand for what these words choose in so many turns.
 abbrev pub IsAt : ℕ → List (List Statement) → (ℕ → ℕ) → ℕ → World → List PlayerState → Type 0
 IsAt capacity blocks words k w players = StandsFor capacity blocks (chosen (length players) capacity blocks words k) w players
@@ -53,10 +50,10 @@ abbrev pub GoesOnAfter : ℕ → (ℕ → ℕ) → Order → Type 0
 GoesOnAfter k words order = (p : ℕ) → words_to_come order (suc p) ≡ words (k + suc p)
 
 -- After so many turns from there, by these words, they stand for what was chosen and what these words choose in as many.
-pub record AfterTurns (blocks : List (List Statement)) (rest : ℕ → ℕ) (n : ℕ) (w : World) (players : List PlayerState) (v : World) (then : List PlayerState) (order : Order) : Type 0 where
+pub record AfterTurns (blocks : List (List Statement)) (rest : ℕ → ℕ) (n : ℕ) (w : World) (players : List PlayerState) (v : World) (then : List PlayerState) (now : Order) : Type 0 where
   pub many : length then ≡ length players
   pub come : (capacity : ℕ) (words : ℕ → ℕ) (k : ℕ) → IsAt capacity blocks words k w players → IsAt capacity blocks (words_then k words rest) (k + n) v then
-  pub order : GoesOnAfter n rest order
+  pub order : GoesOnAfter n rest now
 
 -- The run that the words choose is over, and they stand for its end.
 pub record IsOver (capacity : ℕ) (blocks : List (List Statement)) (words : ℕ → ℕ) (v : World) (then : List PlayerState) : Type 0 where

@@ -7,7 +7,8 @@ ghost use Rattle.crl_world.specs.Seen.{world_seen};
 ghost use Rattle.crl_run.specs.Playing.{AreShort};
 ghost use Rattle.crl_run.specs.Reporting.{IsReportOf};
 ghost use Rattle.crl_run.specs.Runs.{IsFaultOf, HasReport};
-ghost use Rattle.crl_run.specs.Turning.{words_then, IsAt};
+ghost use Rattle.crl_run.specs.Words.{words_then};
+ghost use Rattle.crl_run.specs.Turning.{IsAt};
 ghost use Rattle.crl_run.specs.Finishing.{IsAtTurn, IsAtSomeTurn, IsPrintedFrom, IsReportOfSome, IsFaultOfSome};
 
 use crate::player::Player;
@@ -83,9 +84,9 @@ pub(crate) fn finish_by<N: Member>(
     requires begun { IsAtSomeTurn (map (λ b. b.items) blocks.now) (world_seen N.state world) players.items }
     ensures { let all = map (λ b. b.items) blocks.now in
         let n = length players.items in
-        let then = λ k words. words_then k words (words_to_come order) in
+        let rest = words_to_come order in
         (capacity : ℕ) (words : ℕ → ℕ) (k : ℕ) → IsAt capacity all words k (world_seen N.state world) players.items
-        → MatchResult result (IsReportOf n capacity all (then k words) false) (IsFaultOf n capacity all (then k words)) }
+        → MatchResult result (IsReportOf n capacity all (words_then k words rest) false) (IsFaultOf n capacity all (words_then k words rest)) }
 {
     let mut world = world;
     let mut players = players;

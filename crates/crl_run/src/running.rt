@@ -82,7 +82,7 @@ pub fn run<N: Member>(
     ensures { let all = map (λ b. b.items) blocks.now in
         MatchResult result (IsReportOf nodes capacity all (words_to_come order) false) (IsFaultOf nodes capacity all (words_to_come order)) }
 {
-    let Ok(world) = first_world(alloc, nodes, capacity) else {
+    let Ok(world) = first_world::<N>(alloc, nodes, capacity) else {
         return Err(RunFault::OutOfMemory);
     };
     let Ok(players) = new_players(alloc, nodes) else {

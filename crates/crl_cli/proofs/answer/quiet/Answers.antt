@@ -1,12 +1,15 @@
-use Rattle.crl_cli.proofs.Says.{headline, comes_no_fault, comes_no_want}
+use Rattle.std.proofs.Common.{sym, ap, ◌∙◌}
+use Rattle.std.proofs.lemmas.Result.{IfOk-weaker}
+use Rattle.crl_cli.specs.Outcome.{quietly, reads_any}
+use Rattle.crl_cli.proofs.Says.{answered, asked_so, headline, quiet_order}
 use Rattle.crl_cli.proofs.answer.quiet.Goals as goal
 
-pub returns-in-Ok-push_all-clause-headline : goal.returns-in-Ok-push_all-clause-headline
-returns-in-Ok-push_all-clause-headline g c =
-    headline _ c.in-Ok.outcome.status c.in-Ok.outcome.text.items _ _ c.in-Ok.ensures.comes (rw c.as_slice.ensures.value at c.in-Ok-push_all.ensures.ok)
+pub print-requires : goal.print-requires
+print-requires g c = answered c.quiet_outcome.result _ c.quiet_outcome.ensures.comes
 
-pub returns-in-Ok-push_all-clause-write_fault : goal.returns-in-Ok-push_all-clause-write_fault
-returns-in-Ok-push_all-clause-write_fault g c = λ fault. absurd (comes_no_fault _ c.in-Ok.outcome.status _ c.in-Ok.ensures.comes fault)
+pub returns-in-Ok-clause-prints : goal.returns-in-Ok-clause-prints
+returns-in-Ok-clause-prints g c = c.print.ensures.prints _ (asked_so c.quiet_outcome.result (quietly c.in-Ok.command) _ (ap quietly c.in-Ok.ensures.command) _ _ _ _ c.quiet_outcome.ensures.comes)
 
-pub returns-in-Ok-push_all-clause-unprinted : goal.returns-in-Ok-push_all-clause-unprinted
-returns-in-Ok-push_all-clause-unprinted g c = λ want. absurd (comes_no_want _ c.in-Ok.outcome.status _ c.in-Ok.ensures.comes want)
+pub returns-in-Ok-clause-headline : goal.returns-in-Ok-clause-headline
+returns-in-Ok-clause-headline g c order is =
+    headline _ _ _ c.print.result (c.print.ensures.prints _ (asked_so c.quiet_outcome.result (quietly c.in-Ok.command) _ (ap quietly c.in-Ok.ensures.command) _ _ _ _ c.quiet_outcome.ensures.comes)) order (quiet_order _ order is)

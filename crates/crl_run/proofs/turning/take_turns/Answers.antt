@@ -1,8 +1,11 @@
 use Rattle.std.proofs.Common.{◌≤◌, ◌<◌, ◌^◌, subst, map, arith}
 use Rattle.crl_world.specs.Seen.{world_seen}
 use Rattle.crl_run.specs.Turning.{TurnIsTaken}
-use Rattle.crl_run.proofs.AllTurns.{some_turn, events_within, turns_more, turns_over, turns_last}
+use Rattle.crl_run.proofs.AllTurns.{turns_begin, some_turn, events_within, turns_more, turns_over, turns_last}
 use Rattle.crl_run.proofs.turning.take_turns.Goals as goal
+
+pub loop-init : goal.loop-init
+loop-init g c = turns_begin (map (λ b. b.items) c.args.blocks.now) c.args.order.now (world_seen g.N.Member.state c.args.world.now) c.args.players.now c.requires.statements
 
 pub take_turn-requires-clause-few : goal.take_turn-requires-clause-few
 take_turn-requires-clause-few g c =
