@@ -7,7 +7,7 @@ use Rattle.crl_model.specs.declared.statement.Statement.{Statement}
 use Rattle.crl_protocol.specs.Talk.{Heard, hears}
 use Rattle.crl_protocol.specs.World.{World, new_world, world_of}
 use Rattle.crl_protocol.specs.Chosen.{block_of}
-use Rattle.crl_deeds.specs.Laws.{AreStatements, IsChosenBySome}
+use Rattle.crl_deeds.specs.Laws.{IsChosenBySome}
 use Rattle.crl_talk.specs.Script.{Drafts, no_drafts}
 use Rattle.crl_plays.specs.Plays.{Plays, IsFollowed, PlaysAreRuns}
 use Rattle.crl_cluster.specs.Standing.{heard_at}
@@ -33,7 +33,7 @@ there_at f [] i few = absurd (omega arith)
 there_at f (x ∷ xs) zero few = record { own = x; got = refl; player = refl }
 there_at f (x ∷ xs) (suc i) few = let h = there_at f xs i (omega arith) in record { own = h.own; got = h.got; player = h.player }
 
-module _ {T : Type 0} (f : T → PlayerState) (capacity : ℕ) (blocks : List (List Statement)) (w : World) (luggage : List T) (plays : PlaysAreRuns) (are : AreStatements blocks) where
+module _ {T : Type 0} (f : T → PlayerState) (capacity : ℕ) (blocks : List (List Statement)) (w : World) (luggage : List T) (plays : PlaysAreRuns) where
   abbrev count : ℕ
   count = length (map f luggage)
 
@@ -63,11 +63,12 @@ module _ {T : Type 0} (f : T → PlayerState) (capacity : ℕ) (blocks : List (L
     Stood i d = Plays i (block_of blocks i) (heard i) (left i) d × IsActor (block_of blocks i) (player_of players i).place (player_of players i).guards (record { left = left i; drafts = d }) × HoldsHeard (heard i) (player_of players i).guards
 
     stood_if : (i : ℕ) → i < count → (b : Bool) (e : nat_lt i count ≡ b) → Stood i (drafts_if i b e)
+    unfolding drafts_if stood
     stood_if i few true e = let st = stood i (ltb-true i count e) in (st.plays, st.actor, st.holds)
     stood_if i few false e = absurd (let on : nat_lt i count ≡ true = lt-ltb i count few in cc)
 
     followed : IsFollowed count capacity blocks end.history left drafts
-    followed = plays count capacity blocks end.history left drafts are end.run (λ i few. (stood_if i few (nat_lt i count) refl).0)
+    followed = plays count capacity blocks end.history left drafts end.run (λ i few. (stood_if i few (nat_lt i count) refl).0)
 
     pub at_turn : IsAtTurn capacity blocks w players
     at_turn = record {
@@ -78,9 +79,9 @@ module _ {T : Type 0} (f : T → PlayerState) (capacity : ℕ) (blocks : List (L
         all = λ i few. let st = stood_if i few (nat_lt i count) refl in record {
           actor = record {
             left = followed.left_is i few;
-            drafts = λ q. subst (λ d. IsDraftOf d (newest q (player_of players i).guards)) (sym (followed.drafts_are i q few)) (st.1.0.drafts q);
+            drafts = λ q. subst (λ (d : Drafts). IsDraftOf (d q) (newest q (player_of players i).guards)) (sym (followed.drafts_are i few)) (st.1.drafts q);
           };
-          heard = subst (λ es. HoldsHeard (hears i (new_world count capacity) es) (player_of players i).guards) (sym followed.events) st.1.1;
+          heard = subst (λ es. HoldsHeard (hears i (new_world count capacity) es) (player_of players i).guards) (sym followed.events) st.2;
         };
       };
     }

@@ -36,17 +36,9 @@ use Rattle.crl_crew.specs.Driving.{MayDo}
 use Rattle.crl_crew.proofs.Calls.{change_of, call_for}
 use Rattle.crl_crew.proofs.Places.{stands_as, actor_given, heard_own}
 
--- The call of an act may be made.
-refused_call : (n : Node) (c : calls.Call) (o : Option Refusal) (why : Refusal) → o ≡ Some why → is_call n c o ≡ true
-refused_call n c o why e = subst (λ x. is_call n c x ≡ true) (sym e) refl
-
-by_verdict : (n : Node) (c : calls.Call) (o : Option Refusal) → ((o : Option Refusal) → o ≡ None → is_call n c o ≡ true) → is_call n c o ≡ true
-by_verdict n c None h = h None refl
-by_verdict n c (Some why) h = refl
-
 module _ (s : Shape) (i : ℕ) (statements : List Statement) (front : List Event) (r : IsRun s.parts s.extra front) (few : i < s.parts) (p : PlayerState) (st : StandsAt i statements (heard_at s i front) p)
     (free : ((world_at s front).nodes i).activity ≡ Free) (x : Statement) where
-  abbrev node : Node
+  abbrev pub node : Node
   node = (world_at s front).nodes i
 
   pub can : CanAct (verdict node (asked_call x)) x p.guards
@@ -59,23 +51,23 @@ module _ (s : Shape) (i : ℕ) (statements : List Statement) (front : List Event
   has_heard = record { count = s.parts; capacity = s.extra; run = front; is_run = r; within = few; hears = refl; node = refl }
 
   module _ (does : Act) (new : List Given) (acts : Acts (verdict node (asked_call x)) x p.guards does new) (next : drop p.place statements ≡ x ∷ drop (suc p.place) statements) where
-    abbrev rest : List Statement
+    abbrev pub rest : List Statement
     rest = drop (suc p.place) statements
 
-    abbrev actor : Actor
+    abbrev pub actor : Actor
     actor = record { left = rest; drafts = st.drafts }
 
-    taken : IsTakenBy statements (suc p.place) new node x actor (call_made does)
+    pub taken : IsTakenBy statements (suc p.place) new node x actor (call_made does)
     taken = run.takes statements p.place p.guards new node x does (record { left = drop p.place statements; drafts = st.drafts }) next st.actor apart can acts
 
-    spends : SpendsOne node p.guards new (call_made does)
+    pub spends : SpendsOne node p.guards new (call_made does)
     spends = run.act_spends node p.guards new x does can acts
 
     plays_next : Plays i statements (heard_at s i front) (x ∷ rest) st.drafts
     plays_next = subst (λ l. Plays i statements (heard_at s i front) l st.drafts) next st.plays
 
     -- a change that is made, and is no event
-    stands_changed : (q : PlayerState) → IsTakenBy statements (suc p.place) new node x actor None → q.place ≡ suc p.place → q.guards ≡ new → StandsAt i statements (heard_at s i front) q
+    pub stands_changed : (q : PlayerState) → IsTakenBy statements (suc p.place) new node x actor None → q.place ≡ suc p.place → q.guards ≡ new → StandsAt i statements (heard_at s i front) q
     stands_changed q (flag, is) e f =
         let change = change_of node actor x flag in
         stands_as i statements (heard_at s i front) (after_change x actor).drafts (suc p.place) new q e f
@@ -86,13 +78,13 @@ module _ (s : Shape) (i : ℕ) (statements : List Statement) (front : List Event
     -- a call, which comes after this
     module _ (c : calls.Call) (before : List Event) (rb : IsRunFrom (new_world s.parts s.extra) before) (may : MayCome s before (event.Call i c)) (same : (world_at s before).nodes i ≡ node)
         (heard : heard_at s i before ≡ heard_at s i front) where
-      abbrev answer : Answer
+      abbrev pub answer : Answer
       answer = (step (event.Call i c) (world_at s before)).answer
 
       called_heard : heard_at s i (before ++ event.Call i c ∷ []) ≡ heard_at s i front ++ Called c answer ∷ []
       called_heard = hears_then i (new_world s.parts s.extra) before (event.Call i c) ∙ ap (λ hs. heard_at s i before ++ hs) (heard_own i (Called c answer)) ∙ ap (λ hs. hs ++ Called c answer ∷ []) heard
 
-      stands_called : (q : PlayerState) → IsTakenBy statements (suc p.place) new node x actor (Some c) → Spends c (node_calls c node).answer p.guards new → q.place ≡ suc p.place → q.guards ≡ guards_given answer ++ new
+      pub stands_called : (q : PlayerState) → IsTakenBy statements (suc p.place) new node x actor (Some c) → Spends c (node_calls c node).answer p.guards new → q.place ≡ suc p.place → q.guards ≡ guards_given answer ++ new
           → StandsAt i statements (heard_at s i (before ++ event.Call i c ∷ [])) q
       stands_called q (flag, is, own) spends e f =
           stands_as i statements (heard_at s i (before ++ event.Call i c ∷ [])) (drafts_given answer st.drafts) (suc p.place) (guards_given answer ++ new) q e f
@@ -104,8 +96,8 @@ module _ (s : Shape) (i : ℕ) (statements : List Statement) (front : List Event
           (subst (λ hs. HoldsHeard hs p.guards) (sym heard) st.holds))
 
     -- What is done may be done: a call that isn't the end of a section that is allowed, or such an end by a guard that fits.
-    fits : GuardFits i node does
+    pub fits : GuardFits i node does
     fits = run.act_fits s.parts s.extra front r.enabled i p.guards free st.holds x does new acts
 
-    unguarded : IsUnguarded node does
+    pub unguarded : IsUnguarded node does
     unguarded = run.act_unguarded node p.guards new x does can acts

@@ -12,6 +12,7 @@ ghost use Rattle.crl_crew.specs.Driving.{IsDoneFor, MayDo};
 ghost use Rattle.crl_crew.specs.Working.{WorksAt};
 
 use crate::making::{end_reading, end_writing, make_call};
+use crl_cluster::theorems::fronts_are_histories;
 use crl_cluster::{Cluster, Held, Luggage, Pass};
 use crl_member::Member;
 use crl_model::OutOfMemory;
@@ -130,6 +131,7 @@ pub(crate) fn take_statement<N: Member, T: Luggage, R: Wait>(
     requires left { player.old.place < length statements.now }
     ensures { OnOk result (WorksAt N.state nodes.now held.old.number statements.now pass.new held.new player.new) }
 {
+    fronts_are_histories();
     let statement = player.statement(statements);
     let refusal = verdict_on(held.node(), statement);
     let act = player.act(alloc, statement, refusal)?;

@@ -2,18 +2,16 @@
 ghost use Rattle.std.specs.Prelude.{◌≡◌, ◌<◌, ◌≤◌, ◌^◌, false, length, map, IfOk, MatchResult};
 ghost use Rattle.crl_deeds.specs.Laws.{AreStatements};
 ghost use Rattle.crl_stuck.specs.Ends.{statements_in};
-ghost use Rattle.crl_protocol.specs.Chosen.{block_of};
 ghost use Rattle.crl_world.specs.Seen.{world_seen};
 ghost use Rattle.crl_cluster.specs.Starting.{shape_with};
 ghost use Rattle.crl_run.specs.Playing.{AreShort};
 ghost use Rattle.crl_run.specs.Finishing.{IsReportOfSome, IsFaultOfSome};
-ghost use Rattle.crl_crew.specs.Standing.{StandsAt};
-ghost use Rattle.crl_crew.specs.Ending.{IsEnd};
+ghost use Rattle.crl_crew.specs.Ending.{IsEnd, places_stand};
 
 use crate::ending::{close_all, players_of};
 use crate::gate::Gate;
 use crate::place::{Place, Scripted};
-use crate::threads::work_all;
+use crate::threads::work_two;
 use crl_cluster::{Closed, Cluster};
 use crl_member::Member;
 use crl_model::report::Report;
@@ -46,14 +44,13 @@ fn drive<N: Member + Send, G: Gate + Sync, R: Threads + Wait + Sync, S: Scripted
     requires statements { AreStatements (map (λ b. b.items) blocks.now) }
     requires short { AreShort (map (λ b. b.items) blocks.now) }
     requires script { map (λ b. b.items) blocks.now ≡ S.blocks }
-    ensures { let stands = λ i heard place. StandsAt i (block_of S.blocks i) heard place.player in
-        IfOk result (λ closed. IsEnd stands (shape_with nodes capacity) (world_seen N.state closed.world) closed.luggage.items) }
+    ensures { IfOk result (λ closed. IsEnd (places_stand S.blocks) (shape_with nodes capacity) (world_seen N.state closed.world) closed.luggage.items) }
 {
     let Ok((cluster, first)) = Cluster::<N, Place<S>>::start(alloc, nodes, capacity) else {
         return Err(OutOfMemory);
     };
     let stop = AtomicBool::new(false);
-    let pass = work_all(
+    let pass = work_two(
         rt, alloc, &cluster, first, blocks, 0, workers, gate, &stop,
     )?;
     close_all(rt, alloc, cluster, pass)
@@ -76,8 +73,7 @@ fn report_of<N: Member, S: Scripted>(
     requires short { AreShort (map (λ b. b.items) blocks.now) }
     requires few { statements_in nodes (map (λ b. b.items) blocks.now) ≤ 2 ^ 40 }
     requires script { map (λ b. b.items) blocks.now ≡ S.blocks }
-    requires end { let stands = λ i heard place. StandsAt i (block_of S.blocks i) heard place.player in
-        IsEnd stands (shape_with nodes capacity) (world_seen N.state closed.world) closed.luggage.items }
+    requires end { IsEnd (places_stand S.blocks) (shape_with nodes capacity) (world_seen N.state closed.world) closed.luggage.items }
     ensures { let all = map (λ b. b.items) blocks.now in
         MatchResult result (IsReportOfSome nodes capacity all false) (IsFaultOfSome nodes capacity all) }
 {

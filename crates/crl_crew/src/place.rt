@@ -51,6 +51,7 @@ impl<S: Scripted> Luggage for Place<S> {
 
     ghost stands = { λ node heard place. StandsAt node (block_of S.blocks node) heard place.player };
 
+    #[tactic(auto, using(crate::proofs::Places::stands_first))]
     fn start(alloc: Global, _node: NodeNo) -> Result<Place<S>, OutOfMemory> {
         Ok(Place::new(Player::new(alloc)))
     }

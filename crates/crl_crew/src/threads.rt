@@ -1,6 +1,5 @@
 //! The threads of the workers.
 ghost use Rattle.std.specs.Prelude.{◌≡◌, ◌<◌, ◌≤◌, ◌+◌, ◌^◌, map, IfOk};
-ghost use Rattle.std.specs.Thread.{IsSync};
 ghost use Rattle.crl_cluster.specs.Clusters.{node_count};
 ghost use Rattle.crl_crew.specs.Working.{IsIdle, IsScriptOf};
 
@@ -16,13 +15,13 @@ use std::sync::Wait;
 use std::sync::atomic::AtomicBool;
 use std::thread::{Threads, join};
 
-/// So many workers at once, each in a thread of its own where one can be made, with a pass of its own. They begin at the
+/// One or two workers at once, each in a thread of its own where one can be made, with a pass of its own. They begin at the
 /// nodes from `first` on. What is left is their passes, joined to one.
 ///
 /// # Errors
 ///
 /// `OutOfMemory` where a worker wanted memory.
-pub(crate) fn work_all<
+pub(crate) fn work_two<
     N: Member + Send,
     S: Scripted + Send + Sync,
     G: Gate + Sync,
@@ -41,7 +40,7 @@ pub(crate) fn work_all<
     requires idle { IsIdle nodes.now pass }
     requires blocks { map (λ b. b.items) blocks.now ≡ S.blocks }
     requires script { IsScriptOf (node_count nodes.now) S.blocks }
-    requires some { (0 < workers) × (first + workers < 2 ^ 15) }
+    requires some { first + workers < 2 ^ 15 }
     ensures { IfOk result (λ pass. IsIdle nodes.now pass) }
 {
     if workers < 2 {
@@ -49,12 +48,13 @@ pub(crate) fn work_all<
     }
     let mut own = pass;
     let other = nodes.split(&mut own);
+    let next = first + 1;
     let (theirs, mine) = join(
         rt,
         move || -> Result<Pass, OutOfMemory>
-            requires { IsSync R.row × IsSync G.row × IsIdle nodes.now other × (map (λ b. b.items) blocks.now ≡ S.blocks) × IsScriptOf (node_count nodes.now) S.blocks × (1 < workers) × (first + workers < 2 ^ 15) }
+            requires { IsIdle nodes.now other × (map (λ b. b.items) blocks.now ≡ S.blocks) × IsScriptOf (node_count nodes.now) S.blocks × (next < 2 ^ 15) }
             ensures { IfOk result (λ pass. IsIdle nodes.entry.now pass) }
-        { work_all(rt, alloc, nodes, other, blocks, first + 1, workers - 1, gate, stop) },
+        { work_on(rt, alloc, nodes, other, blocks, next, gate, stop) },
         move || -> Result<Pass, OutOfMemory>
             requires { IsIdle nodes.now own × (map (λ b. b.items) blocks.now ≡ S.blocks) × IsScriptOf (node_count nodes.now) S.blocks × (first < 2 ^ 15) }
             ensures { IfOk result (λ pass. IsIdle nodes.entry.now pass) }

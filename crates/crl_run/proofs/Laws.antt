@@ -10,5 +10,5 @@ pub use Rattle.crl_run.proofs.Scripts.{are_statements, are_short, statements_in_
 pub use Rattle.crl_run.proofs.ActorLemmas.{begins, takes, keeps}
 pub use Rattle.crl_run.proofs.Fitting.{can_act, exclusive, act_fits}
 pub use Rattle.crl_run.proofs.Unguarded.{IsUnguarded, act_unguarded}
-pub use Rattle.crl_run.proofs.Heard.{none_held, SpendsOne, act_spends, hears_answer, hears_call}
+pub use Rattle.crl_run.proofs.Heard.{none_held, plain_verdict, SpendsOne, act_spends, hears_answer, hears_call}
 pub use Rattle.crl_run.proofs.Taken.{changed_holds, call_answer}
