@@ -1,5 +1,5 @@
 mod Calls
-mod Making
+mod Doable
 mod Places
 mod Quiet
 mod Runs

@@ -3,9 +3,10 @@ use Rattle.std.proofs.Common.{◌≡◌, ◌∙◌, sym, ap, refl, subst, ◌<�
 use Rattle.std.specs.List.{All}
 use Rattle.crl_model.specs.declared.call.Call as calls
 use Rattle.crl_model.specs.declared.call.Refusal.{Refusal}
-use Rattle.crl_model.specs.declared.event.Event.TheVariants as event
+use Rattle.crl_model.specs.declared.event.Event.{Event}
 use Rattle.crl_model.specs.declared.statement.Statement.{Statement}
 use Rattle.crl_protocol.specs.Node.{Node, Activity, Free, Waiting, Ready}
+use Rattle.crl_protocol.specs.Chosen.{block_of}
 use Rattle.crl_protocol.specs.Verdict.{verdict}
 use Rattle.crl_protocol.specs.World.{step, is_free, IsRun}
 use Rattle.crl_talk.specs.Guards.{Given}
@@ -25,8 +26,8 @@ use Rattle.crl_run.specs.Actors.{asked_call, call_made, IsTakenBy}
 use Rattle.crl_run.proofs.Laws.{SpendsOne}
 use Rattle.crl_crew.specs.Standing.{StandsAt, AreTaken}
 use Rattle.crl_crew.specs.Driving.{IsStill, IsEventOf, IsDoneFor, MayDo}
-use Rattle.crl_crew.specs.Working.{WorksAt}
-use Rattle.crl_crew.proofs.Making.{may_do}
+use Rattle.crl_crew.specs.Working.{IsScriptOf, WorksAt}
+use Rattle.crl_crew.proofs.Doable.{may_do}
 use Rattle.crl_crew.proofs.Statements as one
 use Rattle.crl_crew.proofs.Views.{only_as}
 
@@ -42,6 +43,11 @@ at_place P [] (suc n) x rest all e = cc
 at_place P (y ∷ ys) zero x rest all e = subst (λ z. P z) (ap (λ l. get_or l 0 x) e) (all 0 x (omega arith))
 at_place P (y ∷ ys) (suc n) x rest all e = at_place P ys n x rest (λ k d lt. all (suc k) d (omega arith)) e
 
+-- the statements of one node of a script
+pub taken_of : (count : ℕ) (blocks : List (List Statement)) (i : ℕ) (statements : List Statement) → IsScriptOf count blocks → i < count → statements ≡ block_of blocks i → AreTaken statements
+taken_of count blocks i statements script few is = subst (λ l. AreTaken l) (sym is)
+    (let within : i < length blocks = subst (λ n. i < n) (sym script.many) few in record { are = script.are i [] within; short = script.short i [] within })
+
 module _ {N T A B : Type 0} (state : N → Node) (cluster : Cluster N T A B) (statements : List Statement) (pass : Pass) (held : Held N T) (p : PlayerState)
     (works : WorksAt state cluster held.number statements pass held p) (history : FrontIsHistory pass) (free : is_free (state held.behind.node).activity ≡ true) (x : Statement) where
   abbrev s : Shape
@@ -50,7 +56,7 @@ module _ {N T A B : Type 0} (state : N → Node) (cluster : Cluster N T A B) (st
   abbrev i : ℕ
   i = held.number
 
-  abbrev front : List _
+  abbrev front : List Event
   front = (view_of pass).front
 
   run : IsRun s.parts s.extra front

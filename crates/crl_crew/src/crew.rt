@@ -50,7 +50,7 @@ fn drive<N: Member + Send, G: Gate + Sync, R: Threads + Wait + Sync, S: Scripted
         return Err(OutOfMemory);
     };
     let stop = AtomicBool::new(false);
-    let pass = work_two(
+    let pass = work_all(
         rt, alloc, &cluster, first, blocks, 0, workers, gate, &stop,
     )?;
     close_all(rt, alloc, cluster, pass)

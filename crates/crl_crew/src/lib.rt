@@ -3,6 +3,7 @@
 
 mod acting;
 mod crew;
+mod crews;
 mod ending;
 mod gate;
 mod making;

@@ -1,74 +1,51 @@
-//! The threads of the workers.
-ghost use Rattle.std.specs.Prelude.{◌≡◌, ◌<◌, ◌≤◌, ◌+◌, ◌^◌, map, IfOk};
-ghost use Rattle.crl_cluster.specs.Clusters.{node_count};
-ghost use Rattle.crl_crew.specs.Working.{IsIdle, IsScriptOf};
+//! Tasks that run at once, each in a thread of its own.
+ghost use Rattle.std.specs.Prelude.{◌≡◌, IfOk, vec_len};
+ghost use Rattle.std.specs.List.{All};
+ghost use Rattle.crl_crew.specs.Tasks.{AreEndsOf};
 
-use crate::gate::Gate;
-use crate::place::{Place, Scripted};
-use crate::workers::work_on;
-use crl_cluster::{Cluster, Luggage, Pass};
-use crl_member::Member;
-use crl_model::statement::Statement;
-use crl_model::{NodeNo, OutOfMemory};
-use std::alloc::Global;
-use std::sync::Wait;
-use std::sync::atomic::AtomicBool;
-use std::thread::{Threads, join};
+use crl_cluster::Pass;
+use crl_model::OutOfMemory;
+use std::thread::{Threads, map_vec};
 
-/// One or two workers at once, each in a thread of its own where one can be made, with a pass of its own. They begin at the
-/// nodes from `first` on. What is left is their passes, joined to one.
+/// What a thread does with a pass.
+pub(crate) trait Task: Sized {
+    ghost use Rattle.crl_cluster.specs.declared.cluster.Pass.{Pass};
+
+    // What it needs.
+    ghost can_run: { Self → Type 0 };
+
+    // What it leaves.
+    ghost leaves: { Self → Pass → Type 0 };
+
+    /// Runs to its end, and leaves its pass.
+    ///
+    /// # Errors
+    ///
+    /// `OutOfMemory`.
+    fn run(self) -> Result<Pass, OutOfMemory>
+        requires { can_run self }
+        ensures { IfOk result (λ pass. leaves self pass) };
+}
+
+/// All tasks at once, each in a thread of its own where one can be made. The passes that they left, in order.
 ///
 /// # Errors
 ///
-/// `OutOfMemory` where a worker wanted memory.
-pub(crate) fn work_two<
-    N: Member + Send,
-    S: Scripted + Send + Sync,
-    G: Gate + Sync,
-    R: Threads + Wait + Sync,
->(
+/// `OutOfMemory`; then some tasks may not have run.
+pub(crate) fn run_all<R: Threads + Sync, J: Task + Send + Drop>(
     rt: &R,
-    alloc: Global,
-    nodes: &Cluster<N, Place<S>>,
-    pass: Pass,
-    blocks: &[Vec<Statement>],
-    first: NodeNo,
-    workers: u16,
-    gate: &G,
-    stop: &AtomicBool,
-) -> Result<Pass, OutOfMemory>
-    requires idle { IsIdle nodes.now pass }
-    requires blocks { map (λ b. b.items) blocks.now ≡ S.blocks }
-    requires script { IsScriptOf (node_count nodes.now) S.blocks }
-    requires some { first + workers < 2 ^ 15 }
-    ensures { IfOk result (λ pass. IsIdle nodes.now pass) }
+    tasks: Vec<J>,
+) -> Result<Vec<Result<Pass, OutOfMemory>>, OutOfMemory>
+    requires { All J.can_run tasks.items }
+    ensures many { IfOk result (λ ends. vec_len ends ≡ vec_len tasks) }
+    ensures ends { IfOk result (λ ends. AreEndsOf J.leaves tasks.items ends.items) }
 {
-    if workers < 2 {
-        return work_on(rt, alloc, nodes, pass, blocks, first, gate, stop);
-    }
-    let mut own = pass;
-    let other = nodes.split(&mut own);
-    let next = first + 1;
-    let (theirs, mine) = join(
+    map_vec(
         rt,
-        move || -> Result<Pass, OutOfMemory>
-            requires { IsIdle nodes.now other × (map (λ b. b.items) blocks.now ≡ S.blocks) × IsScriptOf (node_count nodes.now) S.blocks × (next < 2 ^ 15) }
-            ensures { IfOk result (λ pass. IsIdle nodes.entry.now pass) }
-        { work_on(rt, alloc, nodes, other, blocks, next, gate, stop) },
-        move || -> Result<Pass, OutOfMemory>
-            requires { IsIdle nodes.now own × (map (λ b. b.items) blocks.now ≡ S.blocks) × IsScriptOf (node_count nodes.now) S.blocks × (first < 2 ^ 15) }
-            ensures { IfOk result (λ pass. IsIdle nodes.entry.now pass) }
-        { work_on(rt, alloc, nodes, own, blocks, first, gate, stop) },
-    );
-    Ok(joined(nodes, mine?, theirs?))
-}
-
-/// Both passes as one.
-fn joined<N: Member, T: Luggage>(nodes: &Cluster<N, T>, one: Pass, other: Pass) -> Pass
-    requires { IsIdle nodes.now one × IsIdle nodes.now other }
-    ensures { IsIdle nodes.now result }
-{
-    let mut pass = one;
-    nodes.join(&mut pass, other);
-    pass
+        tasks,
+        &|task: J| -> Result<Pass, OutOfMemory>
+            requires { J.can_run task }
+            ensures { IfOk result (λ pass. J.leaves task pass) }
+        { task.run() },
+    )
 }

@@ -1,5 +1,6 @@
 //! A worker goes round the nodes until it finds nothing to do.
-ghost use Rattle.std.specs.Prelude.{◌≡◌, ◌<◌, ◌^◌, map, OnOk, IfOk};
+ghost use Rattle.std.specs.Prelude.{◌≡◌, ◌<◌, ◌^◌, length, map, OnOk, IfOk};
+ghost use Rattle.crl_protocol.specs.Chosen.{block_of};
 ghost use Rattle.crl_cluster.specs.Clusters.{node_count};
 ghost use Rattle.crl_crew.specs.Working.{IsIdle, IsScriptOf};
 
@@ -26,6 +27,14 @@ fn more_of(one: Found, other: Found) -> Found {
     }
 }
 
+/// The statements of a node.
+fn block_at(blocks: &[Vec<Statement>], node: NodeNo) -> &[Statement]
+    requires { node < length blocks.now }
+    ensures { result.now ≡ block_of (map (λ b. b.items) blocks.now) node }
+{
+    blocks[node as usize].as_slice()
+}
+
 /// All nodes, each once, from `first` on. The most that was found at one of them.
 ///
 /// # Errors
@@ -50,7 +59,7 @@ fn go_round<N: Member, S: Scripted, G: Gate, R: Wait>(
     let count = nodes.count(pass);
     for k in 0..count {
         let node = (first + k) % count;
-        let statements = blocks[node as usize].as_slice();
+        let statements = block_at(blocks, node);
         let here = visit(rt, alloc, nodes, pass, node, statements, gate)?;
         found = more_of(found, here);
     }

@@ -26,20 +26,23 @@ IsNoChange (call.Put name offset len) = ⊥
 IsNoChange (call.Add name offset) = ⊥
 IsNoChange c = Unit {0}
 
+goes_allowed : (n : Node) (c : calls.Call) → goes_by_guard c None ≡ false → IsNoChange c → is_call n c None ≡ true
+goes_allowed n (call.Create size) un no = refl
+goes_allowed n (call.Delete name) un no = refl
+goes_allowed n (call.Map name) un no = refl
+goes_allowed n (call.Unmap name) un no = refl
+goes_allowed n (call.StartRead name) un no = refl
+goes_allowed n (call.EndRead name) un no = refl
+goes_allowed n (call.StartWrite name) un no = refl
+goes_allowed n (call.EndWrite name after) un no = cc
+goes_allowed n (call.Put name offset len) un no = absurd no
+goes_allowed n (call.Add name offset) un no = absurd no
+goes_allowed n (call.Flush name) un no = refl
+goes_allowed n (call.Come part) un no = refl
+
 may_come : (n : Node) (c : calls.Call) (o : Option Refusal) → goes_by_guard c o ≡ false → (o ≡ None → IsNoChange c) → is_call n c o ≡ true
 may_come n c (Some why) un no = refl
-may_come n (call.Create size) None un no = refl
-may_come n (call.Delete name) None un no = refl
-may_come n (call.Map name) None un no = refl
-may_come n (call.Unmap name) None un no = refl
-may_come n (call.StartRead name) None un no = refl
-may_come n (call.EndRead name) None un no = refl
-may_come n (call.StartWrite name) None un no = refl
-may_come n (call.EndWrite name after) None un no = cc
-may_come n (call.Put name offset len) None un no = absurd (no refl)
-may_come n (call.Add name offset) None un no = absurd (no refl)
-may_come n (call.Flush name) None un no = refl
-may_come n (call.Come part) None un no = refl
+may_come n c None un no = goes_allowed n c un (no refl)
 
 module _ (n : Node) (old new : List Given) (c : calls.Call) where
   as_plain : (d : calls.Call) → act.Call c ≡ act.Call d → IsNoChange d → IsNoChange c

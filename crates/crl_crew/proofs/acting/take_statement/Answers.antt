@@ -1,0 +1,40 @@
+use Rattle.std.proofs.Common.{◌≡◌, ◌∙◌, ◌+◌, ℕ, suc, subst, sym, ap, arith}
+use Rattle.std.proofs.lemmas.Result.{on_ok_weaker}
+use Rattle.crl_protocol.specs.Verdict.{verdict}
+use Rattle.crl_cluster.specs.Clusters.{view_of, shape_of}
+use Rattle.crl_run.specs.Acting.{IsShort, CanAct, Acts}
+use Rattle.crl_run.specs.Actors.{asked_call, call_made}
+use Rattle.crl_crew.specs.Driving.{IsDoneFor}
+use Rattle.crl_crew.proofs.Taking.{at_place, can, may, taken_works}
+use Rattle.crl_crew.proofs.acting.take_statement.Goals as goal
+
+pub verdict_on-refusal-requires : goal.verdict_on-refusal-requires
+verdict_on-refusal-requires g c = at_place IsShort c.args.statements.now c.args.player.now.place c.statement-statement.result.now _ c.requires.taken.short c.statement-statement.ensures
+
+pub act-requires-clause-short : goal.act-requires-clause-short
+act-requires-clause-short g c = at_place IsShort c.args.statements.now c.args.player.now.place c.statement-statement.result.now _ c.requires.taken.short c.statement-statement.ensures
+
+pub act-requires-clause-can : goal.act-requires-clause-can
+act-requires-clause-can g c =
+    let x = c.statement-statement.result.now in
+    subst (λ o. CanAct o x c.args.player.now.guards) (sym c.verdict_on-refusal.ensures)
+    (can g.N.Member.state c.args.nodes.now c.args.statements.now c.args.pass.now c.args.held.now c.args.player.now c.requires.works (c.fronts_are_histories.ensures c.args.pass.now) c.requires.free x)
+
+pub make_act-requires-clause-may : goal.make_act-requires-clause-may
+make_act-requires-clause-may g c =
+    let x = c.statement-statement.result.now in
+    may g.N.Member.state c.args.nodes.now c.args.statements.now c.args.pass.now c.args.held.now c.args.player.now c.requires.works (c.fronts_are_histories.ensures c.args.pass.now) c.requires.free x
+    c.requires.taken c.statement-statement.ensures c.in_ok-act.act c.act.new.self.guards
+    (subst (λ o. Acts o x c.args.player.now.guards c.in_ok-act.act c.act.new.self.guards) c.verdict_on-refusal.ensures c.in_ok-act.ensures.ok)
+
+pub returns : goal.returns
+returns g c =
+    let x = c.statement-statement.result.now in
+    let p = c.args.player.now in
+    let next : p.place + 1 ≡ suc p.place = omega arith in
+    on_ok_weaker c.make_act.result
+    (λ told. taken_works g.N.Member.state c.args.nodes.now c.args.statements.now c.args.pass.now c.args.held.now p c.requires.works (c.fronts_are_histories.ensures c.args.pass.now) c.requires.free x
+    c.requires.taken c.statement-statement.ensures c.in_ok-act.act c.act.new.self.guards
+    (subst (λ o. Acts o x p.guards c.in_ok-act.act c.act.new.self.guards) c.verdict_on-refusal.ensures c.in_ok-act.ensures.ok)
+    c.make_act.new.pass c.make_act.new.held c.make_act.new.player told.0 (told.1 ∙ c.in_ok-act.ensures.place ∙ next) told.2)
+    ?
