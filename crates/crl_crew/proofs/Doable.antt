@@ -27,22 +27,22 @@ IsNoChange (call.Add name offset) = ⊥
 IsNoChange c = Unit {0}
 
 goes_allowed : (n : Node) (c : calls.Call) → goes_by_guard c None ≡ false → IsNoChange c → is_call n c None ≡ true
-goes_allowed n (call.Create size) un no = refl
-goes_allowed n (call.Delete name) un no = refl
-goes_allowed n (call.Map name) un no = refl
-goes_allowed n (call.Unmap name) un no = refl
-goes_allowed n (call.StartRead name) un no = refl
-goes_allowed n (call.EndRead name) un no = refl
-goes_allowed n (call.StartWrite name) un no = refl
-goes_allowed n (call.EndWrite name after) un no = cc
-goes_allowed n (call.Put name offset len) un no = absurd no
-goes_allowed n (call.Add name offset) un no = absurd no
-goes_allowed n (call.Flush name) un no = refl
-goes_allowed n (call.Come part) un no = refl
+goes_allowed n (call.Create size) un plain = refl
+goes_allowed n (call.Delete name) un plain = refl
+goes_allowed n (call.Map name) un plain = refl
+goes_allowed n (call.Unmap name) un plain = refl
+goes_allowed n (call.StartRead name) un plain = refl
+goes_allowed n (call.EndRead name) un plain = refl
+goes_allowed n (call.StartWrite name) un plain = refl
+goes_allowed n (call.EndWrite name after) un plain = cc
+goes_allowed n (call.Put name offset len) un plain = absurd plain
+goes_allowed n (call.Add name offset) un plain = absurd plain
+goes_allowed n (call.Flush name) un plain = refl
+goes_allowed n (call.Come part) un plain = refl
 
-may_come : (n : Node) (c : calls.Call) (o : Option Refusal) → goes_by_guard c o ≡ false → (o ≡ None → IsNoChange c) → is_call n c o ≡ true
-may_come n c (Some why) un no = refl
-may_come n c None un no = goes_allowed n c un (no refl)
+may_come : (n : Node) (c : calls.Call) (o : Option Refusal) → verdict n c ≡ o → goes_by_guard c o ≡ false → (verdict n c ≡ None → IsNoChange c) → is_call n c o ≡ true
+may_come n c (Some why) is un plain = refl
+may_come n c None is un plain = goes_allowed n c un (plain is)
 
 module _ (n : Node) (old new : List Given) (c : calls.Call) where
   as_plain : (d : calls.Call) → act.Call c ≡ act.Call d → IsNoChange d → IsNoChange c
@@ -81,7 +81,7 @@ module _ (n : Node) (old new : List Given) (c : calls.Call) where
 
 pub may_do : (i : _) (n : Node) (old new : List Given) (x : Statement) (does : Act) → IsStatement x → CanAct (verdict n (asked_call x)) x old → Acts (verdict n (asked_call x)) x old does new
     → GuardFits i n does → IsUnguarded n does → MayDo i n does
-may_do i n old new x (act.Call c) is can acts fits un = record { enabled = may_come n c (verdict n c) un (no_change n old new c x is can acts); unguarded = un }
+may_do i n old new x (act.Call c) is can acts fits un = record { enabled = may_come n c (verdict n c) refl un (no_change n old new c x is can acts); unguarded = un }
 may_do i n old new x (act.EndRead guard) is can acts fits un = fits
 may_do i n old new x (act.EndWrite guard) is can acts fits un = fits
 may_do i n old new x act.Inside is can acts fits un = tt

@@ -9,7 +9,8 @@ use Rattle.crl_turns.specs.declared.turned.Shape.{Shape}
 use Rattle.crl_turns.specs.declared.faults.CloseWhy.{CloseWhy}
 use Rattle.crl_turns.specs.declared.faults.CloseWhy.TheVariants.{OutOfMemory, Busy}
 use Rattle.crl_turns.specs.declared.view.View.{View}
-use Rattle.crl_turns.specs.Calls.{HasValue}
+use Rattle.crl_turns.specs.Plays.{after_split, split_view}
+use Rattle.crl_turns.specs.Rule.{value_place}
 use Rattle.crl_turns.specs.Closing.{HoldsNone}
 use Rattle.crl_turns.specs.Passes as turns
 use Rattle.crl_turns.proofs.Laws.{holds_what_it_has}
@@ -73,6 +74,13 @@ module _ {N T A B : Type 0} where
   -- the number of a held node by another name
   pub works_as : (state : N → Node) (cluster : Cluster N T A B) (i j : ℕ) (statements : List Statement) (pass : Pass) (held : Held N T) (p : PlayerState) → i ≡ j → WorksAt state cluster i statements pass held p → WorksAt state cluster j statements pass held p
   works_as state cluster i j statements pass held p e works = subst (λ k. WorksAt state cluster k statements pass held p) e works
+
+  -- a pass was split
+  pub split_idle : (cluster : Cluster N T A B) (pass after own : Pass) → IsIdle cluster pass → IsOf cluster after × IsOf cluster own → (view_of after ≡ after_split (view_of pass)) × (view_of own ≡ split_view (view_of pass)) → IsIdle cluster after × IsIdle cluster own
+  split_idle cluster pass after own idle here told = (
+    record { here = here.0; idle = λ j. ap (λ (v : View). value_place j v.holds) told.0 ∙ idle.idle j },
+    record { here = here.1; idle = λ j. ap (λ (v : View). value_place j v.holds) told.1 },
+  )
 
   -- a cluster that isn't closed comes back with the pass, which holds no node
   pub still_idle : (cluster again : Cluster N T A B) (pass own : Pass) (why : CloseWhy) → IsIdle cluster pass → again.turns ≡ cluster.turns → IsOf cluster own → IsNotClosed (shape_of cluster) (view_of pass) why (view_of own) → IsIdle again own

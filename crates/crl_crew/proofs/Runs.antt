@@ -85,3 +85,18 @@ module _ {T : Type 0} (f : T → PlayerState) (capacity : ℕ) (blocks : List (L
         };
       };
     }
+
+-- the same of a script by another name, and of so many nodes
+module _ {T : Type 0} (f : T → PlayerState) (nodes capacity : ℕ) (blocks all : List (List Statement)) (w : World) (luggage : List T) (players : List PlayerState) (same : all ≡ blocks) (is : players ≡ map f luggage)
+    (end : IsEnd (λ i heard own. StandsAt i (block_of blocks i) heard (f own)) (shape_with nodes capacity) w luggage) where
+  pub as_many : length players ≡ nodes
+  as_many = ap length is ∙ length-map luggage f ∙ end.many
+
+  pub reached : PlaysAreRuns → IsAtTurn capacity all w players
+  reached plays =
+      let many : length (map f luggage) ≡ nodes = length-map luggage f ∙ end.many in
+      let named : IsEnd (λ i heard own. StandsAt i (block_of all i) heard (f own)) (shape_with nodes capacity) w luggage =
+      subst (λ bs. IsEnd (λ i heard own. StandsAt i (block_of bs i) heard (f own)) (shape_with nodes capacity) w luggage) (sym same) end in
+      let counted : IsEnd (λ i heard own. StandsAt i (block_of all i) heard (f own)) (shape_with (length (map f luggage)) capacity) w luggage =
+      subst (λ n. IsEnd (λ i heard own. StandsAt i (block_of all i) heard (f own)) (shape_with n capacity) w luggage) (sym many) named in
+      subst (λ ps. IsAtTurn capacity all w ps) (sym is) (at_turn f capacity all w luggage plays counted)

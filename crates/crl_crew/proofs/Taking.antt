@@ -1,6 +1,9 @@
 -- A held node takes its next statement.
 use Rattle.std.proofs.Common.{◌≡◌, ◌∙◌, sym, ap, refl, subst, ◌<◌, ◌+◌, true, ℕ, zero, suc, Option, Some, None, List, [], ◌∷◌, ◌++◌, length, drop, get_or, arith}
+use Rattle.std.specs.Prelude.{OnOk}
 use Rattle.std.specs.List.{All}
+use Rattle.std.specs.declared.result.Result.{Result}
+use Rattle.std.specs.declared.result.Result.TheVariants.{Ok, Err}
 use Rattle.crl_model.specs.declared.call.Call as calls
 use Rattle.crl_model.specs.declared.call.Refusal.{Refusal}
 use Rattle.crl_model.specs.declared.event.Event.{Event}
@@ -9,6 +12,7 @@ use Rattle.crl_protocol.specs.Node.{Node, Activity, Free, Waiting, Ready}
 use Rattle.crl_protocol.specs.Chosen.{block_of}
 use Rattle.crl_protocol.specs.Verdict.{verdict}
 use Rattle.crl_protocol.specs.World.{step, is_free, IsRun}
+use Rattle.crl_deeds.specs.Laws.{IsStatement}
 use Rattle.crl_talk.specs.Guards.{Given}
 use Rattle.crl_turns.specs.declared.turned.Shape.{Shape}
 use Rattle.crl_turns.specs.declared.view.View.{View}
@@ -35,6 +39,11 @@ free_is : (a : Activity) → is_free a ≡ true → a ≡ Free
 free_is Free e = refl
 free_is (Waiting awaited) e = cc
 free_is (Ready answer) e = cc
+
+-- what holds where there is a result, together
+pub all_told : {X E : Type 0} {P Q R : Type 0} (r : Result X E) → OnOk r P → OnOk r Q → OnOk r R → OnOk r (P × Q × R)
+all_told (Ok x) a b d = (a, b, d)
+all_told (Err e) a b d = tt
 
 -- what holds of all statements holds of the next one
 pub at_place : (P : Statement → Type 0) (xs : List Statement) (place : ℕ) (x : Statement) (rest : List Statement) → All P xs → drop place xs ≡ x ∷ rest → P x
@@ -77,7 +86,7 @@ module _ {N T A B : Type 0} (state : N → Node) (cluster : Cluster N T A B) (st
 
     pub may : MayDo i (state held.behind.node) does
     may = subst (λ (n : Node). MayDo i n does) (sym node_is)
-        (may_do i ((world_at s front).nodes i) p.guards new x does (at_place _ statements p.place x _ taken.are next)
+        (may_do i ((world_at s front).nodes i) p.guards new x does (at_place IsStatement statements p.place x (drop (suc p.place) statements) taken.are next)
         (one.can s i statements front run works.held_is.inside p works.stands free_there x) acts_there
         (one.fits s i statements front run works.held_is.inside p works.stands free_there x does new acts_there next)
         (one.unguarded s i statements front run works.held_is.inside p works.stands free_there x does new acts_there next))

@@ -8,10 +8,10 @@ ghost use Rattle.crl_run.specs.Playing.{AreShort};
 ghost use Rattle.crl_run.specs.Finishing.{IsReportOfSome, IsFaultOfSome};
 ghost use Rattle.crl_crew.specs.Ending.{IsEnd, places_stand};
 
+use crate::crews::work_all;
 use crate::ending::{close_all, players_of};
 use crate::gate::Gate;
 use crate::place::{Place, Scripted};
-use crate::threads::work_two;
 use crl_cluster::{Closed, Cluster};
 use crl_member::Member;
 use crl_model::report::Report;
@@ -39,6 +39,9 @@ fn drive<N: Member + Send, G: Gate + Sync, R: Threads + Wait + Sync, S: Scripted
     workers: u16,
     gate: &G,
 ) -> Result<Closed<N, Place<S>>, OutOfMemory>
+where
+    N::CallKit: Send,
+    N::PieceKit: Send,
     requires nodes { (0 < nodes) × (nodes ≤ 64) × (length blocks.now ≡ nodes) }
     requires workers { (0 < workers) × (workers ≤ 16) }
     requires statements { AreStatements (map (λ b. b.items) blocks.now) }
@@ -51,7 +54,7 @@ fn drive<N: Member + Send, G: Gate + Sync, R: Threads + Wait + Sync, S: Scripted
     };
     let stop = AtomicBool::new(false);
     let pass = work_all(
-        rt, alloc, &cluster, first, blocks, 0, workers, gate, &stop,
+        rt, alloc, &cluster, first, blocks, workers, gate, &stop,
     )?;
     close_all(rt, alloc, cluster, pass)
 }
@@ -99,6 +102,9 @@ fn work_as<N: Member + Send, G: Gate + Sync, R: Threads + Wait + Sync, S: Script
     workers: u16,
     gate: &G,
 ) -> Result<Report, RunFault>
+where
+    N::CallKit: Send,
+    N::PieceKit: Send,
     requires nodes { (0 < nodes) × (nodes ≤ 64) × (length blocks.now ≡ nodes) }
     requires workers { (0 < workers) × (workers ≤ 16) }
     requires statements { AreStatements (map (λ b. b.items) blocks.now) }
@@ -133,6 +139,9 @@ pub fn work<N: Member + Send, G: Gate + Sync, R: Threads + Wait + Sync>(
     workers: u16,
     gate: &G,
 ) -> Result<Report, RunFault>
+where
+    N::CallKit: Send,
+    N::PieceKit: Send,
     requires nodes { (0 < nodes) × (nodes ≤ 64) × (length blocks.now ≡ nodes) }
     requires workers { (0 < workers) × (workers ≤ 16) }
     requires statements { AreStatements (map (λ b. b.items) blocks.now) }

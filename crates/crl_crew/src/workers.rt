@@ -40,6 +40,7 @@ fn block_at(blocks: &[Vec<Statement>], node: NodeNo) -> &[Statement]
 /// # Errors
 ///
 /// `OutOfMemory`.
+#[tactic(auto, using(crate::proofs::Taking::taken_of))]
 fn go_round<N: Member, S: Scripted, G: Gate, R: Wait>(
     rt: &R,
     alloc: Global,

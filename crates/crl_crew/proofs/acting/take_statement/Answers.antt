@@ -5,7 +5,7 @@ use Rattle.crl_cluster.specs.Clusters.{view_of, shape_of}
 use Rattle.crl_run.specs.Acting.{IsShort, CanAct, Acts}
 use Rattle.crl_run.specs.Actors.{asked_call, call_made}
 use Rattle.crl_crew.specs.Driving.{IsDoneFor}
-use Rattle.crl_crew.proofs.Taking.{at_place, can, may, taken_works}
+use Rattle.crl_crew.proofs.Taking.{at_place, can, may, taken_works, all_told}
 use Rattle.crl_crew.proofs.acting.take_statement.Goals as goal
 
 pub verdict_on-refusal-requires : goal.verdict_on-refusal-requires
@@ -17,7 +17,7 @@ act-requires-clause-short g c = at_place IsShort c.args.statements.now c.args.pl
 pub act-requires-clause-can : goal.act-requires-clause-can
 act-requires-clause-can g c =
     let x = c.statement-statement.result.now in
-    subst (λ o. CanAct o x c.args.player.now.guards) (sym c.verdict_on-refusal.ensures)
+    subst (λ o. CanAct o x c.args.player.now.guards) (sym (c.verdict_on-refusal.ensures ∙ ap (λ n. verdict (g.N.Member.state n) (asked_call x)) c.node.ensures))
     (can g.N.Member.state c.args.nodes.now c.args.statements.now c.args.pass.now c.args.held.now c.args.player.now c.requires.works (c.fronts_are_histories.ensures c.args.pass.now) c.requires.free x)
 
 pub make_act-requires-clause-may : goal.make_act-requires-clause-may
@@ -25,7 +25,7 @@ make_act-requires-clause-may g c =
     let x = c.statement-statement.result.now in
     may g.N.Member.state c.args.nodes.now c.args.statements.now c.args.pass.now c.args.held.now c.args.player.now c.requires.works (c.fronts_are_histories.ensures c.args.pass.now) c.requires.free x
     c.requires.taken c.statement-statement.ensures c.in_ok-act.act c.act.new.self.guards
-    (subst (λ o. Acts o x c.args.player.now.guards c.in_ok-act.act c.act.new.self.guards) c.verdict_on-refusal.ensures c.in_ok-act.ensures.ok)
+    (subst (λ o. Acts o x c.args.player.now.guards c.in_ok-act.act c.act.new.self.guards) (c.verdict_on-refusal.ensures ∙ ap (λ n. verdict (g.N.Member.state n) (asked_call x)) c.node.ensures) c.in_ok-act.ensures.ok)
 
 pub returns : goal.returns
 returns g c =
@@ -35,6 +35,6 @@ returns g c =
     on_ok_weaker c.make_act.result
     (λ told. taken_works g.N.Member.state c.args.nodes.now c.args.statements.now c.args.pass.now c.args.held.now p c.requires.works (c.fronts_are_histories.ensures c.args.pass.now) c.requires.free x
     c.requires.taken c.statement-statement.ensures c.in_ok-act.act c.act.new.self.guards
-    (subst (λ o. Acts o x p.guards c.in_ok-act.act c.act.new.self.guards) c.verdict_on-refusal.ensures c.in_ok-act.ensures.ok)
+    (subst (λ o. Acts o x p.guards c.in_ok-act.act c.act.new.self.guards) (c.verdict_on-refusal.ensures ∙ ap (λ n. verdict (g.N.Member.state n) (asked_call x)) c.node.ensures) c.in_ok-act.ensures.ok)
     c.make_act.new.pass c.make_act.new.held c.make_act.new.player told.0 (told.1 ∙ c.in_ok-act.ensures.place ∙ next) told.2)
-    ?
+    (all_told c.make_act.result c.make_act.ensures.here c.make_act.ensures.place c.make_act.ensures.told)
