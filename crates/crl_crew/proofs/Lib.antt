@@ -5,4 +5,5 @@ mod Quiet
 mod Runs
 mod Statements
 mod Taking
+mod Teams
 mod Views

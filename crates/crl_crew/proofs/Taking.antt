@@ -1,9 +1,6 @@
 -- A held node takes its next statement.
 use Rattle.std.proofs.Common.{◌≡◌, ◌∙◌, sym, ap, refl, subst, ◌<◌, ◌+◌, true, ℕ, zero, suc, Option, Some, None, List, [], ◌∷◌, ◌++◌, length, drop, get_or, arith}
-use Rattle.std.specs.Prelude.{OnOk}
 use Rattle.std.specs.List.{All}
-use Rattle.std.specs.declared.result.Result.{Result}
-use Rattle.std.specs.declared.result.Result.TheVariants.{Ok, Err}
 use Rattle.crl_model.specs.declared.call.Call as calls
 use Rattle.crl_model.specs.declared.call.Refusal.{Refusal}
 use Rattle.crl_model.specs.declared.event.Event.{Event}
@@ -39,11 +36,6 @@ free_is : (a : Activity) → is_free a ≡ true → a ≡ Free
 free_is Free e = refl
 free_is (Waiting awaited) e = cc
 free_is (Ready answer) e = cc
-
--- what holds where there is a result, together
-pub all_told : {X E : Type 0} {P Q R : Type 0} (r : Result X E) → OnOk r P → OnOk r Q → OnOk r R → OnOk r (P × Q × R)
-all_told (Ok x) a b d = (a, b, d)
-all_told (Err e) a b d = tt
 
 -- what holds of all statements holds of the next one
 pub at_place : (P : Statement → Type 0) (xs : List Statement) (place : ℕ) (x : Statement) (rest : List Statement) → All P xs → drop place xs ≡ x ∷ rest → P x

@@ -56,7 +56,7 @@ impl<'a, N: Member, S: Scripted, G: Gate, R: Wait> Task for Worker<'a, N, S, G, 
 }
 
 /// A worker.
-fn worker<'a, N: Member, S: Scripted, G: Gate, R: Wait>(
+fn ready_worker<'a, N: Member, S: Scripted, G: Gate, R: Wait>(
     rt: &'a R,
     alloc: Global,
     nodes: &'a Cluster<N, Place<S>>,
@@ -104,7 +104,7 @@ fn workers_for<'a, N: Member, S: Scripted, G: Gate, R: Wait>(
     let mut crew = Vec::with_capacity(alloc, workers as usize)?;
     for first in 0..workers {
         let own = nodes.split(pass);
-        crew.push(worker(
+        crew.push(ready_worker(
             rt, alloc, nodes, own, blocks, first, gate, stop,
         ))?;
     }
