@@ -19,7 +19,12 @@ impl<N: Member, T: Luggage> Cluster<N, T> {
     /// # Errors
     ///
     /// By the fault: `Nothing` where there is no piece at the place. `Busy` names the addressee, whose turn was out.
-    pub fn carry_if(&self, pass: &mut Pass, from: &mut Held<N, T>, place: usize) -> Result<(), TryFault>
+    pub fn carry_if(
+        &self,
+        pass: &mut Pass,
+        from: &mut Held<N, T>,
+        place: usize,
+    ) -> Result<(), TryFault>
         requires here { IsOf self.now pass.old }
         requires held { IsHeld N.state (shape_of self.now) (view_of pass.old) from.old }
         ensures here { IsOf self.now pass.new }

@@ -53,9 +53,7 @@ where
         return Err(OutOfMemory);
     };
     let stop = AtomicBool::new(false);
-    let pass = work_all(
-        rt, alloc, &cluster, first, blocks, workers, gate, &stop,
-    )?;
+    let pass = work_all(rt, alloc, &cluster, first, blocks, workers, gate, &stop)?;
     close_all(rt, alloc, cluster, pass)
 }
 

@@ -104,9 +104,7 @@ fn workers_for<'a, N: Member, S: Scripted, G: Gate, R: Wait>(
     let mut crew = Vec::with_capacity(alloc, workers as usize)?;
     for first in 0..workers {
         let own = nodes.split(pass);
-        crew.push(ready_worker(
-            rt, alloc, nodes, own, blocks, first, gate, stop,
-        ))?;
+        crew.push(ready_worker(rt, alloc, nodes, own, blocks, first, gate, stop))?;
     }
     Ok(crew)
 }

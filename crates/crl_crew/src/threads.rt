@@ -1,5 +1,5 @@
 //! Tasks that run at once, each in a thread of its own.
-ghost use Rattle.std.specs.Prelude.{◌≡◌, IfOk, vec_len};
+ghost use Rattle.std.specs.Prelude.{◌≡◌, length, IfOk};
 ghost use Rattle.std.specs.List.{All};
 ghost use Rattle.crl_crew.specs.Tasks.{AreEndsOf};
 
@@ -37,7 +37,7 @@ pub(crate) fn run_all<R: Threads + Sync, J: Task + Send + Drop>(
     tasks: Vec<J>,
 ) -> Result<Vec<Result<Pass, OutOfMemory>>, OutOfMemory>
     requires { All J.can_run tasks.items }
-    ensures many { IfOk result (λ ends. vec_len ends ≡ vec_len tasks) }
+    ensures many { IfOk result (λ ends. length ends.items ≡ length tasks.items) }
     ensures ends { IfOk result (λ ends. AreEndsOf J.leaves tasks.items ends.items) }
 {
     map_vec(

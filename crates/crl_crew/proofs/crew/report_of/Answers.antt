@@ -7,9 +7,11 @@ use Rattle.crl_crew.proofs.Runs.{reached, as_many}
 use Rattle.crl_crew.proofs.crew.report_of.Goals as goal
 
 pub finish-requires-clause-begun : goal.finish-requires-clause-begun
-finish-requires-clause-begun g c =
-    (c.args.capacity, reached (λ (place : Place g.row.S.Denot). place.player) c.args.nodes c.args.capacity g.S.Scripted.blocks (map (λ b. b.items) c.args.blocks.now) (world_seen g.N.Member.state c.args.closed.world)
-    c.args.closed.luggage.items c.in-Ok.players.items c.requires.script c.in-Ok.ensures c.requires.end c.plays_are_runs.ensures)
+finish-requires-clause-begun g c = (
+  c.args.capacity,
+  reached (λ (place : Place g.row.S.Denot). place.player) c.args.nodes c.args.capacity g.S.Scripted.blocks (map (λ b. b.items) c.args.blocks.now) (world_seen g.N.Member.state c.args.closed.world)
+      c.args.closed.luggage.items c.in-Ok.players.items c.requires.script c.in-Ok.ensures c.requires.end c.plays_are_runs.ensures,
+)
 
 pub returns-in-Ok : goal.returns-in-Ok
 returns-in-Ok g c =
