@@ -141,9 +141,7 @@ module _ (blocks : List (List Statement)) (order : Order) (w : World) (players :
         (after.many, λ capacity words k at. is_over capacity words k at (taken capacity _ (at_turn capacity words k at)).0))
 
     pub turns_last : most_turns (length players) (statements_in (length players) blocks) ≤ n → RunIsOver blocks rest w players v later
-    turns_last over = (
-      after.many,
-      λ capacity words k at.
-          let most : most_turns (length later) (statements_in (length later) blocks) ≤ n = subst (λ m. most_turns m (statements_in m blocks) ≤ n) (sym after.many) over in
-          is_over capacity words k at ((chosen_on (length later) capacity blocks (words_then k words rest) (k + n) are).last (omega arith)),
-    )
+    turns_last over =
+        (after.many, λ capacity words k at.
+        let most : most_turns (length later) (statements_in (length later) blocks) ≤ n = subst (λ m. most_turns m (statements_in m blocks) ≤ n) (sym after.many) over in
+        is_over capacity words k at ((chosen_on (length later) capacity blocks (words_then k words rest) (k + n) are).last (omega arith)))

@@ -15,20 +15,15 @@ pub is_stuck-stuck-requires : goal.is_stuck-stuck-requires
 is_stuck-stuck-requires g c =
     let ended = c.in_ok-take_turns.ensures in
     record {
-      nodes = (
-        c.requires.nodes.1 ∙ sym ended.0,
-        sym (length-map c.take_turns.new.world.nodes g.N.Member.state)
-            ∙ rest_counted (map (λ b. b.items) c.args.blocks.now) (words_to_come c.args.order.now) (world_seen g.N.Member.state c.args.world.now) c.args.players.now (world_seen g.N.Member.state c.take_turns.new.world) c.take_turns.new.players c.requires.statements ended c.requires.begun,
-      );
+      nodes = (c.requires.nodes.1 ∙ sym ended.0, sym (length-map c.take_turns.new.world.nodes g.N.Member.state)
+          ∙ rest_counted (map (λ b. b.items) c.args.blocks.now) (words_to_come c.args.order.now) (world_seen g.N.Member.state c.args.world.now) c.args.players.now (world_seen g.N.Member.state c.take_turns.new.world) c.take_turns.new.players c.requires.statements ended c.requires.begun);
     }
 
 pub report_of-requires-clause-nodes : goal.report_of-requires-clause-nodes
 report_of-requires-clause-nodes g c =
-    let ended = c.in_ok-take_turns.ensures in (
-      c.requires.nodes.1 ∙ sym ended.0,
-      sym (length-map c.take_turns.new.world.nodes g.N.Member.state)
-          ∙ rest_counted (map (λ b. b.items) c.args.blocks.now) (words_to_come c.args.order.now) (world_seen g.N.Member.state c.args.world.now) c.args.players.now (world_seen g.N.Member.state c.take_turns.new.world) c.take_turns.new.players c.requires.statements ended c.requires.begun,
-    )
+    let ended = c.in_ok-take_turns.ensures in
+    (c.requires.nodes.1 ∙ sym ended.0, sym (length-map c.take_turns.new.world.nodes g.N.Member.state)
+    ∙ rest_counted (map (λ b. b.items) c.args.blocks.now) (words_to_come c.args.order.now) (world_seen g.N.Member.state c.args.world.now) c.args.players.now (world_seen g.N.Member.state c.take_turns.new.world) c.take_turns.new.players c.requires.statements ended c.requires.begun)
 
 pub report_of-requires-clause-messages : goal.report_of-requires-clause-messages
 report_of-requires-clause-messages g c =
