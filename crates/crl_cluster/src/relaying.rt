@@ -13,8 +13,18 @@ use crl_member::Member;
 use crl_model::NodeNo;
 
 impl<N: Member, T: Luggage> Cluster<N, T> {
-    /// The piece at this place of the held node's outbox goes to its addressee, which is held for it.
-    fn carry_if(&self, pass: &mut Pass, from: &mut Held<N, T>, place: usize) -> Result<(), TryFault>
+    /// The piece at this place of the held node's outbox goes to its addressee, which is held for it and released on every
+    /// answer.
+    ///
+    /// # Errors
+    ///
+    /// By the fault: `Nothing` where there is no piece at the place. `Busy` names the addressee, whose turn was out.
+    pub fn carry_if(
+        &self,
+        pass: &mut Pass,
+        from: &mut Held<N, T>,
+        place: usize,
+    ) -> Result<(), TryFault>
         requires here { IsOf self.now pass.old }
         requires held { IsHeld N.state (shape_of self.now) (view_of pass.old) from.old }
         ensures here { IsOf self.now pass.new }

@@ -4,8 +4,13 @@
 
 ghost use Rattle.crl_plays.specs.Plays.{PlaysAreRuns};
 
+use crl_deeds::theorems::{choices_give_all_runs, choices_make_runs};
+
 /// Where each node of a run is somewhere in its statements, by what it heard alone, the run is one that the script and some
-/// order of steps choose.
+/// order of steps choose: up to its last event, with the statements that each node has left, and its drafts.
 pub fn plays_are_runs()
     ensures { PlaysAreRuns }
-{}
+{
+    choices_make_runs();
+    choices_give_all_runs();
+}

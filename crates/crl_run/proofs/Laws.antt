@@ -5,3 +5,10 @@ pub use Rattle.crl_run.proofs.Events.{chosen_few}
 pub use Rattle.crl_run.proofs.Ending.{follow_account, turns_fit}
 -- What every script is to `run`.
 pub use Rattle.crl_run.proofs.Scripts.{are_statements, are_short, statements_in_sum}
+-- A node by itself: the guards that a free node of a run holds, what it does for a statement, and what it holds after an
+-- event that it hears.
+pub use Rattle.crl_run.proofs.ActorLemmas.{begins, takes, keeps}
+pub use Rattle.crl_run.proofs.Fitting.{can_act, exclusive, act_fits}
+pub use Rattle.crl_run.proofs.Unguarded.{IsUnguarded, act_unguarded}
+pub use Rattle.crl_run.proofs.Heard.{none_held, plain_verdict, SpendsOne, act_spends, hears_answer, hears_call}
+pub use Rattle.crl_run.proofs.Taken.{changed_holds, call_answer}

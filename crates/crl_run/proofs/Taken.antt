@@ -46,7 +46,7 @@ module _ (heard : List Heard) (old : List Given) (h : HoldsHeard heard old) wher
   with_holds : (name : _) (f : List ℕ → List ℕ) (new : List Given) → KeepsSize f (newest name old) → new ≡ guards_with name f old → HoldsHeard heard new
   with_holds name f new k e = subst (λ gs. HoldsHeard heard gs) (sym e) (record { like = λ q. like_chain (guards_of q (guards_with name f old)) _ _ (with_of name f q old k) (h.like q); shown = h.shown })
 
-  changed_holds : (s : Statement) (does : Act) (new : List Given) → is_change s ≡ true → CanAct None s old → Acts None s old does new → HoldsHeard heard new
+  pub changed_holds : (s : Statement) (does : Act) (new : List Given) → is_change s ≡ true → CanAct None s old → Acts None s old does new → HoldsHeard heard new
   changed_holds (statement.Call c) does new e can acts = cc
   changed_holds (statement.Put name offset bytes) does new e can acts = with_holds name (put_at offset bytes) new (keeps_size _ (offset + length bytes) (newest name old) (λ b. put_length offset bytes b) can) acts.1
   changed_holds (statement.Add name offset number) does new e can acts =

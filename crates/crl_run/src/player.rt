@@ -52,6 +52,13 @@ impl Player {
         }
     }
 
+    /// How many statements it took.
+    pub fn place(&self) -> usize
+        ensures { result ≡ self.now.place }
+    {
+        self.place
+    }
+
     /// Whether no statement is left of these.
     pub fn is_done(&self, statements: &[Statement]) -> bool
         ensures { result ≡ is_empty (drop self.now.place statements.now) }

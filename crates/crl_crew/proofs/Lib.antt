@@ -1,0 +1,9 @@
+mod Calls
+mod Doable
+mod Places
+mod Quiet
+mod Runs
+mod Statements
+mod Taking
+mod Teams
+mod Views
