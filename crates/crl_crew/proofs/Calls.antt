@@ -1,5 +1,5 @@
 -- What a statement leads to: a change of the drafts, or a call for it.
-use Rattle.std.proofs.Common.{◌≡◌, refl, ◌&&◌, Bool, true, false, Option, Some, None, ℕ, List, length}
+use Rattle.std.proofs.Common.{◌≡◌, refl, ◌&&◌, true, false, Option, Some, None, ℕ, List, length}
 use Rattle.crl_model.specs.declared.name.Name.{Name}
 use Rattle.crl_model.specs.declared.call.Call.{Call}
 use Rattle.crl_model.specs.declared.call.Call.TheVariants as call

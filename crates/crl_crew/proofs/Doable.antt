@@ -10,10 +10,10 @@ use Rattle.crl_protocol.specs.Verdict.{verdict}
 use Rattle.crl_protocol.specs.World.{is_call}
 use Rattle.crl_deeds.specs.Laws.{IsStatement}
 use Rattle.crl_talk.specs.Guards.{Given}
-use Rattle.crl_member.specs.Fitting.{MayCall, goes_by_guard}
+use Rattle.crl_member.specs.Fitting.{goes_by_guard}
 use Rattle.crl_run.specs.declared.act.Act.{Act}
 use Rattle.crl_run.specs.declared.act.Act.TheVariants as act
-use Rattle.crl_run.specs.Players.{newest, IsOfKind}
+use Rattle.crl_run.specs.Players.{IsOfKind}
 use Rattle.crl_run.specs.Acting.{plain_call, CanAct, Acts}
 use Rattle.crl_run.specs.Actors.{asked_call, call_made}
 use Rattle.crl_run.specs.Fits.{GuardFits}

@@ -1,13 +1,13 @@
 -- A player stands for what its node heard, after each event of the node.
-use Rattle.std.proofs.Common.{◌≡◌, ◌∙◌, sym, ap, refl, subst, ◌<◌, ◌==◌, if◌then◌else◌, true, ℕ, List, [], ◌∷◌, ◌++◌, drop, eq-eqb}
+use Rattle.std.proofs.Common.{◌≡◌, ◌∙◌, sym, ap, refl, subst, ◌==◌, if◌then◌else◌, ℕ, List, [], ◌∷◌, ◌++◌, drop, eq-eqb}
 use Rattle.std.proofs.lemmas.Bool.{cond-true}
 use Rattle.crl_model.specs.declared.event.Event.{Event}
 use Rattle.crl_model.specs.declared.event.Event.TheVariants as event
 use Rattle.crl_model.specs.declared.statement.Statement.{Statement}
 use Rattle.crl_protocol.specs.Node.{Answer}
-use Rattle.crl_protocol.specs.Talk.{Heard, Called, Collected, hears_of, hears}
+use Rattle.crl_protocol.specs.Talk.{Heard, Collected}
 use Rattle.crl_protocol.specs.World.{new_world, step, IsRunFrom}
-use Rattle.crl_protocol.specs.Chosen.{Actor, takes_guard}
+use Rattle.crl_protocol.specs.Chosen.{Actor}
 use Rattle.crl_talk.specs.Guards.{Given}
 use Rattle.crl_talk.specs.Script.{Drafts, drafts_given, no_drafts}
 use Rattle.crl_plays.specs.Plays.{Plays, begins, collects}

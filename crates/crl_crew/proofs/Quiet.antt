@@ -1,11 +1,10 @@
 -- A held node after what is no statement, and what a pass holds before and after it.
-use Rattle.std.proofs.Common.{◌≡◌, ◌∙◌, sym, ap, refl, subst, ℕ, List, [], ◌∷◌, ◌++◌}
+use Rattle.std.proofs.Common.{◌≡◌, ◌∙◌, sym, ap, subst, ℕ, List, ◌++◌}
 use Rattle.crl_model.specs.declared.event.Event.TheVariants as event
 use Rattle.crl_model.specs.declared.statement.Statement.{Statement}
 use Rattle.crl_protocol.specs.Node.{Node, Answer}
-use Rattle.crl_protocol.specs.World.{new_world, step}
+use Rattle.crl_protocol.specs.World.{new_world}
 use Rattle.crl_deeds.proofs.Laws.{append_nil}
-use Rattle.crl_turns.specs.declared.turned.Shape.{Shape}
 use Rattle.crl_turns.specs.declared.faults.CloseWhy.{CloseWhy}
 use Rattle.crl_turns.specs.declared.faults.CloseWhy.TheVariants.{OutOfMemory, Busy}
 use Rattle.crl_turns.specs.declared.view.View.{View}
@@ -17,16 +16,16 @@ use Rattle.crl_turns.proofs.Laws.{holds_what_it_has}
 use Rattle.crl_cluster.specs.declared.cluster.Cluster.{Cluster}
 use Rattle.crl_cluster.specs.declared.cluster.Pass.{Pass}
 use Rattle.crl_cluster.specs.declared.held.Held.{Held}
-use Rattle.crl_cluster.specs.Standing.{world_at, heard_at, hears_then}
+use Rattle.crl_cluster.specs.Standing.{heard_at, hears_then}
 use Rattle.crl_cluster.specs.Clusters.{view_of, shape_of, IsOf, IsHeld, IsSameHeld}
 use Rattle.crl_cluster.specs.Acting.{Comes, IsDone}
 use Rattle.crl_cluster.specs.Closing.{IsNotClosed}
 use Rattle.crl_run.specs.PlayerState.{PlayerState}
 use Rattle.crl_run.specs.Players.{guards_given}
 use Rattle.crl_crew.specs.Standing.{StandsAt}
-use Rattle.crl_crew.specs.Working.{HoldsOnly, IsIdle, WorksAt, HeardNothing, StaysAt}
+use Rattle.crl_crew.specs.Working.{IsIdle, WorksAt, HeardNothing, StaysAt}
 use Rattle.crl_crew.proofs.Places.{stands_collected}
-use Rattle.crl_crew.proofs.Views.{only_as, comes_only}
+use Rattle.crl_crew.proofs.Views.{comes_only}
 
 module _ {N T A B : Type 0} (state : N → Node) (cluster : Cluster N T A B) (pass : Pass) (held : Held N T) (after : Pass) (held_after : Held N T) where
   -- a piece was handled, which the node doesn't hear

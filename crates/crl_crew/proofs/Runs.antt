@@ -1,21 +1,18 @@
 -- What the workers leave is a run on its way, which some order of steps chose.
-use Rattle.std.proofs.Common.{◌≡◌, ◌∙◌, sym, ap, refl, subst, ◌<◌, nat_lt, Bool, true, false, ℕ, zero, suc, List, [], ◌∷◌, length, map, drop, arith, Option, Some, None}
+use Rattle.std.proofs.Common.{◌≡◌, ◌∙◌, sym, ap, refl, subst, ◌<◌, nat_lt, Bool, true, false, ℕ, zero, suc, List, [], ◌∷◌, length, map, drop, arith, Some}
 use Rattle.std.specs.Prelude.{slice_get}
 use Rattle.std.proofs.lemmas.Bool.{ltb-true, lt-ltb}
 use Rattle.std.proofs.lemmas.List.{length-map}
 use Rattle.crl_model.specs.declared.statement.Statement.{Statement}
 use Rattle.crl_protocol.specs.Talk.{Heard, hears}
-use Rattle.crl_protocol.specs.World.{World, new_world, world_of}
+use Rattle.crl_protocol.specs.World.{World, new_world}
 use Rattle.crl_protocol.specs.Chosen.{block_of}
-use Rattle.crl_deeds.specs.Laws.{IsChosenBySome}
 use Rattle.crl_talk.specs.Script.{Drafts, no_drafts}
 use Rattle.crl_plays.specs.Plays.{Plays, IsFollowed, PlaysAreRuns}
-use Rattle.crl_cluster.specs.Standing.{heard_at}
 use Rattle.crl_cluster.specs.Starting.{shape_with}
 use Rattle.crl_run.specs.PlayerState.{PlayerState}
 use Rattle.crl_run.specs.Players.{newest}
-use Rattle.crl_run.specs.Playing.{player_of, StandsFor}
-use Rattle.crl_run.specs.Staging.{PlayerStands}
+use Rattle.crl_run.specs.Playing.{player_of}
 use Rattle.crl_run.specs.Actors.{IsActor, IsDraftOf}
 use Rattle.crl_run.specs.Hearing.{HoldsHeard}
 use Rattle.crl_run.specs.Finishing.{IsAtTurn}

@@ -1,38 +1,31 @@
 -- A node takes its next statement, and its player stands for what it heard then.
-use Rattle.std.proofs.Common.{◌≡◌, ◌∙◌, sym, ap, refl, subst, ◌<◌, ◌==◌, ◌&&◌, true, false, ℕ, suc, Option, Some, None, List, [], ◌∷◌, ◌++◌, drop}
+use Rattle.std.proofs.Common.{◌≡◌, ◌∙◌, sym, ap, refl, subst, ◌<◌, ℕ, suc, Some, None, List, [], ◌∷◌, ◌++◌, drop}
 use Rattle.crl_model.specs.declared.call.Call as calls
-use Rattle.crl_model.specs.declared.call.Call.TheVariants as call
-use Rattle.crl_model.specs.declared.call.Refusal.{Refusal}
 use Rattle.crl_model.specs.declared.event.Event.{Event}
 use Rattle.crl_model.specs.declared.event.Event.TheVariants as event
 use Rattle.crl_model.specs.declared.statement.Statement.{Statement}
-use Rattle.crl_model.specs.declared.statement.Statement.TheVariants as statement
 use Rattle.crl_protocol.specs.Node.{Node, Answer, Free}
 use Rattle.crl_protocol.specs.Calls.{node_calls}
 use Rattle.crl_protocol.specs.Verdict.{verdict}
 use Rattle.crl_protocol.specs.Talk.{Called}
-use Rattle.crl_protocol.specs.World.{World, new_world, step, is_call, IsRun, IsRunFrom}
-use Rattle.crl_protocol.specs.Chosen.{Actor, call_of, is_change, is_allowed, after_change}
-use Rattle.crl_deeds.specs.Laws.{IsStatement}
+use Rattle.crl_protocol.specs.World.{new_world, step, IsRun, IsRunFrom}
+use Rattle.crl_protocol.specs.Chosen.{Actor, after_change}
 use Rattle.crl_talk.specs.Guards.{Given}
 use Rattle.crl_talk.specs.Script.{CallsFor, drafts_given}
 use Rattle.crl_plays.specs.Plays.{Plays, HasHeard}
 use Rattle.crl_plays.specs.Plays as plays
 use Rattle.crl_turns.specs.declared.turned.Shape.{Shape}
-use Rattle.crl_member.specs.Fitting.{MayCall}
 use Rattle.crl_cluster.specs.Standing.{world_at, heard_at, MayCome, hears_then}
 use Rattle.crl_run.specs.declared.act.Act.{Act}
-use Rattle.crl_run.specs.declared.act.Act.TheVariants as act
 use Rattle.crl_run.specs.PlayerState.{PlayerState}
 use Rattle.crl_run.specs.Players.{guards_given}
-use Rattle.crl_run.specs.Acting.{CanAct, Acts, guard_spent}
-use Rattle.crl_run.specs.Actors.{IsActor, IsExclusive, asked_call, call_made, IsTakenBy}
+use Rattle.crl_run.specs.Acting.{CanAct, Acts}
+use Rattle.crl_run.specs.Actors.{IsExclusive, asked_call, call_made, IsTakenBy}
 use Rattle.crl_run.specs.Hearing.{HoldsHeard, Spends}
 use Rattle.crl_run.specs.Fits.{GuardFits}
 use Rattle.crl_run.proofs.Laws as run
 use Rattle.crl_run.proofs.Laws.{SpendsOne, IsUnguarded}
 use Rattle.crl_crew.specs.Standing.{StandsAt}
-use Rattle.crl_crew.specs.Driving.{MayDo}
 use Rattle.crl_crew.proofs.Calls.{change_of, call_for}
 use Rattle.crl_crew.proofs.Places.{stands_as, actor_given, heard_own}
 

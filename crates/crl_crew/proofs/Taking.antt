@@ -1,32 +1,30 @@
 -- A held node takes its next statement.
-use Rattle.std.proofs.Common.{◌≡◌, ◌∙◌, sym, ap, refl, subst, ◌<◌, ◌+◌, true, ℕ, zero, suc, Option, Some, None, List, [], ◌∷◌, ◌++◌, length, drop, get_or, arith}
+use Rattle.std.proofs.Common.{◌≡◌, ◌∙◌, sym, ap, refl, subst, ◌<◌, true, ℕ, zero, suc, Option, Some, None, List, [], ◌∷◌, ◌++◌, length, drop, get_or, arith}
 use Rattle.std.specs.List.{All}
 use Rattle.crl_model.specs.declared.call.Call as calls
-use Rattle.crl_model.specs.declared.call.Refusal.{Refusal}
 use Rattle.crl_model.specs.declared.event.Event.{Event}
 use Rattle.crl_model.specs.declared.statement.Statement.{Statement}
 use Rattle.crl_protocol.specs.Node.{Node, Activity, Free, Waiting, Ready}
 use Rattle.crl_protocol.specs.Chosen.{block_of}
 use Rattle.crl_protocol.specs.Verdict.{verdict}
-use Rattle.crl_protocol.specs.World.{step, is_free, IsRun}
+use Rattle.crl_protocol.specs.World.{is_free, IsRun}
 use Rattle.crl_deeds.specs.Laws.{IsStatement}
 use Rattle.crl_talk.specs.Guards.{Given}
 use Rattle.crl_turns.specs.declared.turned.Shape.{Shape}
-use Rattle.crl_turns.specs.declared.view.View.{View}
 use Rattle.crl_cluster.specs.declared.cluster.Cluster.{Cluster}
 use Rattle.crl_cluster.specs.declared.cluster.Pass.{Pass}
 use Rattle.crl_cluster.specs.declared.held.Held.{Held}
 use Rattle.crl_cluster.specs.Standing.{world_at, heard_at}
-use Rattle.crl_cluster.specs.Clusters.{view_of, shape_of, IsOf, IsHeld}
+use Rattle.crl_cluster.specs.Clusters.{view_of, shape_of, IsOf}
 use Rattle.crl_cluster.specs.Histories.{FrontIsHistory}
 use Rattle.crl_run.specs.declared.act.Act.{Act}
 use Rattle.crl_run.specs.PlayerState.{PlayerState}
 use Rattle.crl_run.specs.Players.{guards_given}
-use Rattle.crl_run.specs.Acting.{IsShort, CanAct, Acts}
+use Rattle.crl_run.specs.Acting.{CanAct, Acts}
 use Rattle.crl_run.specs.Actors.{asked_call, call_made, IsTakenBy}
 use Rattle.crl_run.proofs.Laws.{SpendsOne}
 use Rattle.crl_crew.specs.Standing.{StandsAt, AreTaken}
-use Rattle.crl_crew.specs.Driving.{IsStill, IsEventOf, IsDoneFor, MayDo}
+use Rattle.crl_crew.specs.Driving.{IsDoneFor, MayDo}
 use Rattle.crl_crew.specs.Working.{IsScriptOf, WorksAt}
 use Rattle.crl_crew.proofs.Doable.{may_do}
 use Rattle.crl_crew.proofs.Statements as one

@@ -1,5 +1,5 @@
 -- What the tasks of workers leave.
-use Rattle.std.proofs.Common.{◌≡◌, subst, sym, ◌<◌, List, length}
+use Rattle.std.proofs.Common.{◌≡◌, subst, ◌<◌, List, length}
 use Rattle.std.specs.Prelude.{IfOk, slice_index_or}
 use Rattle.std.specs.List.{All}
 use Rattle.std.specs.declared.result.Result.{Result}

@@ -3,7 +3,6 @@ use Rattle.std.specs.Prelude.{◌≡◌, ℕ, List, length}
 use Rattle.crl_model.specs.declared.statement.Statement.{Statement}
 use Rattle.crl_protocol.specs.Node.{Node}
 use Rattle.crl_deeds.specs.Laws.{AreStatements}
-use Rattle.crl_turns.specs.declared.turned.Shape.{Shape}
 use Rattle.crl_turns.specs.declared.view.View.{View}
 use Rattle.crl_turns.specs.declared.view.Place.TheVariants.{Free}
 use Rattle.crl_turns.specs.Rule.{value_place}

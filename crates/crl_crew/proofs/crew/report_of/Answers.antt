@@ -1,7 +1,7 @@
-use Rattle.std.proofs.Common.{◌≡◌, subst, false, map, length}
+use Rattle.std.proofs.Common.{subst, false, map}
 use Rattle.std.specs.Prelude.{MatchResult}
 use Rattle.crl_world.specs.Seen.{world_seen}
-use Rattle.crl_run.specs.Finishing.{IsAtTurn, IsReportOfSome, IsFaultOfSome}
+use Rattle.crl_run.specs.Finishing.{IsReportOfSome, IsFaultOfSome}
 use Rattle.crl_crew.specs.declared.place.Place.{Place}
 use Rattle.crl_crew.proofs.Runs.{reached, as_many}
 use Rattle.crl_crew.proofs.crew.report_of.Goals as goal
