@@ -22,4 +22,6 @@ mod sections;
 #[cfg(test)]
 mod sizes;
 #[cfg(test)]
+mod threads;
+#[cfg(test)]
 mod words;

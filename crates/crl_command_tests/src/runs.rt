@@ -9,6 +9,7 @@ use crl_cases::page::{first_wrong, without_feed};
 use crl_cases::trial::{ROOM, answered, words_of};
 use crl_cli::answer::top;
 use crl_cli::status::Status;
+use crl_crew::NoGate;
 use crl_model::OutOfMemory;
 use crl_model::bytes::Bytes;
 use crl_outside::memory_sink::{MemorySink, NullSink};
@@ -62,7 +63,14 @@ fn the_program_prints_behind_what_was_printed(rt: HostRuntime) -> Result<(), Fai
     let mut sink = MemorySink::new(rt.alloc(), ROOM)?;
     for script in ["nodes 1", "nodes 2\nnode 1\ncreate a 1"] {
         let mut source = SafeSource::new(Bytes::copy_of(rt.alloc(), script.as_bytes())?);
-        let status = top(&rt, rt.alloc(), words.as_slice(), &mut source, &mut sink);
+        let status = top(
+            &rt,
+            rt.alloc(),
+            words.as_slice(),
+            &mut source,
+            &mut sink,
+            &NoGate,
+        );
         assert_eq!(rt; status, Status::Ok);
         let mut source = SafeSource::new(Bytes::copy_of(rt.alloc(), script.as_bytes())?);
         let status = top(
@@ -71,6 +79,7 @@ fn the_program_prints_behind_what_was_printed(rt: HostRuntime) -> Result<(), Fai
             words.as_slice(),
             &mut source,
             &mut NullSink,
+            &NoGate,
         );
         assert_eq!(rt; status, Status::Ok);
     }

@@ -1,5 +1,5 @@
 -- What is returned of a run whose end was printed.
-use Rattle.std.proofs.Common.{◌≡◌, sym, false, true, ℕ, List, subst, Ok, Err}
+use Rattle.std.proofs.Common.{◌≡◌, sym, false, ℕ, List, subst, Ok, Err}
 use Rattle.std.specs.Prelude.{Result, MatchResult}
 use Rattle.crl_model.specs.Reports.{Reported}
 use Rattle.crl_model.specs.declared.statement.Statement.{Statement}

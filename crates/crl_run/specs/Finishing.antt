@@ -1,5 +1,5 @@
 -- A run that others began, and its report: some words choose it.
-use Rattle.std.specs.Prelude.{◌≡◌, ℕ, Bool, List, length}
+use Rattle.std.specs.Prelude.{ℕ, Bool, List, length}
 use Rattle.crl_model.specs.Reports.{Reported}
 use Rattle.crl_model.specs.declared.statement.Statement.{Statement}
 use Rattle.crl_protocol.specs.World.{World}

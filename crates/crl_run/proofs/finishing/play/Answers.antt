@@ -1,4 +1,4 @@
-use Rattle.std.proofs.Common.{◌≡◌, ◌≤◌, ◌^◌, ◌∙◌, sym, length, map}
+use Rattle.std.proofs.Common.{◌∙◌, sym, length, map}
 use Rattle.std.proofs.lemmas.List.{length-map}
 use Rattle.crl_order.specs.Words.{words_to_come}
 use Rattle.crl_protocol.specs.World.{messages_sent}

@@ -1,6 +1,5 @@
-use Rattle.std.proofs.Common.{◌≡◌, ◌≤◌, ◌^◌, ◌∙◌, sym, subst, length, map}
+use Rattle.std.proofs.Common.{length, map}
 use Rattle.crl_order.specs.Words.{words_to_come}
-use Rattle.crl_stuck.specs.Ends.{statements_in}
 use Rattle.crl_world.specs.Seen.{world_seen}
 use Rattle.crl_run.proofs.Ending.{begins_there, at_start}
 use Rattle.crl_run.proofs.Returned.{run_returned}

@@ -1,4 +1,4 @@
-use Rattle.std.proofs.Common.{◌≤◌, ◌<◌, ◌^◌, subst, map, arith}
+use Rattle.std.proofs.Common.{◌≤◌, ◌^◌, subst, map, arith}
 use Rattle.crl_world.specs.Seen.{world_seen}
 use Rattle.crl_run.specs.Turning.{TurnIsTaken}
 use Rattle.crl_run.proofs.AllTurns.{turns_begin, some_turn, events_within, turns_more, turns_over, turns_last}
