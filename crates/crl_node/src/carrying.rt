@@ -17,6 +17,7 @@ use crl_wire::Received;
 /// # Errors
 ///
 /// `OutOfMemory`.
+#[tactic(auto, using(crate::proofs::Sending::has_piece, crate::proofs::Sending::has_come))]
 pub(crate) fn ready_carry(
     desk: &mut Desk,
     to: &mut Desk,
@@ -38,6 +39,7 @@ pub(crate) fn ready_carry(
 }
 
 /// Carries the piece at this place of the outbox, which was made ready: what came in its frame goes into the inbox of `to`.
+#[tactic(auto, using(crate::proofs::Sending::put_behind))]
 pub(crate) fn make_carry(
     desk: &mut Desk,
     to: &mut Desk,

@@ -29,6 +29,7 @@ pub(crate) fn send(alloc: Global, outbox: &Mailbox, place: usize) -> Result<Vec<
 /// # Errors
 ///
 /// `OutOfMemory`.
+#[tactic(auto, using(crate::proofs::Sending::only_memory, crate::proofs::Sending::reads_it))]
 pub(crate) fn take_in(alloc: Global, sent: Vec<u8>) -> Result<Received, OutOfMemory>
     requires { HasPiece sent.items }
     ensures { (p : Piece) → decoded sent.items ≡ Ok p → IfOk result (λ came. came ≡ p) }
@@ -36,6 +37,9 @@ pub(crate) fn take_in(alloc: Global, sent: Vec<u8>) -> Result<Received, OutOfMem
     match receive(alloc, sent) {
         Ok(came) => Ok(came),
         Err(WireFault::OutOfMemory) => Err(OutOfMemory),
-        Err(_) => unreachable!(),
+        Err(WireFault::Short) => unreachable!(),
+        Err(WireFault::Long) => unreachable!(),
+        Err(WireFault::BadKind) => unreachable!(),
+        Err(WireFault::BadField) => unreachable!(),
     }
 }
