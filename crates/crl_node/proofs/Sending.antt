@@ -33,19 +33,19 @@ sent_ok items o p (Err why) e is again = tt
 abbrev pub ReadsOnly : List ℕ → Result Piece WireFault → Type 0
 ReadsOnly sent r = (p : Piece) → decoded sent ≡ Ok p → MatchResult r (λ came. came ≡ p) (λ fault. fault ≡ OutOfMemory)
 
-memory_of : {Good : Piece → Type 0} (r : Result Piece WireFault) (f : WireFault) → r ≡ Err f → MatchResult r Good (λ fault. fault ≡ OutOfMemory) → f ≡ OutOfMemory
-memory_of (Ok came) f e h = absurd (cc)
-memory_of (Err g) f e h = let same : g ≡ f = cc in sym same ∙ h
+memory_of : (Good : Piece → Type 0) (r : Result Piece WireFault) (f : WireFault) → r ≡ Err f → MatchResult r Good (λ fault. fault ≡ OutOfMemory) → f ≡ OutOfMemory
+memory_of Good (Ok came) f e h = absurd (cc)
+memory_of Good (Err g) f e h = let same : g ≡ f = cc in sym same ∙ h
 
 pub only_memory : (sent : List ℕ) (r : Result Piece WireFault) (f : WireFault) → HasPiece sent → ReadsOnly sent r → r ≡ Err f → f ≡ OutOfMemory
-only_memory sent r f some only e = memory_of r f e (only some.piece some.again)
+only_memory sent r f some only e = memory_of (λ came. came ≡ some.piece) r f e (only some.piece some.again)
 
-read_of : {Bad : WireFault → Type 0} (p : Piece) (r : Result Piece WireFault) (came : Piece) → r ≡ Ok came → MatchResult r (λ x. x ≡ p) Bad → came ≡ p
-read_of p (Ok x) came e h = let same : x ≡ came = cc in sym same ∙ h
-read_of p (Err f) came e h = absurd (cc)
+read_of : (Bad : WireFault → Type 0) (p : Piece) (r : Result Piece WireFault) (came : Piece) → r ≡ Ok came → MatchResult r (λ x. x ≡ p) Bad → came ≡ p
+read_of Bad p (Ok x) came e h = let same : x ≡ came = cc in sym same ∙ h
+read_of Bad p (Err f) came e h = absurd (cc)
 
 pub reads_it : (sent : List ℕ) (r : Result Piece WireFault) (came : Piece) → ReadsOnly sent r → r ≡ Ok came → (p : Piece) → decoded sent ≡ Ok p → came ≡ p
-reads_it sent r came only e p is = read_of p r came e (only p is)
+reads_it sent r came only e p is = read_of (λ fault. fault ≡ OutOfMemory) p r came e (only p is)
 
 pub has_piece : (o : Option (Taken Piece)) (sent : List ℕ) → IsSent sent o → HasPiece sent
 has_piece None sent h = absurd h
