@@ -16,10 +16,13 @@ use Rattle.crl_protocol.specs.Talk.{hears_of}
 use Rattle.crl_protocol.specs.Verdict.{verdict}
 use Rattle.crl_protocol.specs.World.{World, new_world, step, is_enabled, is_free, is_ready, is_call, IsRunFrom, commits, noted_call, without_bytes}
 use Rattle.crl_deeds.specs.Laws.{touches, node_of}
-use Rattle.crl_member.specs.Members.{TakenIsSafe, CallIsDone, CollectIsDone, CarryIsDone, node_after_handle, addressee_of}
+use Rattle.crl_member.specs.Members.{TakenIsSafe, TakenIsInTable, CallIsDone, CollectIsDone, CarryIsDone, node_after_handle, addressee_of}
 use Rattle.crl_protocol.specs.Calls.{node_calls}
 use Rattle.crl_safety.specs.Safety.{IsSafe, PieceIsSafe}
 use Rattle.crl_sound.proofs.Laws.{pieces_safe, pieces_leave}
+use Rattle.crl_wire.specs.Frame.{IsInTable}
+use Rattle.crl_frames.specs.Frames.{HoldsOf}
+use Rattle.crl_frames.proofs.Laws.{all_to_carry}
 use Rattle.crl_turns.specs.declared.turned.Shape.{Shape}
 use Rattle.crl_turns.specs.declared.view.View.{View}
 use Rattle.crl_turns.specs.Calls.{HasValue}
@@ -178,6 +181,16 @@ module _ (s : Shape) (front : List Event) (run : IsRunFrom (new_world s.parts s.
   unfolding is_enabled
   carry_may =
       both _ _ (lt-ltb i (world_at s front).count (subst (λ k. i < k) (sym (count_at s front run)) few)) (subst (λ (m : Node). nat_lt place (length m.outbox) ≡ true) is (lt-ltb place (length n.outbox) there))
+
+  -- it is one of the table of frames, among at most 64 nodes
+  pub piece_framed : s.parts ≤ 64 → length front ≤ 2 ^ 62 → TakenIsInTable (take_out place n.outbox)
+  piece_framed nodes limit =
+      subst (λ (k : Node). TakenIsInTable (take_out place k.outbox)) (sym is)
+      (go _ (all_to_carry s.parts s.extra front nodes (record { enabled = run; limit = limit }) i place (subst (λ k. i < k) (sym (count_at s front run)) few)))
+    where
+      go : (o : Option (Taken Piece)) → HoldsOf IsInTable o → TakenIsInTable o
+      go None h = tt
+      go (Some t) h = h
 
 pub carry_done : (s : Shape) (old new : View) (i j place at : ℕ) (n m n_new m_new : Node) → HasValue i old → HasValue j old → i < s.parts
     → n ≡ (world_at s old.front).nodes i → m ≡ (world_at s old.front).nodes j → place < length n.outbox → addressee_of (take_out place n.outbox) ≡ j

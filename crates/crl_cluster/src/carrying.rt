@@ -1,4 +1,4 @@
-//! A piece goes from one node that is held to another.
+//! A piece goes in its frame from one node that is held to another.
 ghost use Rattle.std.specs.Prelude.{◌≡◌, ◌<◌, length, MatchResult};
 ghost use Rattle.crl_model.specs.declared.event.Event.TheVariants as event;
 ghost use Rattle.crl_protocol.specs.Places.{take_out};
@@ -39,7 +39,7 @@ impl<N: Member, T: Luggage> Cluster<N, T> {
             let new = view_of pass.new in
             MatchResult result (λ _. Comes s (event.Carry from.old.number place) old new) (λ why. IsUndone s old why new) }
     {
-        let Ok(()) = from.behind.node.ready_carry(&mut to.behind.node) else {
+        let Ok(came) = from.behind.node.ready_carry(&mut to.behind.node, place) else {
             return Err(StepFault::OutOfMemory);
         };
         let event = Carrying {
@@ -48,7 +48,7 @@ impl<N: Member, T: Luggage> Cluster<N, T> {
         };
         match self.append_next(pass, &event) {
             Ok(at) => {
-                from.behind.node.make_carry(&mut to.behind.node, at, place);
+                from.behind.node.make_carry(&mut to.behind.node, at, place, came);
                 Ok(())
             }
             Err(why) => Err(why),

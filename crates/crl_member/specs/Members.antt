@@ -18,6 +18,7 @@ use Rattle.crl_protocol.specs.Calls.{node_calls}
 use Rattle.crl_protocol.specs.Receiving.{receives}
 use Rattle.crl_protocol.specs.World.{commits, noted_call, collects, note, put_in}
 use Rattle.crl_safety.specs.Safety.{PieceIsSafe}
+use Rattle.crl_wire.specs.Frame.{IsInTable}
 
 -- what the node waits for
 abbrev pub awaited_of : Activity → Option Awaited
@@ -74,6 +75,16 @@ after_put (Some t) n = put_in t.taken n
 pub record CarryIsDone (at place : ℕ) (from to from' to' : Node) : Type 0 where
   pub sender : from' ≡ after_sent at (event.Carry from.me place) (take_out place from.outbox) from
   pub addressee : to' ≡ after_put (take_out place from.outbox) to
+
+-- it is one of the table of frames
+abbrev pub TakenIsInTable : Option (Taken Piece) → Type 0
+TakenIsInTable None = Unit {0}
+TakenIsInTable (Some t) = IsInTable t.taken
+
+-- it is what was read of its frame
+abbrev pub HasCome : Piece → Option (Taken Piece) → Type 0
+HasCome came None = ⊥
+HasCome came (Some t) = came ≡ t.taken
 
 abbrev pub addressee_of : Option (Taken Piece) → ℕ
 addressee_of None = 0

@@ -12,7 +12,7 @@ ghost use Rattle.crl_safety.specs.Safety.{IsSafe};
 ghost use Rattle.crl_member.specs.Fitting as fitting;
 ghost use Rattle.crl_member.specs.Fitting.{MayCall};
 ghost use Rattle.crl_member.specs.Members.{awaited_of, addressee_of, bytes_at_home, TakenIsSafe};
-ghost use Rattle.crl_member.specs.Members.{CallIsDone, CallIsBack, CollectIsDone, CarryIsDone};
+ghost use Rattle.crl_member.specs.Members.{CallIsDone, CallIsBack, CollectIsDone, CarryIsDone, TakenIsInTable, HasCome};
 ghost use Rattle.crl_member.specs.Members.{node_after_read, node_after_write, node_after_handle};
 
 use crl_guard::{Reading, Writing};
@@ -22,6 +22,7 @@ use crl_model::directory::Section;
 use crl_model::journal::Recorded;
 use crl_model::name::Name;
 use crl_model::{NodeNo, OutOfMemory};
+use crl_wire::Received;
 use std::alloc::Global;
 
 /// A node. A contract sees it as the protocol's node, its state.
@@ -238,24 +239,30 @@ pub trait Member: Sized + Drop {
         Ok(())
     }
 
-    /// Makes ready what it takes to carry a piece from this node to another.
+    /// Makes ready what it takes to carry the piece at this place of the outbox to another node. The piece is one of the table
+    /// of frames: this node encodes its frame, and what `to` reads of that is answered.
     ///
     /// # Errors
     ///
     /// `OutOfMemory`.
-    fn ready_carry(&mut self, to: &mut Self) -> Result<(), OutOfMemory>
+    fn ready_carry(&mut self, to: &mut Self, place: usize) -> Result<Received, OutOfMemory>
+        requires there { place < length (state self.old).outbox }
+        requires in_table { TakenIsInTable (take_out place (state self.old).outbox) }
         ensures state { (state self.new ≡ state self.old) × (state to.new ≡ state to.old) }
-        ensures ready { OnOk result (can_carry self.new to.new) };
+        ensures ready { OnOk result (can_carry self.new to.new) }
+        ensures came { IfOk result (λ came. HasCome came (take_out place (state self.old).outbox)) };
 
-    /// Carries the piece at this place of the outbox into the inbox of `to`, where that was made ready.
-    fn make_carry(&mut self, to: &mut Self, at: u64, place: usize)
+    /// Carries the piece at this place of the outbox into the inbox of `to`, where that was made ready: what comes there is
+    /// the piece that was read of the frame.
+    fn make_carry(&mut self, to: &mut Self, at: u64, place: usize, came: Received)
         requires safe { IsSafe (state self.old) }
         requires position { at < 2 ^ 62 }
         requires there { place < length (state self.old).outbox }
         requires ready { can_carry self.old to.old }
+        requires came { HasCome came (take_out place (state self.old).outbox) }
         ensures { CarryIsDone at place (state self.old) (state to.old) (state self.new) (state to.new) };
 
-    /// Carries the piece at this place of the outbox into the inbox of `to`.
+    /// Carries the piece at this place of the outbox into the inbox of `to`, in its frame.
     ///
     /// # Errors
     ///
@@ -264,11 +271,12 @@ pub trait Member: Sized + Drop {
         requires safe { IsSafe (state self.old) }
         requires position { at < 2 ^ 62 }
         requires there { place < length (state self.old).outbox }
+        requires in_table { TakenIsInTable (take_out place (state self.old).outbox) }
         ensures ok { OnOk result (CarryIsDone at place (state self.old) (state to.old) (state self.new) (state to.new)) }
         ensures err { OnErr result ((state self.new ≡ state self.old) × (state to.new ≡ state to.old)) }
     {
-        self.ready_carry(to)?;
-        self.make_carry(to, at, place);
+        let came = self.ready_carry(to, place)?;
+        self.make_carry(to, at, place, came);
         Ok(())
     }
 

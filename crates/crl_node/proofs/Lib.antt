@@ -5,5 +5,6 @@ mod Frames
 mod Gathers
 mod Keeping
 mod Receives
+mod Sending
 mod Singles
 mod Taking

@@ -3,8 +3,10 @@
 
 mod acting;
 mod calling;
+mod carrying;
 mod concluding;
 mod copies;
+mod framing;
 mod gathering;
 mod handling;
 mod hearing;

@@ -6,6 +6,7 @@ ghost use Rattle.crl_node.specs.Handling.{piece_taken, IsPieceReady};
 ghost use Rattle.crl_node.specs.Nodes.{CanCarry};
 
 use crate::calling::{make_call, make_end_read, make_end_write, ready_call};
+use crate::carrying::{make_carry, ready_carry};
 use crate::concluding::conclude;
 use crate::kits::{CallKit, PieceKit};
 use crate::node::Node;
@@ -22,6 +23,7 @@ use crl_model::name::Name;
 use crl_model::stage::Stage;
 use crl_model::{NodeNo, OutOfMemory};
 use crl_verdict::verdict;
+use crl_wire::Received;
 use std::alloc::Global;
 
 impl Member for Node {
@@ -123,17 +125,12 @@ impl Member for Node {
         make_handle(&mut self.desk, at, place, kit);
     }
 
-    fn ready_carry(&mut self, to: &mut Node) -> Result<(), OutOfMemory> {
-        to.desk.inbox.reserve(1)?;
-        self.desk.make_room(0, 0, 1)
+    fn ready_carry(&mut self, to: &mut Node, place: usize) -> Result<Received, OutOfMemory> {
+        ready_carry(&mut self.desk, &mut to.desk, place)
     }
 
-    fn make_carry(&mut self, to: &mut Node, at: u64, place: usize) {
-        let piece = self.desk.outbox.take(place);
-        let before = self.desk.outbox.len();
-        let node = self.desk.me;
-        conclude(&mut self.desk, at, Event::Carry { node, place }, before);
-        to.desk.inbox.put(piece);
+    fn make_carry(&mut self, to: &mut Node, at: u64, place: usize, came: Received) {
+        make_carry(&mut self.desk, &mut to.desk, at, place, came);
     }
 
     fn records(&self) -> &[Recorded] {

@@ -21,7 +21,10 @@ use Rattle.crl_deeds.proofs.Laws.{all_append}
 use Rattle.crl_regions.proofs.Laws.{count_in_run}
 use Rattle.crl_history.proofs.Laws.{world_then, run_then}
 use Rattle.crl_sound.proofs.Laws.{nodes_safe, pieces_safe, pieces_leave}
-use Rattle.crl_member.specs.Members.{TakenIsSafe}
+use Rattle.crl_member.specs.Members.{TakenIsSafe, TakenIsInTable}
+use Rattle.crl_wire.specs.Frame.{IsInTable}
+use Rattle.crl_frames.specs.Frames.{HoldsOf}
+use Rattle.crl_frames.proofs.Laws.{all_to_carry}
 use Rattle.crl_world.specs.Seen.{NodesAreSafe}
 use Rattle.crl_world.specs.Starting.{IsStarted}
 use Rattle.crl_world.specs.Stepping.{StepIsDone, EventIsDone, CallIsUndone, StepIsUndone, EndIsDone, EndIsUndone, GoesElsewhere}
@@ -130,6 +133,17 @@ module _ (w : World) (r : IsReached w) where
       go (Some t) e =
           let leaves = pieces_leave r.count r.capacity r.run r.enabled i place t (subst (λ n. i < n) counted below) (subst (λ (x : World). take_out place (x.nodes i).outbox ≡ Some t) r.world e) in
           (subst (λ n. t.taken.message.addressee < n) (sym counted) leaves.addressee, leaves.other)
+
+  pub piece_framed : w.events ≤ 1000000 → (i place : ℕ) → i < w.count → w.count ≤ 64 → TakenIsInTable (take_out place (w.nodes i).outbox)
+  piece_framed few i place below nodes =
+      let many = r.events in
+      let limit : length r.run ≤ 2 ^ 62 = omega arith in
+      subst (λ (x : World). TakenIsInTable (take_out place (x.nodes i).outbox)) (sym r.world)
+      (go _ (all_to_carry r.count r.capacity r.run (subst (λ n. n ≤ 64) counted nodes) (record { enabled = r.enabled; limit = limit }) i place (subst (λ (x : World). i < x.count) r.world below)))
+    where
+      go : (o : Option (Taken Piece)) → HoldsOf IsInTable o → TakenIsInTable o
+      go None h = tt
+      go (Some t) h = h
 
 pub handle_node : (i place : ℕ) (w : World) → is_enabled (event.Handle i place) w ≡ true → i < w.count
 unfolding is_enabled

@@ -1,5 +1,5 @@
 -- A choice of a turn: what it needs, and the run after it.
-use Rattle.std.proofs.Common.{◌≡◌, ◌∙◌, sym, ap, refl, ◌<◌, ◌^◌, true, Option, Some, None, ℕ, zero, suc, List, [], ◌∷◌, length, drop, set, get_or, subst, arith}
+use Rattle.std.proofs.Common.{◌≡◌, ◌∙◌, sym, ap, refl, ◌<◌, ◌≤◌, ◌^◌, true, Option, Some, None, ℕ, zero, suc, List, [], ◌∷◌, length, drop, set, get_or, subst, arith}
 use Rattle.std.specs.List.{All}
 use Rattle.std.proofs.lemmas.List.{length-set}
 use Rattle.crl_model.specs.declared.call.Call.{Call}
@@ -13,7 +13,7 @@ use Rattle.crl_protocol.specs.Verdict.{verdict}
 use Rattle.crl_protocol.specs.World.{World, step, is_enabled, is_free}
 use Rattle.crl_protocol.specs.Chosen.{Running, takes_choice, block_of}
 use Rattle.crl_talk.specs.Guards.{Given}
-use Rattle.crl_member.specs.Members.{TakenIsSafe}
+use Rattle.crl_member.specs.Members.{TakenIsSafe, TakenIsInTable}
 use Rattle.crl_world.specs.Seen.{NodesAreSafe}
 use Rattle.crl_world.specs.Stepping.{GoesElsewhere}
 use Rattle.crl_run.specs.declared.act.Act.{Act}
@@ -24,7 +24,7 @@ use Rattle.crl_run.specs.Actors.{asked_call, call_made}
 use Rattle.crl_run.specs.Staging.{AfterTaken}
 use Rattle.crl_run.specs.Making.{IsKeptFrom, CallOfAct, IsMade, MayTake, HasTaken}
 use Rattle.crl_run.specs.Playing.{player_of, StandsFor, IsPossible, CanChoose, SomeCanChoose, HasChosen, AreShort}
-use Rattle.crl_run.proofs.Playing.{counted, all_safe, piece_safe, piece_leaves, all_put, after_answer, after_handle, after_carry}
+use Rattle.crl_run.proofs.Playing.{counted, all_safe, piece_safe, piece_leaves, piece_framed, all_put, after_answer, after_handle, after_carry}
 use Rattle.crl_run.proofs.Taken.{AfterMade, statement_can, statement_fits, statement_taken, statement_made}
 use Rattle.crl_run.proofs.Unguarded.{IsUnguarded, act_unguarded}
 
@@ -40,6 +40,9 @@ module _ (blocks : List (List Statement)) (w : World) (players : List PlayerStat
 
   pub some_leaves : SomeCanChoose blocks w players c → (i place : ℕ) → i < w.count → GoesElsewhere i w.count (take_out place (w.nodes i).outbox)
   some_leaves (capacity, r, k) i place below = piece_leaves capacity blocks r w players k.stands k.way i place below
+
+  pub some_framed : SomeCanChoose blocks w players c → w.events < 2 ^ 62 → (i place : ℕ) → i < w.count → w.count ≤ 64 → TakenIsInTable (take_out place (w.nodes i).outbox)
+  some_framed (capacity, r, k) few i place below = piece_framed capacity blocks r w players k.stands k.way few i place below
 
   possible_of : (capacity : ℕ) (r : Running) → CanChoose capacity blocks r w players c → (d : Choice) → c ≡ d → IsPossible r d
   possible_of capacity r k d e = subst (λ x. IsPossible r x) e k.possible

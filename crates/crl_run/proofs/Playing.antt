@@ -16,8 +16,11 @@ use Rattle.crl_protocol.specs.Chosen.{Running, takes_choice}
 use Rattle.crl_safety.specs.Safety.{IsSafe, PieceIsSafe}
 use Rattle.crl_regions.proofs.Laws.{count_in_run}
 use Rattle.crl_sound.proofs.Laws.{nodes_safe, pieces_safe, pieces_leave}
+use Rattle.crl_wire.specs.Frame.{IsInTable}
+use Rattle.crl_frames.specs.Frames.{HoldsOf}
+use Rattle.crl_frames.proofs.Laws.{all_to_carry}
 use Rattle.crl_talk.specs.Guards.{Given}
-use Rattle.crl_member.specs.Members.{TakenIsSafe}
+use Rattle.crl_member.specs.Members.{TakenIsSafe, TakenIsInTable}
 use Rattle.crl_world.specs.Seen.{NodesAreSafe}
 use Rattle.crl_world.specs.Stepping.{GoesElsewhere}
 use Rattle.crl_run.specs.declared.act.Act.{Act}
@@ -113,6 +116,17 @@ module _ (capacity : ℕ) (blocks : List (List Statement)) (r : Running) (w : Wo
       go (Some t) e =
           let leaves = pieces_leave (length players) capacity r.events way.run i place t (subst (λ n. i < n) counted below) (subst (λ (x : World). take_out place (x.nodes i).outbox ≡ Some t) same e) in
           (subst (λ n. t.taken.message.addressee < n) (sym counted) leaves.addressee, leaves.other)
+
+  pub piece_framed : w.events < 2 ^ 62 → (i place : ℕ) → i < w.count → w.count ≤ 64 → TakenIsInTable (take_out place (w.nodes i).outbox)
+  piece_framed few i place below nodes =
+      let many = as_many in
+      let limit : length r.events ≤ 2 ^ 62 = omega arith in
+      subst (λ (x : World). TakenIsInTable (take_out place (x.nodes i).outbox)) (sym same)
+      (go _ (all_to_carry (length players) capacity r.events (subst (λ n. n ≤ 64) counted nodes) (record { enabled = way.run; limit = limit }) i place (subst (λ (x : World). i < x.count) same below)))
+    where
+      go : (o : Option (Taken Piece)) → HoldsOf IsInTable o → TakenIsInTable o
+      go None h = tt
+      go (Some t) h = h
 
   within : (i : ℕ) → i < w.count → i < length players
   within i below = subst (λ n. i < n) counted below

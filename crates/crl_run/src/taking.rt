@@ -1,10 +1,10 @@
 //! The choices of a turn at one node: its next statement, and the answer for which it waited.
-ghost use Rattle.std.specs.Prelude.{◌≡◌, ◌+◌, ◌<◌, ◌^◌, true, false, length, OnOk};
+ghost use Rattle.std.specs.Prelude.{◌≡◌, ◌+◌, ◌<◌, ◌≤◌, ◌^◌, true, false, length, OnOk};
 ghost use Rattle.crl_model.specs.declared.event.Event.TheVariants as event;
 ghost use Rattle.crl_protocol.specs.Places.{take_out};
 ghost use Rattle.crl_protocol.specs.Verdict as verdict;
 ghost use Rattle.crl_protocol.specs.World.{step, is_enabled};
-ghost use Rattle.crl_member.specs.Members.{TakenIsSafe};
+ghost use Rattle.crl_member.specs.Members.{TakenIsSafe, TakenIsInTable};
 ghost use Rattle.crl_world.specs.Seen.{world_seen, NodesAreSafe};
 ghost use Rattle.crl_world.specs.Stepping.{reading_fits, writing_fits, end_of_reading, end_of_writing, MayEnd, GoesElsewhere};
 ghost use Rattle.crl_run.specs.Acting.{IsShort};
@@ -88,6 +88,7 @@ pub(crate) fn carry_message<N: Member>(
     requires few { world.old.events < 2 ^ 62 }
     requires enabled { is_enabled (event.Carry i place) (world_seen N.state world.old) ≡ true }
     requires elsewhere { let w = world_seen N.state world.old in GoesElsewhere i w.count (take_out place (w.nodes i).outbox) }
+    requires in_table { let w = world_seen N.state world.old in w.count ≤ 64 → TakenIsInTable (take_out place (w.nodes i).outbox) }
     ensures { OnOk result (world_seen N.state world.new ≡ (step (event.Carry i place) (world_seen N.state world.old)).world) }
 {
     match world.carry(i, place) {

@@ -11,11 +11,15 @@ mod form;
 mod header;
 mod kind;
 pub mod laws;
+mod passing;
 mod reading;
+mod received;
 mod rule;
 mod table;
 mod writing;
 
 pub use fault::WireFault;
+pub use passing::{encode, receive};
 pub use reading::decode;
+pub use received::Received;
 pub use writing::{encode_into, frame_len, is_in_table};

@@ -1,5 +1,5 @@
 -- A piece that a member carried, as what the world did.
-use Rattle.std.proofs.Common.{◌≡◌, ◌≢◌, ℕ, ◌+◌, ◌<◌, ◌^◌, ◌==◌, ◌++◌, take, drop, if◌then◌else◌, true, List, length, set, refl, ap, ap₂, sym, ◌∙◌, subst, map, Option, Some, None, ne_eqb, ltb-true}
+use Rattle.std.proofs.Common.{◌≡◌, ◌≢◌, ℕ, ◌+◌, ◌<◌, ◌≤◌, ◌^◌, ◌==◌, ◌++◌, take, drop, if◌then◌else◌, true, List, length, set, refl, ap, ap₂, sym, ◌∙◌, subst, map, Option, Some, None, ne_eqb, ltb-true}
 use Rattle.std.proofs.lemmas.List.{length-map, length-set, get_or_default}
 use Rattle.std.specs.List.{refill}
 use Rattle.std.proofs.Math.Seq.{take-append_seam}
@@ -9,7 +9,7 @@ use Rattle.crl_protocol.specs.Parcels.{Piece}
 use Rattle.crl_protocol.specs.Places.{Taken, take_out}
 use Rattle.crl_protocol.specs.Node.{Node}
 use Rattle.crl_protocol.specs.World.{World, step, is_enabled, carries, note, put_in}
-use Rattle.crl_member.specs.Members.{addressee_of}
+use Rattle.crl_member.specs.Members.{addressee_of, TakenIsInTable}
 use Rattle.crl_world.specs.Members.{Members}
 use Rattle.crl_world.specs.Seen.{node_in, node_at, world_of_nodes, world_seen, IsKept}
 use Rattle.crl_world.specs.Stepping.{EventIsDone, GoesElsewhere, nodes_after_sent, nodes_after_carry}
@@ -98,6 +98,14 @@ module _ {N : Type 0} {state : N → Node} {xs : List N} {events capacity i : �
 
   pub carry_piece : (ys : List N) → ys ≡ xs → place < length (node_at i (map state ys)).outbox
   carry_piece ys is = subst (λ (m : Node). place < length m.outbox) (sym (ap (λ l. node_at i (map state l)) is ∙ sent)) there_old
+
+  -- in a world there are at most 64 nodes
+  pub carry_framed : (ys : List N) → ys ≡ xs → ((world_seen state s).count ≤ 64 → TakenIsInTable (take_out place ((world_seen state s).nodes i).outbox))
+      → TakenIsInTable (take_out place (node_at i (map state ys)).outbox)
+  carry_framed ys is framed =
+      let few = subst (λ (w : World). w.count ≤ 64) (seen b) b.kept.few in
+      let here = subst (λ (w : World). TakenIsInTable (take_out place (w.nodes i).outbox)) (sym (seen b)) (framed few) in
+      subst (λ (m : Node). TakenIsInTable (take_out place m.outbox)) (sym (ap (λ l. node_at i (map state l)) is ∙ sent)) here
 
   carry_step : (ys vs : List N) → ys ≡ xs → map state vs ≡ nodes_after_carry events i j place (map state ys) → world_of_nodes (map state vs) (events + 1) capacity ≡ (step (event.Carry i place) (old b)).world
   carry_step ys vs is did =

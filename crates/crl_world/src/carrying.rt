@@ -1,9 +1,10 @@
 //! A piece goes from one node to another.
-ghost use Rattle.std.specs.Prelude.{◌≡◌, ◌≢◌, ◌<◌, ◌^◌, true, length, map, MatchResult, OnOk, OnErr};
+ghost use Rattle.std.specs.Prelude.{◌≡◌, ◌≢◌, ◌<◌, ◌≤◌, ◌^◌, true, length, map, MatchResult, OnOk, OnErr};
 ghost use Rattle.crl_model.specs.declared.event.Event.TheVariants as event;
 ghost use Rattle.crl_protocol.specs.Places.{take_out};
 ghost use Rattle.crl_protocol.specs.World.{is_enabled};
 ghost use Rattle.crl_safety.specs.Safety.{IsSafe};
+ghost use Rattle.crl_member.specs.Members.{TakenIsInTable};
 ghost use Rattle.crl_world.specs.Seen.{world_seen, NodesAreSafe, node_at};
 ghost use Rattle.crl_world.specs.Stepping.{EventIsDone, StepIsUndone, GoesElsewhere, nodes_after_carry};
 
@@ -25,6 +26,7 @@ fn carry_up<N: Member>(
     requires position { at < 2 ^ 62 }
     requires safe { IsSafe (node_at i (map N.state nodes.old)) }
     requires there { place < length (node_at i (map N.state nodes.old)).outbox }
+    requires in_table { TakenIsInTable (take_out place (node_at i (map N.state nodes.old)).outbox) }
     ensures ok { OnOk result (map N.state nodes.new ≡ nodes_after_carry at i j place (map N.state nodes.old)) }
     ensures err { OnErr result (map N.state nodes.new ≡ map N.state nodes.old) }
 {
@@ -44,6 +46,7 @@ fn carry_down<N: Member>(
     requires position { at < 2 ^ 62 }
     requires safe { IsSafe (node_at i (map N.state nodes.old)) }
     requires there { place < length (node_at i (map N.state nodes.old)).outbox }
+    requires in_table { TakenIsInTable (take_out place (node_at i (map N.state nodes.old)).outbox) }
     ensures ok { OnOk result (map N.state nodes.new ≡ nodes_after_carry at i j place (map N.state nodes.old)) }
     ensures err { OnErr result (map N.state nodes.new ≡ map N.state nodes.old) }
 {
@@ -63,6 +66,7 @@ fn carry_between<N: Member>(
     requires position { at < 2 ^ 62 }
     requires safe { IsSafe (node_at i (map N.state nodes.old)) }
     requires there { place < length (node_at i (map N.state nodes.old)).outbox }
+    requires in_table { TakenIsInTable (take_out place (node_at i (map N.state nodes.old)).outbox) }
     ensures ok { OnOk result (map N.state nodes.new ≡ nodes_after_carry at i j place (map N.state nodes.old)) }
     ensures err { OnErr result (map N.state nodes.new ≡ map N.state nodes.old) }
 {
@@ -74,7 +78,8 @@ fn carry_between<N: Member>(
 }
 
 impl<N: Member> World<N> {
-    /// The piece at this place of the node's outbox comes into the inbox of its addressee.
+    /// The piece at this place of the node's outbox comes into the inbox of its addressee, in its frame. So it is one of the
+    /// table of frames, as in every run of so few nodes.
     ///
     /// # Errors
     ///
@@ -84,6 +89,7 @@ impl<N: Member> World<N> {
         requires safe { NodesAreSafe (world_seen N.state self.old) }
         requires enabled { is_enabled (event.Carry i place) (world_seen N.state self.old) ≡ true }
         requires elsewhere { let w = world_seen N.state self.old in GoesElsewhere i w.count (take_out place (w.nodes i).outbox) }
+        requires in_table { let w = world_seen N.state self.old in w.count ≤ 64 → TakenIsInTable (take_out place (w.nodes i).outbox) }
         ensures { let w = world_seen N.state self.old in
             let v = world_seen N.state self.new in
             MatchResult result (λ _. EventIsDone (event.Carry i place) w v) (StepIsUndone w v) }

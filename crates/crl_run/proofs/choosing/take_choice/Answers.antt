@@ -6,7 +6,7 @@ use Rattle.crl_run.specs.Making.{IsKeptFrom}
 use Rattle.crl_run.specs.PlayerState.{PlayerState}
 use Rattle.crl_world.specs.Seen.{world_seen}
 use Rattle.crl_run.proofs.Playing.{collect_node, handle_node, carry_node}
-use Rattle.crl_run.proofs.Choices.{some_counted, some_safe, some_piece, some_leaves, collect_may, handle_may, carry_may, answer_chosen, handle_chosen, carry_chosen}
+use Rattle.crl_run.proofs.Choices.{some_counted, some_safe, some_piece, some_leaves, some_framed, collect_may, handle_may, carry_may, answer_chosen, handle_chosen, carry_chosen}
 use Rattle.crl_run.proofs.choosing.take_choice.Goals as goal
 
 pub bounds-players-i : goal.bounds-players-i
@@ -47,6 +47,11 @@ pub carry_message-requires-clause-elsewhere : goal.carry_message-requires-clause
 carry_message-requires-clause-elsewhere g c =
     let w = world_seen g.N.Member.state c.args.world.now in
     some_leaves _ w c.args.players.now c.args.choice c.requires.can c.in-Carry.i c.in-Carry.place (carry_node c.in-Carry.i c.in-Carry.place w (carry_may _ w c.args.players.now c.args.choice c.in-Carry.i c.in-Carry.place c.in-Carry.is c.requires.can))
+
+pub carry_message-requires-clause-in_table : goal.carry_message-requires-clause-in_table
+carry_message-requires-clause-in_table g c =
+    let w = world_seen g.N.Member.state c.args.world.now in
+    some_framed _ w c.args.players.now c.args.choice c.requires.can c.requires.few c.in-Carry.i c.in-Carry.place (carry_node c.in-Carry.i c.in-Carry.place w (carry_may _ w c.args.players.now c.args.choice c.in-Carry.i c.in-Carry.place c.in-Carry.is c.requires.can))
 
 pub returns-in-Collect : goal.returns-in-Collect
 returns-in-Collect g c =

@@ -3,9 +3,16 @@ use Rattle.crl_protocol.specs.Node.{Node}
 use Rattle.crl_protocol.specs.Places.{take_out}
 use Rattle.crl_member.specs.Members.{addressee_of}
 use Rattle.crl_cluster.specs.Clusters.{view_of, shape_of}
-use Rattle.crl_cluster.proofs.Nodes.{runs_of, node_safe, carry_may, carry_done, has_still}
+use Rattle.crl_cluster.proofs.Nodes.{runs_of, node_safe, carry_may, carry_done, has_still, piece_framed}
 use Rattle.crl_cluster.proofs.Worlds.{run_of}
 use Rattle.crl_cluster.proofs.cluster.Cluster.carry.Goals as goal
+
+pub ready_carry-requires-clause-in_table : goal.ready_carry-requires-clause-in_table
+ready_carry-requires-clause-in_table g c =
+    let s = shape_of c.args.self.now in
+    let pass = c.args.pass.now in
+    let front = (view_of pass).front in
+    piece_framed s front (run_of s front (runs_of s pass c.requires.here.shape_is)) _ c.args.place c.requires.from.inside _ c.requires.from.node_is c.requires.there c.args.self.now.some.1 pass.turns.rests.1
 
 pub append_next-requires-clause-enabled : goal.append_next-requires-clause-enabled
 append_next-requires-clause-enabled g c =
