@@ -1,13 +1,11 @@
 //! A call is made and answered: it is tried until its node makes it, and then until its answer is collected. Meanwhile
 //! pieces are moved.
-ghost use Rattle.std.specs.Prelude.{◌≡◌, ◌<◌, true, MatchResult, IfSome};
+ghost use Rattle.std.specs.Prelude.{◌≡◌, ◌<◌, MatchResult};
 ghost use Rattle.crl_model.specs.declared.event.Event.TheVariants as event;
-ghost use Rattle.crl_protocol.specs.Node.{Refused};
 ghost use Rattle.crl_protocol.specs.Verdict.{word_of};
 ghost use Rattle.crl_cluster.specs.Clusters.{view_of, shape_of, node_count, IsOf};
-ghost use Rattle.crl_calls.specs.Answers as answers;
-ghost use Rattle.crl_calls.specs.Trails.{Does, Moves, MovesToTheEnd, AnswersCall};
-ghost use Rattle.crl_calls.specs.Tries.{unmade_of, IsNotMade, IsNotAnswered};
+ghost use Rattle.crl_calls.specs.Trails.{Does, MovesToTheEnd, AnswersCall};
+ghost use Rattle.crl_calls.specs.Tries.{unmade_of, is_full, IsNotMade, IsNever, IsGiven};
 ghost use Rattle.crl_calls.specs.Callers.{IsCallerOf, IsAnswered, IsFaulted};
 
 use crate::caller::Caller;
@@ -20,23 +18,22 @@ use crl_guard::{Reading, Writing};
 use crl_member::Member;
 use crl_model::NodeNo;
 use crl_model::activity::Answer;
-use crl_model::call::{Call, Refusal};
+use crl_model::call::Call;
 use std::sync::Wait;
 use std::thread;
 
-/// Why a call was not made.
+/// Why a call gets no answer.
 #[derive(Clone, Copy, Debug, Drop, PartialEq)]
-pub(crate) enum Unmade {
-    /// It can be tried again.
-    NotNow,
+pub(crate) enum Never {
+    /// The call was not made.
     OutOfMemory,
     /// The history has 2^62 events.
     Full,
 }
 
-/// Why a call was not made, with the call.
+/// A call that was not made, and why; None where it can be tried again.
 struct Back {
-    why: Unmade,
+    why: Option<Never>,
     call: Call,
 }
 
@@ -46,27 +43,16 @@ struct Told {
     later: bool,
 }
 
-/// Pieces are moved, and another thread may go on.
-pub(crate) fn waits<N: Member>(cluster: &Cluster<N, ()>, pass: &mut Pass) -> Result<(), Full>
-    requires here { IsOf cluster.now pass.old }
-    ensures here { IsOf cluster.now pass.new }
-    ensures told { MatchResult result (λ _. Moves (view_of pass.old) (view_of pass.new)) (λ _. MovesToTheEnd (view_of pass.old) (view_of pass.new)) }
-{
-    move_all(cluster, pass)?;
-    thread::yield_now();
-    Ok(())
-}
-
-/// Why the call is not made.
-fn unmade_by(why: TryFault) -> Unmade
+/// Why an event that is to be a call's is not done; None where it can be tried again.
+fn unmade_by(why: TryFault) -> Option<Never>
     ensures { result ≡ unmade_of why }
 {
     match why {
-        TryFault::Step(StepFault::OutOfMemory) => Unmade::OutOfMemory,
-        TryFault::Step(StepFault::Spent) => Unmade::Full,
+        TryFault::Step(StepFault::OutOfMemory) => Some(Never::OutOfMemory),
+        TryFault::Step(StepFault::Spent) => Some(Never::Full),
         TryFault::Step(StepFault::Moved { saw: _, found: _ })
         | TryFault::Busy { node: _ }
-        | TryFault::Nothing => Unmade::NotNow,
+        | TryFault::Nothing => None,
     }
 }
 
@@ -100,30 +86,33 @@ fn call_at_last<R: Wait, N: Member>(
     pass: &mut Pass,
     node: NodeNo,
     call: Call,
-) -> Result<Answer<Reading, Writing>, Unmade>
+) -> Result<Answer<Reading, Writing>, Never>
     requires here { IsOf cluster.now pass.old }
     requires node { node < node_count cluster.now }
     ensures here { IsOf cluster.now pass.new }
     ensures told { MatchResult result
         (λ answer. Does (shape_of cluster.now) (event.Call node call) (view_of pass.old) answer (view_of pass.new))
-        (λ why. IsNotAnswered node call (view_of pass.old) why (view_of pass.new)) }
+        (λ why. IsNever node call (view_of pass.old) why (view_of pass.new)) }
 {
     let mut call = call;
     for _ in rt.forever() {
         match call_once(cluster, pass, node, call) {
             Ok(answer) => return Ok(answer),
             Err(Back {
-                why: Unmade::NotNow,
+                why: Some(never),
+                call: back,
+            }) => {
+                drop(back);
+                return Err(never);
+            }
+            Err(Back {
+                why: None,
                 call: back,
             }) => call = back,
-            Err(Back { why, call: back }) => {
-                drop(back);
-                return Err(why);
-            }
         }
-        if waits(cluster, pass).is_err() {
+        if let Err(Full) = move_all(cluster, pass) {
             drop(call);
-            return Err(Unmade::Full);
+            return Err(Never::Full);
         }
     }
     unreachable!()
@@ -134,7 +123,7 @@ fn collect_once<N: Member>(
     cluster: &Cluster<N, ()>,
     pass: &mut Pass,
     node: NodeNo,
-) -> Result<Answer<Reading, Writing>, Unmade>
+) -> Result<Answer<Reading, Writing>, Option<Never>>
     requires here { IsOf cluster.now pass.old }
     requires node { node < node_count cluster.now }
     ensures here { IsOf cluster.now pass.new }
@@ -165,10 +154,10 @@ fn collect_at_last<R: Wait, N: Member>(
     for _ in rt.forever() {
         match collect_once(cluster, pass, node) {
             Ok(answer) => return Ok(answer),
-            Err(Unmade::Full) => return Err(Full),
-            Err(Unmade::NotNow | Unmade::OutOfMemory) => (),
+            Err(Some(Never::Full)) => return Err(Full),
+            Err(Some(Never::OutOfMemory) | None) => (),
         }
-        waits(cluster, pass)?;
+        move_all(cluster, pass)?;
     }
     unreachable!()
 }
@@ -180,13 +169,13 @@ fn answer_to<R: Wait, N: Member>(
     pass: &mut Pass,
     node: NodeNo,
     call: Call,
-) -> Result<Told, Unmade>
+) -> Result<Told, Never>
     requires here { IsOf cluster.now pass.old }
     requires node { node < node_count cluster.now }
     ensures here { IsOf cluster.now pass.new }
     ensures told { MatchResult result
         (λ told. AnswersCall (shape_of cluster.now) node call (view_of pass.old) told.later told.answer (view_of pass.new))
-        (λ why. IsNotAnswered node call (view_of pass.old) why (view_of pass.new)) }
+        (λ why. IsNever node call (view_of pass.old) why (view_of pass.new)) }
 {
     match call_at_last(rt, cluster, pass, node, call)? {
         Answer::Wait => match collect_at_last(rt, cluster, pass, node) {
@@ -194,7 +183,7 @@ fn answer_to<R: Wait, N: Member>(
                 answer,
                 later: true,
             }),
-            Err(Full) => Err(Unmade::Full),
+            Err(Full) => Err(Never::Full),
         },
         answer => Ok(Told {
             answer,
@@ -203,23 +192,43 @@ fn answer_to<R: Wait, N: Member>(
     }
 }
 
-/// What an answer gives, or why it is a refusal: None where it is none of the call's.
-fn own_answer<F: Form>(form: &F, told: Told) -> Option<Result<F::Out, Refusal>>
-    ensures { IfSome result (λ given. MatchResult given
-        (λ out. F.gives form.now out told.answer)
-        (λ why. (told.answer ≡ Refused why) × (answers.may_refuse (F.word form.now) told.later why ≡ true))) }
+/// What the answer gives by its form, or that it is a refusal which the call may meet. An answer that is neither is
+/// another's: then it doesn't return.
+fn given<R: Wait, F: Form>(
+    rt: &R,
+    form: &F,
+    answer: Result<Told, Never>,
+) -> Result<F::Out, CallFault>
+    ensures { IsGiven (F.gives form.now) (F.word form.now) answer result }
 {
-    let Told { answer, later } = told;
     match answer {
-        Answer::Refused(why) => {
+        Ok(Told {
+            answer: Answer::Refused(why),
+            later,
+        }) => {
             if may_refuse(form.word(), later, why) {
-                Some(Err(why))
-            } else {
-                None
+                return Err(CallFault::Refused(why));
             }
         }
-        answer => form.take(answer).map(Ok),
+        Ok(Told { answer, later: _ }) => {
+            if let Some(out) = form.take(answer) {
+                return Ok(out);
+            }
+        }
+        Err(Never::OutOfMemory) => return Err(CallFault::OutOfMemory),
+        Err(Never::Full) => return Err(CallFault::Spent),
     }
+    for _ in rt.forever() {
+        thread::yield_now();
+    }
+    unreachable!()
+}
+
+/// Whether the history is full.
+fn finds_full(answer: &Result<Told, Never>) -> bool
+    ensures { result ≡ is_full answer.now }
+{
+    matches!(answer, Err(Never::Full))
 }
 
 /// The caller's node makes the call, and the caller gets its answer. An answer that is none of the call's is another's, who
@@ -244,21 +253,7 @@ pub(crate) fn ask<R: Wait, N: Member, F: Form>(
     if who.spent {
         return Err(CallFault::Spent);
     }
-    match answer_to(rt, cluster, &mut who.pass, who.node, call) {
-        Ok(told) => match own_answer(&form, told) {
-            Some(Ok(out)) => Ok(out),
-            Some(Err(why)) => Err(CallFault::Refused(why)),
-            None => {
-                for _ in rt.forever() {
-                    thread::yield_now();
-                }
-                unreachable!()
-            }
-        },
-        Err(Unmade::OutOfMemory) => Err(CallFault::OutOfMemory),
-        Err(Unmade::Full | Unmade::NotNow) => {
-            who.spent = true;
-            Err(CallFault::Spent)
-        }
-    }
+    let answer = answer_to(rt, cluster, &mut who.pass, who.node, call);
+    who.spent = finds_full(&answer);
+    given(rt, &form, answer)
 }

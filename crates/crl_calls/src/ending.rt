@@ -2,18 +2,18 @@
 ghost use Rattle.std.specs.Prelude.{◌≡◌, ◌<◌, ℕ, List, true, MatchResult};
 ghost use Rattle.crl_model.specs.declared.call.Call.TheVariants as call;
 ghost use Rattle.crl_model.specs.declared.event.Event.TheVariants as event;
-ghost use Rattle.crl_protocol.specs.Node as node;
+ghost use Rattle.crl_protocol.specs.Node.{Done};
 ghost use Rattle.crl_protocol.specs.Verdict.{verdict};
 ghost use Rattle.crl_protocol.specs.World.{is_free};
 ghost use Rattle.crl_cluster.specs.Clusters.{view_of, shape_of, node_count, IsOf, IsHeld, IsSameHeld};
 ghost use Rattle.crl_cluster.specs.Acting.{IsDone, IsUndone};
 ghost use Rattle.crl_calls.specs.Trails.{Does};
 ghost use Rattle.crl_calls.specs.Callers.{IsCallerOf, IsAnswered, IsNotEnded, is_allowed};
-ghost use Rattle.crl_calls.specs.Tries.{unended_of, IsUnended, IsNeverEnded};
+ghost use Rattle.crl_calls.specs.Tries.{unended_of, is_full_end, IsUnended, IsNeverEnded};
 
-use crate::asking::waits;
 use crate::caller::Caller;
 use crate::faults::{EndFault, EndWhy};
+use crate::moving::{Full, move_all};
 use crl_cluster::{Cluster, Held, NotDone, Pass, StepFault};
 use crl_guard::{Reading, Writing};
 use crl_member::Member;
@@ -54,7 +54,7 @@ pub(crate) trait Ending: Sized {
         ensures told { let s = shape_of cluster.now in
             let old = view_of pass.old in
             let new = view_of pass.new in
-            MatchResult result (λ _. IsDone s (event.Call held.old.number (call self)) old node.Done new)
+            MatchResult result (λ _. IsDone s (event.Call held.old.number (call self)) old Done new)
             (λ fault. (fault.back ≡ self) × IsUndone s old fault.why new) };
 }
 
@@ -114,30 +114,19 @@ impl Ending for Writing {
     }
 }
 
-/// Why a section was not ended.
-#[derive(Clone, Copy, Debug, Drop, PartialEq)]
-pub(crate) enum Unended {
-    /// It can be tried again.
-    NotNow,
-    /// The node has no section open that the guard ends.
-    Foreign,
-    /// The history has 2^62 events.
-    Full,
-}
-
-/// Why a section was not ended, with its guard.
+/// A section that was not ended, and why; None where it can be tried again.
 struct Kept<G> {
-    why: Unended,
+    why: Option<EndWhy>,
     guard: G,
 }
 
-/// Why the end is not appended.
-fn unended_by(why: StepFault) -> Unended
+/// Why the end is not appended; None where it can be tried again.
+fn unended_by(why: StepFault) -> Option<EndWhy>
     ensures { result ≡ unended_of why }
 {
     match why {
-        StepFault::OutOfMemory | StepFault::Moved { saw: _, found: _ } => Unended::NotNow,
-        StepFault::Spent => Unended::Full,
+        StepFault::OutOfMemory | StepFault::Moved { saw: _, found: _ } => None,
+        StepFault::Spent => Some(EndWhy::Spent),
     }
 }
 
@@ -154,20 +143,17 @@ fn end_held<N: Member, G: Ending>(
     ensures held { IsHeld N.state (shape_of cluster.now) (view_of pass.new) held.new × IsSameHeld held.old held.new }
     ensures told { let s = shape_of cluster.now in
         let i = held.old.number in
-        MatchResult result (λ _. IsDone s (event.Call i (G.call guard)) (view_of pass.old) node.Done (view_of pass.new))
+        MatchResult result (λ _. IsDone s (event.Call i (G.call guard)) (view_of pass.old) Done (view_of pass.new))
         (λ kept. (kept.guard ≡ guard) × IsUnended s i (λ n. G.may_end n guard) (view_of pass.old) kept.why (view_of pass.new)) }
 {
     if !guard.may_end(held.node()) {
         return Err(Kept {
-            why: Unended::Foreign,
+            why: Some(EndWhy::Foreign),
             guard,
         });
     }
     if !held.node().is_free() {
-        return Err(Kept {
-            why: Unended::NotNow,
-            guard,
-        });
+        return Err(Kept { why: None, guard });
     }
     match guard.end(cluster, pass, held) {
         Ok(()) => Ok(()),
@@ -189,7 +175,7 @@ fn end_once<N: Member, G: Ending>(
     requires node { node < node_count cluster.now }
     ensures here { IsOf cluster.now pass.new }
     ensures told { let s = shape_of cluster.now in
-        MatchResult result (λ _. Does s (event.Call node (G.call guard)) (view_of pass.old) node.Done (view_of pass.new))
+        MatchResult result (λ _. Does s (event.Call node (G.call guard)) (view_of pass.old) Done (view_of pass.new))
         (λ kept. (kept.guard ≡ guard) × IsUnended s node (λ n. G.may_end n guard) (view_of pass.old) kept.why (view_of pass.new)) }
 {
     match cluster.hold(pass, node) {
@@ -198,10 +184,7 @@ fn end_once<N: Member, G: Ending>(
             cluster.release(pass, held);
             answer
         }
-        Err(_) => Err(Kept {
-            why: Unended::NotNow,
-            guard,
-        }),
+        Err(_) => Err(Kept { why: None, guard }),
     }
 }
 
@@ -212,35 +195,48 @@ fn end_or_never<R: Wait, N: Member, G: Ending>(
     pass: &mut Pass,
     node: NodeNo,
     guard: G,
-) -> Result<(), Kept<G>>
+) -> Result<(), EndFault<G>>
     requires here { IsOf cluster.now pass.old }
     requires node { node < node_count cluster.now }
     ensures here { IsOf cluster.now pass.new }
     ensures told { let s = shape_of cluster.now in
-        MatchResult result (λ _. Does s (event.Call node (G.call guard)) (view_of pass.old) node.Done (view_of pass.new))
-        (λ kept. (kept.guard ≡ guard) × IsNeverEnded s node (λ n. G.may_end n guard) (view_of pass.old) kept.why (view_of pass.new)) }
+        MatchResult result (λ _. Does s (event.Call node (G.call guard)) (view_of pass.old) Done (view_of pass.new))
+        (λ back. (back.guard ≡ guard) × IsNeverEnded s node (λ n. G.may_end n guard) (view_of pass.old) back.why (view_of pass.new)) }
 {
     let mut guard = guard;
     for _ in rt.forever() {
         match end_once(cluster, pass, node, guard) {
             Ok(()) => return Ok(()),
             Err(Kept {
-                why: Unended::NotNow,
+                why: Some(why),
+                guard,
+            }) => return Err(EndFault { guard, why }),
+            Err(Kept {
+                why: None,
                 guard: back,
             }) => guard = back,
-            Err(never) => return Err(never),
         }
-        if waits(cluster, pass).is_err() {
-            return Err(Kept {
-                why: Unended::Full,
+        if let Err(Full) = move_all(cluster, pass) {
+            return Err(EndFault {
                 guard,
+                why: EndWhy::Spent,
             });
         }
     }
-    Err(Kept {
-        why: Unended::NotNow,
+    Err(EndFault {
         guard,
+        why: EndWhy::Spent,
     })
+}
+
+/// Whether the history is full.
+fn finds_full<G>(answer: &Result<(), EndFault<G>>) -> bool
+    ensures { result ≡ is_full_end answer.now }
+{
+    match answer {
+        Ok(()) => false,
+        Err(fault) => matches!(fault.why, EndWhy::Spent),
+    }
 }
 
 /// The caller's node ends the section of the guard.
@@ -258,7 +254,7 @@ pub(crate) fn end_at_last<R: Wait, N: Member, G: Ending>(
     ensures caller { IsCallerOf cluster.now who.new }
     ensures told { let s = shape_of cluster.now in
         let c = G.call guard in
-        MatchResult result (λ _. IsAnswered s c who.old (λ _ answer. answer ≡ node.Done) who.new)
+        MatchResult result (λ _. IsAnswered s c who.old (λ _ answer. answer ≡ Done) who.new)
         (λ back. (back.guard ≡ guard) × IsNotEnded s c (λ n. G.may_end n guard) who.old back.why who.new) }
 {
     if who.spent {
@@ -267,21 +263,7 @@ pub(crate) fn end_at_last<R: Wait, N: Member, G: Ending>(
             why: EndWhy::Spent,
         });
     }
-    match end_or_never(rt, cluster, &mut who.pass, who.node, guard) {
-        Ok(()) => Ok(()),
-        Err(Kept {
-            why: Unended::Foreign,
-            guard,
-        }) => Err(EndFault {
-            guard,
-            why: EndWhy::Foreign,
-        }),
-        Err(Kept { why: _, guard }) => {
-            who.spent = true;
-            Err(EndFault {
-                guard,
-                why: EndWhy::Spent,
-            })
-        }
-    }
+    let answer = end_or_never(rt, cluster, &mut who.pass, who.node, guard);
+    who.spent = finds_full(&answer);
+    answer
 }

@@ -1,28 +1,37 @@
 //! Pieces go on their way: a caller that waits carries and handles them, at all nodes.
-ghost use Rattle.std.specs.Prelude.{◌≡◌, ◌<◌, ◌^◌, OnErr, length};
+ghost use Rattle.std.specs.Prelude.{◌≡◌, ◌<◌, Err, MatchResult, OnErr};
+ghost use Rattle.crl_cluster.specs.declared.faults.StepFault.TheVariants as fault;
+ghost use Rattle.crl_cluster.specs.declared.faults.TryFault.TheVariants.{Step};
 ghost use Rattle.crl_cluster.specs.Clusters.{view_of, node_count, IsOf};
-ghost use Rattle.crl_calls.specs.Trails.{Moves};
+ghost use Rattle.crl_calls.specs.Trails.{Moves, MovesToTheEnd};
 
 use crl_cluster::{Cluster, Pass, StepFault, TryFault};
 use crl_member::Member;
 use crl_model::NodeNo;
+use std::thread;
 
 /// The history has 2^62 events.
 #[derive(Drop)]
 pub(crate) struct Full;
+
+/// Whether an event fits. What else was in its way passes.
+fn full_if(answer: Result<(), TryFault>) -> Result<(), Full>
+    ensures { OnErr result (answer ≡ Err (Step fault.Spent)) }
+{
+    match answer {
+        Err(TryFault::Step(StepFault::Spent)) => Err(Full),
+        Ok(()) | Err(_) => Ok(()),
+    }
+}
 
 /// The node handles the first piece of its inbox, if that can be done now.
 fn move_in<N: Member>(cluster: &Cluster<N, ()>, pass: &mut Pass, node: NodeNo) -> Result<(), Full>
     requires here { IsOf cluster.now pass.old }
     requires node { node < node_count cluster.now }
     ensures here { IsOf cluster.now pass.new }
-    ensures moves { Moves (view_of pass.old) (view_of pass.new) }
-    ensures full { OnErr result (length (view_of pass.new).front ≡ 2 ^ 62) }
+    ensures told { MatchResult result (λ _. Moves (view_of pass.old) (view_of pass.new)) (λ _. MovesToTheEnd (view_of pass.old) (view_of pass.new)) }
 {
-    match cluster.try_handle(pass, node, 0) {
-        Err(TryFault::Step(StepFault::Spent)) => Err(Full),
-        Ok(()) | Err(_) => Ok(()),
-    }
+    full_if(cluster.try_handle(pass, node, 0))
 }
 
 /// The first piece of the node's outbox is carried, if that can be done now.
@@ -30,25 +39,21 @@ fn move_out<N: Member>(cluster: &Cluster<N, ()>, pass: &mut Pass, node: NodeNo) 
     requires here { IsOf cluster.now pass.old }
     requires node { node < node_count cluster.now }
     ensures here { IsOf cluster.now pass.new }
-    ensures moves { Moves (view_of pass.old) (view_of pass.new) }
-    ensures full { OnErr result (length (view_of pass.new).front ≡ 2 ^ 62) }
+    ensures told { MatchResult result (λ _. Moves (view_of pass.old) (view_of pass.new)) (λ _. MovesToTheEnd (view_of pass.old) (view_of pass.new)) }
 {
-    match cluster.try_carry(pass, node, 0) {
-        Err(TryFault::Step(StepFault::Spent)) => Err(Full),
-        Ok(()) | Err(_) => Ok(()),
-    }
+    full_if(cluster.try_carry(pass, node, 0))
 }
 
-/// The first piece of each box goes on, where that can be done now.
+/// The first piece of each box goes on, where that can be done now. Then another thread may go on.
 pub(crate) fn move_all<N: Member>(cluster: &Cluster<N, ()>, pass: &mut Pass) -> Result<(), Full>
     requires here { IsOf cluster.now pass.old }
     ensures here { IsOf cluster.now pass.new }
-    ensures moves { Moves (view_of pass.old) (view_of pass.new) }
-    ensures full { OnErr result (length (view_of pass.new).front ≡ 2 ^ 62) }
+    ensures told { MatchResult result (λ _. Moves (view_of pass.old) (view_of pass.new)) (λ _. MovesToTheEnd (view_of pass.old) (view_of pass.new)) }
 {
     for node in 0..cluster.count(pass) {
         move_in(cluster, pass, node)?;
         move_out(cluster, pass, node)?;
     }
+    thread::yield_now();
     Ok(())
 }

@@ -1,0 +1,6 @@
+mod Walking
+mod Telling
+mod Tried
+mod Asked
+mod Ended
+mod Shows

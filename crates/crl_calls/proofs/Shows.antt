@@ -1,0 +1,22 @@
+-- A guard that the last event of a front answers shows the array.
+use Rattle.std.proofs.Common.{◌≡◌, ℕ, List, ◌∷◌, [], ◌++◌, refl, sym, ap, ◌∙◌, subst}
+use Rattle.crl_model.specs.declared.event.Event.{Event}
+use Rattle.crl_machine.specs.SingleMachine.{State, after_all}
+use Rattle.crl_protocol.specs.Node.{Answer}
+use Rattle.crl_protocol.specs.World.{step}
+use Rattle.crl_rounds.specs.Standing.{machine_of}
+use Rattle.crl_history.specs.Legal.{AnswerShows}
+use Rattle.crl_history.proofs.Laws.{answers_show, machine_then}
+use Rattle.crl_turns.specs.declared.turned.Shape.{Shape}
+use Rattle.crl_cluster.specs.Standing.{world_at}
+use Rattle.crl_calls.specs.Trails.{Ends}
+use Rattle.crl_calls.specs.Shown.{machine_at, AnswerShowsArray}
+
+pub shows_array : (s : Shape) (e : Event) (answer : Answer) (front : List Event) → Ends s e answer front → AnswerShowsArray s front answer
+shows_array s e answer front ends =
+    let w = world_at s ends.before in
+    let after = after_all (machine_at s ends.before) (step e w).entries in
+    let at_last : machine_at s front ≡ after = ap (machine_of s.parts s.extra) ends.front_is ∙ machine_then s.parts s.extra ends.before e in
+    let shown : AnswerShows after (step e w).answer = answers_show s.parts s.extra ends.before ends.run.enabled e ends.enabled in
+    let here : AnswerShows after answer = subst (λ a. AnswerShows after a) (sym ends.answer_is) shown in
+    subst (λ t. AnswerShows t answer) (sym at_last) here
