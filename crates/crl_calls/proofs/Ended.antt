@@ -1,13 +1,20 @@
 -- The end of a section by its guard.
-use Rattle.std.proofs.Common.{◌≡◌, ℕ, ◌<◌, ◌≤◌, ◌+◌, nat_lt, ◌^◌, Bool, false, true, List, [], ◌∷◌, length, Option, None, Some, refl, sym, ap, ◌∙◌, subst}
+use Rattle.std.proofs.Common.{◌≡◌, ℕ, ◌<◌, ◌≤◌, ◌+◌, nat_lt, ◌^◌, Bool, false, true, not, arith, List, [], ◌∷◌, length, Option, None, Some, refl, sym, ap, ◌∙◌, subst}
+use Rattle.std.proofs.lemmas.Bool.{ltb-true}
+use Rattle.std.specs.Option.{is_some}
 use Rattle.std.specs.Prelude.{MatchResult}
 use Rattle.std.specs.declared.result.Result.{Result}
 use Rattle.std.specs.declared.result.Result.TheVariants.{Ok, Err}
+use Rattle.crl_model.specs.declared.name.Name.{Name}
 use Rattle.crl_model.specs.declared.call.Call.{Call}
+use Rattle.crl_model.specs.declared.call.Call.TheVariants as call
 use Rattle.crl_model.specs.declared.call.Refusal.{Refusal}
+use Rattle.crl_model.specs.declared.call.Refusal.TheVariants.{OutOfRange}
 use Rattle.crl_model.specs.declared.event.Event.{Event}
 use Rattle.crl_model.specs.declared.event.Event.TheVariants as event
 use Rattle.crl_protocol.specs.Node.{Node, Answer, Done}
+use Rattle.crl_protocol.specs.Sections.{section_at}
+use Rattle.crl_protocol.specs.Verdict.{verdict, else_if, refuse_if, of_unmapped, of_end, mapped_size}
 use Rattle.crl_turns.specs.declared.turned.Shape.{Shape}
 use Rattle.crl_turns.specs.declared.view.View.{View}
 use Rattle.crl_turns.specs.Calls.{after_take, after_give_back}
@@ -19,13 +26,14 @@ use Rattle.crl_cluster.specs.Acting.{IsDone, IsUndone}
 use Rattle.crl_cluster.specs.Clusters.{IsOf}
 use Rattle.crl_cluster.specs.Standing.{world_at}
 use Rattle.crl_calls.specs.declared.caller.Caller.{Caller}
-use Rattle.crl_calls.specs.declared.ending.Kept.{Kept}
+use Rattle.crl_calls.specs.declared.ending.Ended.{Ended}
+use Rattle.crl_calls.specs.declared.ending.Ended.TheVariants as ended
 use Rattle.crl_calls.specs.declared.faults.EndFault.{EndFault}
 use Rattle.crl_calls.specs.declared.faults.EndWhy.{EndWhy}
 use Rattle.crl_calls.specs.declared.faults.EndWhy.TheVariants as end
 use Rattle.crl_calls.specs.Callers.{knows, IsCallerOf, IsAnswered, IsNotEnded, is_allowed}
 use Rattle.crl_calls.specs.Trails.{Walks, Moves, MovesToTheEnd, Ends, Does}
-use Rattle.crl_calls.specs.Tries.{unended_of, stops, is_full_end, IsNeverEnded, IsUnended}
+use Rattle.crl_calls.specs.Tries.{ended_of, stops, is_full_end, IsNeverEnded, IsEnded}
 use Rattle.crl_calls.proofs.Walking.{walk_event, walk_undone, walk_around}
 use Rattle.crl_calls.proofs.Telling.{moves_walk, moves_then, moves_full, does_now, answered_at_once, full_unmade}
 use Rattle.crl_calls.proofs.Asked.{caller_on}
@@ -34,10 +42,32 @@ pub allowed : (o : Option Refusal) → is_allowed o ≡ true → o ≡ None
 allowed None e = refl
 allowed (Some why) e = cc
 
-pub undone_unended : (s : Shape) (node : ℕ) (may_end : Node → Bool) (old new : View) (why : StepFault) → IsUndone s old why new → IsUnended s node may_end old (unended_of why) new
-undone_unended s node may_end old new fault.OutOfMemory is = moves_walk old new (walk_undone s old new fault.OutOfMemory is)
-undone_unended s node may_end old new (fault.Moved saw found) is = moves_walk old new (walk_undone s old new (fault.Moved saw found) is)
-undone_unended s node may_end old new fault.Spent is = (moves_walk old new (walk_undone s old new fault.Spent is), is.full)
+-- A node refuses a change of no bytes where it refuses the end of the write section.
+lt_zero : (k : ℕ) → (b : Bool) → nat_lt k 0 ≡ b → b ≡ false
+lt_zero k true e = absurd (omega (arith, ltb-true k 0 e))
+lt_zero k false e = refl
+
+same_allowed : (x y : Option Refusal) (b : Bool) (why : Refusal) → b ≡ false → is_allowed (else_if x (else_if y (refuse_if b why))) ≡ is_allowed (else_if x y)
+same_allowed (Some r) y b why e = refl
+same_allowed None (Some r) b why e = refl
+same_allowed None None b why e = ap (λ t. is_allowed (refuse_if t why)) e
+
+none_allowed : (o : Option Refusal) (r : Bool) → is_some o ≡ not r → r ≡ is_allowed o
+none_allowed None true e = refl
+none_allowed None false e = cc
+none_allowed (Some why) true e = cc
+none_allowed (Some why) false e = refl
+
+pub closes_as : (n : Node) (name : Name) (r : Bool) → is_some (verdict n (call.Put name 0 0)) ≡ not r → (after : List ℕ) → r ≡ is_allowed (verdict n (call.EndWrite name after))
+unfolding verdict
+closes_as n name r e after =
+    none_allowed _ r e ∙ same_allowed (of_unmapped n name) (of_end true (section_at name n.sections)) (nat_lt (mapped_size (n.maps name)) (0 + 0)) OutOfRange (lt_zero (mapped_size (n.maps name)) _ refl)
+
+pub undone_ended : {G : Type 0} (IsItDone : Type 0) (s : Shape) (node : ℕ) (may_end : Node → Bool) (guard back : G) (old new : View) (why : StepFault) → back ≡ guard → IsUndone s old why new
+    → IsEnded IsItDone s node may_end guard old (ended_of why back) new
+undone_ended IsItDone s node may_end guard back old new fault.OutOfMemory same is = (same, moves_walk old new (walk_undone s old new fault.OutOfMemory is))
+undone_ended IsItDone s node may_end guard back old new (fault.Moved saw found) same is = (same, moves_walk old new (walk_undone s old new (fault.Moved saw found) is))
+undone_ended IsItDone s node may_end guard back old new fault.Spent same is = (same, (moves_walk old new (walk_undone s old new fault.Spent is), is.full))
 
 -- The node was held for it.
 module _ (s : Shape) (node : ℕ) (old held done new : View) (begins : Begins old.front held.front) (takes : held ≡ after_take node held.front old) (gives : new ≡ after_give_back node done) where
@@ -53,16 +83,13 @@ module _ (s : Shape) (node : ℕ) (old held done new : View) (begins : Begins ol
       does_now s e old answer new (walk_around s node old held done new (e ∷ []) begins takes (walk_event s e held done came) gives)
       (record { before = came.before; front_is = front_is ∙ came.front; run = came.run; enabled = came.enabled; answer_is = is.answer_is })
 
-  unended_around : (may_end : Node → Bool) (why : Option EndWhy) → IsUnended s node may_end held why done → IsUnended s node may_end old why new
-  unended_around may_end None is = moves_around is
-  unended_around may_end (Some end.Foreign) is = (moves_around is.0, subst (λ front. may_end ((world_at s front).nodes node) ≡ false) (sym front_is) is.1)
-  unended_around may_end (Some end.Spent) is = (moves_around is.0, ap length front_is ∙ is.1)
-
-  pub ended_around : {G : Type 0} (c : Call) (may_end : Node → Bool) (guard : G) (i : ℕ) (r : Result (Unit {0}) (Kept G)) → i ≡ node
-      → MatchResult r (λ _. IsDone s (event.Call i c) held Done done) (λ kept. (kept.guard ≡ guard) × IsUnended s i may_end held kept.why done)
-      → MatchResult r (λ _. Does s (event.Call node c) old Done new) (λ kept. (kept.guard ≡ guard) × IsUnended s node may_end old kept.why new)
-  ended_around c may_end guard i (Ok fine) same told = does_around (event.Call node c) Done (subst (λ k. IsDone s (event.Call k c) held Done done) same told)
-  ended_around c may_end guard i (Err kept) same told = (told.0, unended_around may_end kept.why (subst (λ k. IsUnended s k may_end held kept.why done) same told.1))
+  pub ended_around : {G : Type 0} (c : Call) (may_end : Node → Bool) (guard : G) (i : ℕ) (r : Ended G) → i ≡ node
+      → IsEnded (IsDone s (event.Call i c) held Done done) s i may_end guard held r done → IsEnded (Does s (event.Call node c) old Done new) s node may_end guard old r new
+  ended_around c may_end guard i ended.Done same told = does_around (event.Call node c) Done (subst (λ k. IsDone s (event.Call k c) held Done done) same told)
+  ended_around c may_end guard i (ended.Again back) same told = (told.0, moves_around told.1)
+  ended_around c may_end guard i (ended.Foreign back) same told =
+      (told.0, (moves_around told.1.0, subst (λ front. may_end ((world_at s front).nodes node) ≡ false) (sym front_is) (subst (λ k. may_end ((world_at s done.front).nodes k) ≡ false) same told.1.1)))
+  ended_around c may_end guard i (ended.Full back) same told = (told.0, (moves_around told.1.0, ap length front_is ∙ told.1.1))
 
 pub ended_after : (s : Shape) (node : ℕ) (may_end : Node → Bool) (a b new : View) (why : EndWhy) → Moves a b → IsNeverEnded s node may_end b why new → IsNeverEnded s node may_end a why new
 ended_after s node may_end a b new end.Foreign moves is = (moves_then a b new moves is.0, is.1)

@@ -3,4 +3,5 @@ mod Telling
 mod Tried
 mod Asked
 mod Ended
+mod Started
 mod Shows

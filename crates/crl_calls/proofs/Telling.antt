@@ -9,6 +9,9 @@ use Rattle.crl_turns.specs.declared.view.View.{View}
 use Rattle.crl_turns.specs.Closing.{HoldsNone}
 use Rattle.crl_calls.specs.Trails.{is_move, AreMoves, Walks, Moves, MovesToTheEnd, Ends, Does, IsTrail, at_once, collected, AnswersCall, IsPartOfTrail, unmade, waiting, RunsFull}
 use Rattle.crl_calls.proofs.Walking.{walk_none, walk_then}
+use Rattle.std.specs.Prelude.{MatchResult}
+use Rattle.std.specs.declared.result.Result.{Result}
+use Rattle.std.specs.declared.result.Result.TheVariants.{Ok, Err}
 
 are_both : (es fs : List Event) → AreMoves es → AreMoves fs → AreMoves (es ++ fs)
 are_both [] fs are then = then
@@ -32,6 +35,10 @@ moves_then a b c first second = record {
 
 pub moves_full : (a b c : View) → Moves a b → MovesToTheEnd b c → MovesToTheEnd a c
 moves_full a b c first second = (moves_then a b c first second.0, second.1)
+
+pub moves_on : {E : Type 0} (a b c : View) (r : Result (Unit {0}) E) → Moves a b → MatchResult r (λ _. Moves b c) (λ _. MovesToTheEnd b c) → MatchResult r (λ _. Moves a c) (λ _. MovesToTheEnd a c)
+moves_on a b c (Ok done) first second = moves_then a b c first second
+moves_on a b c (Err full) first second = moves_full a b c first second
 
 pub does_now : (s : Shape) (e : Event) (old : View) (answer : Answer) (new : View) → Walks old (e ∷ []) new → Ends s e answer new.front → Does s e old answer new
 does_now s e old answer new walks ends = record { events = []; moves = tt; walks = walks; ends = ends }

@@ -15,12 +15,10 @@ use Rattle.crl_cluster.specs.declared.faults.TryFault.{TryFault}
 use Rattle.crl_cluster.specs.declared.faults.TryFault.TheVariants.{Busy, Nothing, Step}
 use Rattle.crl_cluster.specs.Acting.{Comes, IsDone}
 use Rattle.crl_cluster.specs.Trying.{Alone, IsNotTried, IsCarried, IsNotCarried, HasNoPiece}
-use Rattle.crl_calls.specs.declared.asking.Never.{Never}
-use Rattle.crl_calls.specs.declared.asking.Never.TheVariants as never
-use Rattle.crl_calls.specs.Trails.{Moves, MovesToTheEnd, Does, RunsFull}
-use Rattle.crl_calls.specs.Tries.{unmade_of, IsNotMade, IsNever}
+use Rattle.crl_calls.specs.Trails.{Moves, MovesToTheEnd, Does}
+use Rattle.crl_calls.specs.Tries.{tried_of, taken_of, IsTried, IsTaken}
 use Rattle.crl_calls.proofs.Walking.{walk_untried, walk_handled, walk_carried, walk_uncarried, walk_done, full_untried, full_uncarried, ends_alone}
-use Rattle.crl_calls.proofs.Telling.{moves_walk, moves_one, moves_then, moves_full, does_now, full_unmade}
+use Rattle.crl_calls.proofs.Telling.{moves_walk, moves_one, does_now}
 
 abbrev HandleTold : Shape → ℕ → ℕ → View → View → Result (Unit {0}) TryFault → Type 0
 HandleTold s node place old new r = MatchResult r (λ _. Alone s node old new (Comes s (event.Handle node place))) (λ why. IsNotTried s node (HasNoPiece node place) old why new)
@@ -52,14 +50,18 @@ carried_told s node place old new r (Err full) told on =
 pub tried_does : (s : Shape) (node : ℕ) (e : Event) (answer : Answer) (old new : View) → Alone s node old new (λ held done. IsDone s e held answer done) → Does s e old answer new
 tried_does s node e answer old new alone = does_now s e old answer new (walk_done s node e answer old new alone) (ends_alone s node e answer old new alone)
 
-pub tried_not : (s : Shape) (node : ℕ) (HasNothing : World → Type 0) (old new : View) (why : TryFault) → IsNotTried s node HasNothing old why new → IsNotMade old (unmade_of why) new
-tried_not s node HasNothing old new (Busy out) is = moves_walk old new (walk_untried s node HasNothing old new (Busy out) is)
-tried_not s node HasNothing old new Nothing is = moves_walk old new (walk_untried s node HasNothing old new Nothing is)
-tried_not s node HasNothing old new (Step fault.OutOfMemory) is = moves_walk old new (walk_untried s node HasNothing old new (Step fault.OutOfMemory) is)
-tried_not s node HasNothing old new (Step (fault.Moved saw found)) is = moves_walk old new (walk_untried s node HasNothing old new (Step (fault.Moved saw found)) is)
-tried_not s node HasNothing old new (Step fault.Spent) is = (moves_walk old new (walk_untried s node HasNothing old new (Step fault.Spent) is), full_untried s node HasNothing old new is)
+pub tried_not : (s : Shape) (node : ℕ) (c back : Call) (HasNothing : World → Type 0) (old new : View) (why : TryFault) → back ≡ c → IsNotTried s node HasNothing old why new → IsTried s node c old (tried_of why back) new
+tried_not s node c back HasNothing old new (Busy out) same is = (same, moves_walk old new (walk_untried s node HasNothing old new (Busy out) is))
+tried_not s node c back HasNothing old new Nothing same is = (same, moves_walk old new (walk_untried s node HasNothing old new Nothing is))
+tried_not s node c back HasNothing old new (Step fault.OutOfMemory) same is = moves_walk old new (walk_untried s node HasNothing old new (Step fault.OutOfMemory) is)
+tried_not s node c back HasNothing old new (Step (fault.Moved saw found)) same is = (same, moves_walk old new (walk_untried s node HasNothing old new (Step (fault.Moved saw found)) is))
+tried_not s node c back HasNothing old new (Step fault.Spent) same is =
+    (moves_walk old new (walk_untried s node HasNothing old new (Step fault.Spent) is), full_untried s node HasNothing old new is)
 
--- after others
-pub never_after : (node : ℕ) (c : Call) (a b new : View) (why : Never) → Moves a b → IsNotMade b (Some why) new → IsNever node c a why new
-never_after node c a b new never.OutOfMemory moves is = moves_then a b new moves is
-never_after node c a b new never.Full moves is = full_unmade node c a new (moves_full a b new moves is)
+pub taken_not : (s : Shape) (node : ℕ) (HasNothing : World → Type 0) (old new : View) (why : TryFault) → IsNotTried s node HasNothing old why new → IsTaken s node old (taken_of why) new
+taken_not s node HasNothing old new (Busy out) is = moves_walk old new (walk_untried s node HasNothing old new (Busy out) is)
+taken_not s node HasNothing old new Nothing is = moves_walk old new (walk_untried s node HasNothing old new Nothing is)
+taken_not s node HasNothing old new (Step fault.OutOfMemory) is = moves_walk old new (walk_untried s node HasNothing old new (Step fault.OutOfMemory) is)
+taken_not s node HasNothing old new (Step (fault.Moved saw found)) is = moves_walk old new (walk_untried s node HasNothing old new (Step (fault.Moved saw found)) is)
+taken_not s node HasNothing old new (Step fault.Spent) is =
+    (moves_walk old new (walk_untried s node HasNothing old new (Step fault.Spent) is), full_untried s node HasNothing old new is)

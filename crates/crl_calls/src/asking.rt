@@ -5,7 +5,7 @@ ghost use Rattle.crl_model.specs.declared.event.Event.TheVariants as event;
 ghost use Rattle.crl_protocol.specs.Verdict.{word_of};
 ghost use Rattle.crl_cluster.specs.Clusters.{view_of, shape_of, node_count, IsOf};
 ghost use Rattle.crl_calls.specs.Trails.{Does, MovesToTheEnd, AnswersCall};
-ghost use Rattle.crl_calls.specs.Tries.{unmade_of, is_full, IsNotMade, IsNever, IsGiven};
+ghost use Rattle.crl_calls.specs.Tries.{tried_of, taken_of, is_full, IsTried, IsTaken, IsNever, IsGiven};
 ghost use Rattle.crl_calls.specs.Callers.{IsCallerOf, IsAnswered, IsFaulted};
 
 use crate::caller::Caller;
@@ -31,10 +31,21 @@ pub(crate) enum Never {
     Full,
 }
 
-/// A call that was not made, and why; None where it can be tried again.
-struct Back {
-    why: Option<Never>,
-    call: Call,
+/// How a try to make a call ended.
+enum Tried {
+    Answered(Answer<Reading, Writing>),
+    /// It can be tried again.
+    Again(Call),
+    OutOfMemory,
+    Full,
+}
+
+/// How a try to take an answer ended.
+enum Taken {
+    Answered(Answer<Reading, Writing>),
+    /// It can be tried again.
+    Again,
+    Full,
 }
 
 /// An answer, and whether it was collected.
@@ -43,16 +54,35 @@ struct Told {
     later: bool,
 }
 
-/// Why an event that is to be a call's is not done; None where it can be tried again.
-fn unmade_by(why: TryFault) -> Option<Never>
-    ensures { result ≡ unmade_of why }
+/// How the try to make this call ended, that was not made.
+fn not_made(why: TryFault, back: Call) -> Tried
+    ensures { result ≡ tried_of why back }
 {
     match why {
-        TryFault::Step(StepFault::OutOfMemory) => Some(Never::OutOfMemory),
-        TryFault::Step(StepFault::Spent) => Some(Never::Full),
+        TryFault::Step(StepFault::OutOfMemory) => {
+            drop(back);
+            Tried::OutOfMemory
+        }
+        TryFault::Step(StepFault::Spent) => {
+            drop(back);
+            Tried::Full
+        }
         TryFault::Step(StepFault::Moved { saw: _, found: _ })
         | TryFault::Busy { node: _ }
-        | TryFault::Nothing => None,
+        | TryFault::Nothing => Tried::Again(back),
+    }
+}
+
+/// How the try to take an answer ended, that was not taken. Want of memory passes.
+fn not_taken(why: TryFault) -> Taken
+    ensures { result ≡ taken_of why }
+{
+    match why {
+        TryFault::Step(StepFault::Spent) => Taken::Full,
+        TryFault::Step(StepFault::OutOfMemory)
+        | TryFault::Step(StepFault::Moved { saw: _, found: _ })
+        | TryFault::Busy { node: _ }
+        | TryFault::Nothing => Taken::Again,
     }
 }
 
@@ -62,20 +92,15 @@ fn call_once<N: Member>(
     pass: &mut Pass,
     node: NodeNo,
     call: Call,
-) -> Result<Answer<Reading, Writing>, Back>
+) -> Tried
     requires here { IsOf cluster.now pass.old }
     requires node { node < node_count cluster.now }
     ensures here { IsOf cluster.now pass.new }
-    ensures told { MatchResult result
-        (λ answer. Does (shape_of cluster.now) (event.Call node call) (view_of pass.old) answer (view_of pass.new))
-        (λ back. (back.call ≡ call) × IsNotMade (view_of pass.old) back.why (view_of pass.new)) }
+    ensures told { IsTried (shape_of cluster.now) node call (view_of pass.old) result (view_of pass.new) }
 {
     match cluster.try_call(pass, node, call) {
-        Ok(answer) => Ok(answer),
-        Err(refused) => Err(Back {
-            why: unmade_by(refused.why),
-            call: refused.back,
-        }),
+        Ok(answer) => Tried::Answered(answer),
+        Err(refused) => not_made(refused.why, refused.back),
     }
 }
 
@@ -97,18 +122,10 @@ fn call_at_last<R: Wait, N: Member>(
     let mut call = call;
     for _ in rt.forever() {
         match call_once(cluster, pass, node, call) {
-            Ok(answer) => return Ok(answer),
-            Err(Back {
-                why: Some(never),
-                call: back,
-            }) => {
-                drop(back);
-                return Err(never);
-            }
-            Err(Back {
-                why: None,
-                call: back,
-            }) => call = back,
+            Tried::Answered(answer) => return Ok(answer),
+            Tried::Again(back) => call = back,
+            Tried::OutOfMemory => return Err(Never::OutOfMemory),
+            Tried::Full => return Err(Never::Full),
         }
         if let Err(Full) = move_all(cluster, pass) {
             drop(call);
@@ -119,21 +136,15 @@ fn call_at_last<R: Wait, N: Member>(
 }
 
 /// The node takes its answer, if it has one now.
-fn collect_once<N: Member>(
-    cluster: &Cluster<N, ()>,
-    pass: &mut Pass,
-    node: NodeNo,
-) -> Result<Answer<Reading, Writing>, Option<Never>>
+fn collect_once<N: Member>(cluster: &Cluster<N, ()>, pass: &mut Pass, node: NodeNo) -> Taken
     requires here { IsOf cluster.now pass.old }
     requires node { node < node_count cluster.now }
     ensures here { IsOf cluster.now pass.new }
-    ensures told { MatchResult result
-        (λ answer. Does (shape_of cluster.now) (event.Collect node) (view_of pass.old) answer (view_of pass.new))
-        (λ why. IsNotMade (view_of pass.old) why (view_of pass.new)) }
+    ensures told { IsTaken (shape_of cluster.now) node (view_of pass.old) result (view_of pass.new) }
 {
     match cluster.try_collect(pass, node) {
-        Ok(answer) => Ok(answer),
-        Err(why) => Err(unmade_by(why)),
+        Ok(answer) => Taken::Answered(answer),
+        Err(why) => not_taken(why),
     }
 }
 
@@ -153,11 +164,13 @@ fn collect_at_last<R: Wait, N: Member>(
 {
     for _ in rt.forever() {
         match collect_once(cluster, pass, node) {
-            Ok(answer) => return Ok(answer),
-            Err(Some(Never::Full)) => return Err(Full),
-            Err(Some(Never::OutOfMemory) | None) => (),
+            Taken::Answered(answer) => return Ok(answer),
+            Taken::Again => (),
+            Taken::Full => return Err(Full),
         }
-        move_all(cluster, pass)?;
+        if let Err(Full) = move_all(cluster, pass) {
+            return Err(Full);
+        }
     }
     unreachable!()
 }
@@ -177,18 +190,19 @@ fn answer_to<R: Wait, N: Member>(
         (λ told. AnswersCall (shape_of cluster.now) node call (view_of pass.old) told.later told.answer (view_of pass.new))
         (λ why. IsNever node call (view_of pass.old) why (view_of pass.new)) }
 {
-    match call_at_last(rt, cluster, pass, node, call)? {
-        Answer::Wait => match collect_at_last(rt, cluster, pass, node) {
+    match call_at_last(rt, cluster, pass, node, call) {
+        Ok(Answer::Wait) => match collect_at_last(rt, cluster, pass, node) {
             Ok(answer) => Ok(Told {
                 answer,
                 later: true,
             }),
             Err(Full) => Err(Never::Full),
         },
-        answer => Ok(Told {
+        Ok(answer) => Ok(Told {
             answer,
             later: false,
         }),
+        Err(never) => Err(never),
     }
 }
 

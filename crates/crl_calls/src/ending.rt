@@ -9,7 +9,7 @@ ghost use Rattle.crl_cluster.specs.Clusters.{view_of, shape_of, node_count, IsOf
 ghost use Rattle.crl_cluster.specs.Acting.{IsDone, IsUndone};
 ghost use Rattle.crl_calls.specs.Trails.{Does};
 ghost use Rattle.crl_calls.specs.Callers.{IsCallerOf, IsAnswered, IsNotEnded, is_allowed};
-ghost use Rattle.crl_calls.specs.Tries.{unended_of, is_full_end, IsUnended, IsNeverEnded};
+ghost use Rattle.crl_calls.specs.Tries.{ended_of, is_full_end, IsEnded, IsNeverEnded};
 
 use crate::caller::Caller;
 use crate::faults::{EndFault, EndWhy};
@@ -114,19 +114,24 @@ impl Ending for Writing {
     }
 }
 
-/// A section that was not ended, and why; None where it can be tried again.
-struct Kept<G> {
-    why: Option<EndWhy>,
-    guard: G,
+/// How a try to end a section ended.
+enum Ended<G> {
+    Done,
+    /// It can be tried again.
+    Again(G),
+    /// The node has no section open that the guard ends.
+    Foreign(G),
+    /// The history has 2^62 events.
+    Full(G),
 }
 
-/// Why the end is not appended; None where it can be tried again.
-fn unended_by(why: StepFault) -> Option<EndWhy>
-    ensures { result ≡ unended_of why }
+/// How the try ended that was not done.
+fn not_ended<G>(why: StepFault, back: G) -> Ended<G>
+    ensures { result ≡ ended_of why back }
 {
     match why {
-        StepFault::OutOfMemory | StepFault::Moved { saw: _, found: _ } => None,
-        StepFault::Spent => Some(EndWhy::Spent),
+        StepFault::OutOfMemory | StepFault::Moved { saw: _, found: _ } => Ended::Again(back),
+        StepFault::Spent => Ended::Full(back),
     }
 }
 
@@ -136,31 +141,25 @@ fn end_held<N: Member, G: Ending>(
     pass: &mut Pass,
     held: &mut Held<N, ()>,
     guard: G,
-) -> Result<(), Kept<G>>
+) -> Ended<G>
     requires here { IsOf cluster.now pass.old }
     requires held { IsHeld N.state (shape_of cluster.now) (view_of pass.old) held.old }
     ensures here { IsOf cluster.now pass.new }
     ensures held { IsHeld N.state (shape_of cluster.now) (view_of pass.new) held.new × IsSameHeld held.old held.new }
     ensures told { let s = shape_of cluster.now in
         let i = held.old.number in
-        MatchResult result (λ _. IsDone s (event.Call i (G.call guard)) (view_of pass.old) Done (view_of pass.new))
-        (λ kept. (kept.guard ≡ guard) × IsUnended s i (λ n. G.may_end n guard) (view_of pass.old) kept.why (view_of pass.new)) }
+        let done = IsDone s (event.Call i (G.call guard)) (view_of pass.old) Done (view_of pass.new) in
+        IsEnded done s i (λ n. G.may_end n guard) guard (view_of pass.old) result (view_of pass.new) }
 {
     if !guard.may_end(held.node()) {
-        return Err(Kept {
-            why: Some(EndWhy::Foreign),
-            guard,
-        });
+        return Ended::Foreign(guard);
     }
     if !held.node().is_free() {
-        return Err(Kept { why: None, guard });
+        return Ended::Again(guard);
     }
     match guard.end(cluster, pass, held) {
-        Ok(()) => Ok(()),
-        Err(NotDone { why, back }) => Err(Kept {
-            why: unended_by(why),
-            guard: back,
-        }),
+        Ok(()) => Ended::Done,
+        Err(fault) => not_ended(fault.why, fault.back),
     }
 }
 
@@ -170,13 +169,13 @@ fn end_once<N: Member, G: Ending>(
     pass: &mut Pass,
     node: NodeNo,
     guard: G,
-) -> Result<(), Kept<G>>
+) -> Ended<G>
     requires here { IsOf cluster.now pass.old }
     requires node { node < node_count cluster.now }
     ensures here { IsOf cluster.now pass.new }
     ensures told { let s = shape_of cluster.now in
-        MatchResult result (λ _. Does s (event.Call node (G.call guard)) (view_of pass.old) Done (view_of pass.new))
-        (λ kept. (kept.guard ≡ guard) × IsUnended s node (λ n. G.may_end n guard) (view_of pass.old) kept.why (view_of pass.new)) }
+        let done = Does s (event.Call node (G.call guard)) (view_of pass.old) Done (view_of pass.new) in
+        IsEnded done s node (λ n. G.may_end n guard) guard (view_of pass.old) result (view_of pass.new) }
 {
     match cluster.hold(pass, node) {
         Ok(mut held) => {
@@ -184,7 +183,7 @@ fn end_once<N: Member, G: Ending>(
             cluster.release(pass, held);
             answer
         }
-        Err(_) => Err(Kept { why: None, guard }),
+        Err(_) => Ended::Again(guard),
     }
 }
 
@@ -206,15 +205,20 @@ fn end_or_never<R: Wait, N: Member, G: Ending>(
     let mut guard = guard;
     for _ in rt.forever() {
         match end_once(cluster, pass, node, guard) {
-            Ok(()) => return Ok(()),
-            Err(Kept {
-                why: Some(why),
-                guard,
-            }) => return Err(EndFault { guard, why }),
-            Err(Kept {
-                why: None,
-                guard: back,
-            }) => guard = back,
+            Ended::Done => return Ok(()),
+            Ended::Again(back) => guard = back,
+            Ended::Foreign(guard) => {
+                return Err(EndFault {
+                    guard,
+                    why: EndWhy::Foreign,
+                });
+            }
+            Ended::Full(guard) => {
+                return Err(EndFault {
+                    guard,
+                    why: EndWhy::Spent,
+                });
+            }
         }
         if let Err(Full) = move_all(cluster, pass) {
             return Err(EndFault {

@@ -44,6 +44,19 @@ fn move_out<N: Member>(cluster: &Cluster<N, ()>, pass: &mut Pass, node: NodeNo) 
     full_if(cluster.try_carry(pass, node, 0))
 }
 
+/// The first piece of each of the node's boxes goes on, where that can be done now.
+fn move_at<N: Member>(cluster: &Cluster<N, ()>, pass: &mut Pass, node: NodeNo) -> Result<(), Full>
+    requires here { IsOf cluster.now pass.old }
+    requires node { node < node_count cluster.now }
+    ensures here { IsOf cluster.now pass.new }
+    ensures told { MatchResult result (λ _. Moves (view_of pass.old) (view_of pass.new)) (λ _. MovesToTheEnd (view_of pass.old) (view_of pass.new)) }
+{
+    match move_in(cluster, pass, node) {
+        Ok(()) => move_out(cluster, pass, node),
+        Err(Full) => Err(Full),
+    }
+}
+
 /// The first piece of each box goes on, where that can be done now. Then another thread may go on.
 pub(crate) fn move_all<N: Member>(cluster: &Cluster<N, ()>, pass: &mut Pass) -> Result<(), Full>
     requires here { IsOf cluster.now pass.old }
@@ -51,8 +64,9 @@ pub(crate) fn move_all<N: Member>(cluster: &Cluster<N, ()>, pass: &mut Pass) -> 
     ensures told { MatchResult result (λ _. Moves (view_of pass.old) (view_of pass.new)) (λ _. MovesToTheEnd (view_of pass.old) (view_of pass.new)) }
 {
     for node in 0..cluster.count(pass) {
-        move_in(cluster, pass, node)?;
-        move_out(cluster, pass, node)?;
+        if let Err(Full) = move_at(cluster, pass, node) {
+            return Err(Full);
+        }
     }
     thread::yield_now();
     Ok(())
