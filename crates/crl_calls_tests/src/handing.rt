@@ -2,7 +2,10 @@
 ghost use Rattle.crl_calls.specs.Callers.{IsCallerOf};
 
 use crate::callers::Nodes;
-use crl_calls::{CallFault, Caller, EndFault, rgn_end_write, rgn_map, rgn_start_write, rgn_unmap};
+use crl_calls::{
+    CallFault, Caller, EndFault, rgn_end_read, rgn_end_write, rgn_map, rgn_start_read,
+    rgn_start_write, rgn_unmap,
+};
 use crl_guard::Writing;
 use crl_model::name::Name;
 use std::sync::Wait;
@@ -73,4 +76,48 @@ pub fn hand<R: Wait>(
         }
     }
     rgn_unmap(rt, nodes, who, name)
+}
+
+/// The first byte of a read section, which is ended.
+fn read_first<R: Wait>(
+    rt: &R,
+    nodes: &Nodes,
+    who: &mut Caller,
+    name: Name,
+) -> Result<u8, CallFault>
+    requires caller { IsCallerOf nodes.now who.old }
+    ensures caller { IsCallerOf nodes.now who.new }
+{
+    let guard = rgn_start_read(rt, nodes, who, name)?;
+    let first = match guard.bytes().first() {
+        Some(first) => *first,
+        None => 0,
+    };
+    match rgn_end_read(rt, nodes, who, guard) {
+        Ok(()) => Ok(first),
+        Err(EndFault { guard, why: _ }) => {
+            guard.discard();
+            Err(CallFault::Spent)
+        }
+    }
+}
+
+/// The first byte of the region, which the caller maps for it.
+///
+/// # Errors
+///
+/// The first fault of a call.
+pub fn first_byte<R: Wait>(
+    rt: &R,
+    nodes: &Nodes,
+    who: &mut Caller,
+    name: Name,
+) -> Result<u8, CallFault>
+    requires caller { IsCallerOf nodes.now who.old }
+    ensures caller { IsCallerOf nodes.now who.new }
+{
+    rgn_map(rt, nodes, who, name)?;
+    let first = read_first(rt, nodes, who, name)?;
+    rgn_unmap(rt, nodes, who, name)?;
+    Ok(first)
 }

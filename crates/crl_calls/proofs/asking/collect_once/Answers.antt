@@ -2,8 +2,8 @@ use Rattle.std.proofs.Common.{sym, subst}
 use Rattle.crl_model.specs.declared.event.Event.TheVariants as event
 use Rattle.crl_cluster.specs.Clusters.{view_of, shape_of}
 use Rattle.crl_cluster.specs.Trying.{HasNoAnswer}
-use Rattle.crl_calls.specs.Tries.{IsNotMade}
-use Rattle.crl_calls.proofs.Tried.{tried_does, tried_not}
+use Rattle.crl_calls.specs.Tries.{IsTaken}
+use Rattle.crl_calls.proofs.Tried.{tried_does, taken_not}
 use Rattle.crl_calls.proofs.asking.collect_once.Goals as goal
 
 pub returns-in-Ok-clause-told : goal.returns-in-Ok-clause-told
@@ -12,6 +12,8 @@ returns-in-Ok-clause-told g c =
 
 pub returns-in-Err-clause-told : goal.returns-in-Err-clause-told
 returns-in-Err-clause-told g c =
+    let s = shape_of c.args.cluster.now in
     let old = view_of c.args.pass.now in
     let new = view_of c.try_collect.new.pass in
-    subst (λ why. IsNotMade old why new) (sym c.unmade_by.ensures) (tried_not (shape_of c.args.cluster.now) c.args.node (HasNoAnswer c.args.node) old new c.in-Err.why c.in-Err.ensures.told)
+    subst (λ t. IsTaken s c.args.node old t new) (sym c.not_taken.ensures)
+    (taken_not s c.args.node (HasNoAnswer c.args.node) old new c.in-Err.why c.in-Err.ensures.told)
