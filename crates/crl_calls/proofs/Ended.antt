@@ -63,11 +63,15 @@ unfolding verdict
 closes_as n name r e after =
     none_allowed _ r e ∙ same_allowed (of_unmapped n name) (of_end true (section_at name n.sections)) (nat_lt (mapped_size (n.maps name)) (0 + 0)) OutOfRange (lt_zero (mapped_size (n.maps name)) _ refl)
 
-pub undone_ended : {G : Type 0} (IsItDone : Type 0) (s : Shape) (node : ℕ) (may_end : Node → Bool) (guard back : G) (old new : View) (why : StepFault) → back ≡ guard → IsUndone s old why new
+undone_as : {G : Type 0} (IsItDone : Type 0) (s : Shape) (node : ℕ) (may_end : Node → Bool) (guard back : G) (old new : View) (why : StepFault) → back ≡ guard → IsUndone s old why new
     → IsEnded IsItDone s node may_end guard old (ended_of why back) new
-undone_ended IsItDone s node may_end guard back old new fault.OutOfMemory same is = (same, moves_walk old new (walk_undone s old new fault.OutOfMemory is))
-undone_ended IsItDone s node may_end guard back old new (fault.Moved saw found) same is = (same, moves_walk old new (walk_undone s old new (fault.Moved saw found) is))
-undone_ended IsItDone s node may_end guard back old new fault.Spent same is = (same, (moves_walk old new (walk_undone s old new fault.Spent is), is.full))
+undone_as IsItDone s node may_end guard back old new fault.OutOfMemory same is = (same, moves_walk old new (walk_undone s old new fault.OutOfMemory is))
+undone_as IsItDone s node may_end guard back old new (fault.Moved saw found) same is = (same, moves_walk old new (walk_undone s old new (fault.Moved saw found) is))
+undone_as IsItDone s node may_end guard back old new fault.Spent same is = (same, (moves_walk old new (walk_undone s old new fault.Spent is), is.full))
+
+pub undone_ended : {G : Type 0} (IsItDone : Type 0) (s : Shape) (node : ℕ) (may_end : Node → Bool) (guard back : G) (old new : View) (why : StepFault) (r : Ended G) → r ≡ ended_of why back → back ≡ guard
+    → IsUndone s old why new → IsEnded IsItDone s node may_end guard old r new
+undone_ended IsItDone s node may_end guard back old new why r as same is = subst (λ t. IsEnded IsItDone s node may_end guard old t new) (sym as) (undone_as IsItDone s node may_end guard back old new why same is)
 
 -- The node was held for it.
 module _ (s : Shape) (node : ℕ) (old held done new : View) (begins : Begins old.front held.front) (takes : held ≡ after_take node held.front old) (gives : new ≡ after_give_back node done) where

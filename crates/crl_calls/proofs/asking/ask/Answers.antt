@@ -8,9 +8,9 @@ returns-then-who-clause-told g c = spent_before c.args.cluster.now c.args.call c
 
 pub returns-clause-caller : goal.returns-clause-caller
 returns-clause-caller g c =
-    asked_caller c.args.cluster.now (shape_of c.args.cluster.now) c.args.call c.args.who.now _ c.answer_to-answer.result c.requires.caller c.answer_to-answer.ensures.here refl c.finds_full.ensures c.answer_to-answer.ensures.told
+    asked_caller c.args.cluster.now (shape_of c.args.cluster.now) c.args.call c.args.who.now _ c.answer_to-answer.result c.requires.caller c.answer_to-answer.ensures.here refl c.finds_full-who.ensures c.answer_to-answer.ensures.told
 
 pub returns-clause-told : goal.returns-clause-told
 returns-clause-told g c =
     asked_told (shape_of c.args.cluster.now) c.args.call (g.F.Form.gives c.args.form) (g.F.Form.word c.args.form) c.args.who.now _ c.answer_to-answer.result c.given.result
-    c.requires.word c.if-who.false refl c.finds_full.ensures c.answer_to-answer.ensures.told c.given.ensures
+    c.requires.word c.if-who.false refl c.finds_full-who.ensures c.answer_to-answer.ensures.told c.given.ensures

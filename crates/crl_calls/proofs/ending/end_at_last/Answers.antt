@@ -10,9 +10,9 @@ returns-then-who-clause-told g c = (refl, spent_before c.args.cluster.now (g.G.E
 pub returns-clause-caller : goal.returns-clause-caller
 returns-clause-caller g c =
     ended_caller c.args.cluster.now (shape_of c.args.cluster.now) (g.G.Ending.call c.args.guard) (λ n. g.G.Ending.may_end n c.args.guard) c.args.guard c.args.who.now _ c.end_or_never-answer.result
-    c.requires.caller c.end_or_never-answer.ensures.here refl c.finds_full.ensures c.end_or_never-answer.ensures.told
+    c.requires.caller c.end_or_never-answer.ensures.here refl c.finds_full-who.ensures c.end_or_never-answer.ensures.told
 
 pub returns-clause-told : goal.returns-clause-told
 returns-clause-told g c =
     ended_told (shape_of c.args.cluster.now) (g.G.Ending.call c.args.guard) (λ n. g.G.Ending.may_end n c.args.guard) c.args.guard c.args.who.now _ c.end_or_never-answer.result
-    c.if-who.false refl c.finds_full.ensures c.end_or_never-answer.ensures.told
+    c.if-who.false refl c.finds_full-who.ensures c.end_or_never-answer.ensures.told

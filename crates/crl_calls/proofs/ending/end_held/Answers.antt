@@ -1,6 +1,8 @@
-use Rattle.std.proofs.Common.{rules, ◌≡◌, false, refl, sym, ◌∙◌, subst}
+use Rattle.std.proofs.Common.{rules, ◌≡◌, false, refl, subst}
+use Rattle.crl_model.specs.declared.event.Event.TheVariants as event
+use Rattle.crl_protocol.specs.Node.{Done}
+use Rattle.crl_cluster.specs.Acting.{IsDone}
 use Rattle.crl_cluster.specs.Clusters.{view_of, shape_of}
-use Rattle.crl_calls.specs.Tries.{IsEnded}
 use Rattle.crl_calls.proofs.Telling.{moves_none}
 use Rattle.crl_calls.proofs.Ended.{undone_ended}
 use Rattle.crl_calls.proofs.ending.end_held.Goals as goal
@@ -15,6 +17,10 @@ returns-then-not-is_free-clause-told g c = (refl, moves_none (view_of c.args.pas
 
 pub returns-in-Err-clause-told : goal.returns-in-Err-clause-told
 returns-in-Err-clause-told g c =
+    let s = shape_of c.args.cluster.now in
+    let i = c.args.held.now.number in
+    let old = view_of c.args.pass.now in
+    let new = view_of c.end.new.pass in
     let told = c.in-Err.ensures.told in
-    subst (λ r. IsEnded _ (shape_of c.args.cluster.now) c.args.held.now.number (λ n. g.G.Ending.may_end n c.args.guard) c.args.guard (view_of c.args.pass.now) r (view_of c.end.new.pass)) (sym c.not_ended.ensures)
-    (undone_ended _ (shape_of c.args.cluster.now) c.args.held.now.number (λ n. g.G.Ending.may_end n c.args.guard) c.args.guard c.in-Err.fault.back (view_of c.args.pass.now) (view_of c.end.new.pass) c.in-Err.fault.why told.0 told.1)
+    undone_ended (IsDone s (event.Call i (g.G.Ending.call c.args.guard)) old Done new) s i (λ n. g.G.Ending.may_end n c.args.guard) c.args.guard c.in-Err.fault.back old new c.in-Err.fault.why c.not_ended.result
+    c.not_ended.ensures told.0 told.1
