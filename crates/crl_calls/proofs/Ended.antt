@@ -71,7 +71,7 @@ undone_as IsItDone s node may_end guard back old new fault.Spent same is = (same
 
 pub undone_ended : {G : Type 0} (IsItDone : Type 0) (s : Shape) (node : ℕ) (may_end : Node → Bool) (guard back : G) (old new : View) (why : StepFault) (r : Ended G) → r ≡ ended_of why back → back ≡ guard
     → IsUndone s old why new → IsEnded IsItDone s node may_end guard old r new
-undone_ended IsItDone s node may_end guard back old new why r as same is = subst (λ t. IsEnded IsItDone s node may_end guard old t new) (sym as) (undone_as IsItDone s node may_end guard back old new why same is)
+undone_ended IsItDone s node may_end guard back old new why r how same is = subst (λ t. IsEnded IsItDone s node may_end guard old t new) (sym how) (undone_as IsItDone s node may_end guard back old new why same is)
 
 -- The node was held for it.
 module _ (s : Shape) (node : ℕ) (old held done new : View) (begins : Begins old.front held.front) (takes : held ≡ after_take node held.front old) (gives : new ≡ after_give_back node done) where

@@ -1,7 +1,7 @@
 //! New nodes, and callers of them.
 ghost use Rattle.std.specs.Prelude.{IfOk, IfSome};
 ghost use Rattle.crl_calls.specs.Callers.{IsCallerOf};
-ghost use Rattle.crl_calls_tests.specs.Callers.{AreCallersOf};
+ghost use Rattle.crl_calls_tests.specs.Callers.{AreCallersOf, HasNodes};
 
 use crl_calls::{Caller, callers};
 use crl_cluster::Cluster;
@@ -19,9 +19,13 @@ pub type Nodes = Cluster<Node, ()>;
 ///
 /// Those of `callers`.
 pub fn nodes_with(alloc: Global, count: NodeNo) -> Result<(Nodes, Vec<Caller>), StartFault>
-    ensures { IfOk result (λ made. AreCallersOf made.0 made.1.items) }
+    ensures callers { IfOk result (λ made. AreCallersOf made.0 made.1.items) }
+    ensures nodes { IfOk result (λ made. HasNodes made.0 count) }
 {
-    callers(alloc, count, 16)
+    match callers(alloc, count, 16) {
+        Ok((nodes, list)) => Ok((nodes, list)),
+        Err(why) => Err(why),
+    }
 }
 
 /// The last caller of the list.

@@ -1,20 +1,19 @@
-ghost use Rattle.std.specs.Prelude.{IfOk, All};
+ghost use Rattle.std.specs.Prelude.{◌<◌};
+ghost use Rattle.crl_cluster.specs.Clusters.{node_count, IsOf};
 ghost use Rattle.crl_calls.specs.Callers.{IsCallerOf};
-ghost use Rattle.crl_calls_tests.specs.Callers.{AreCallersOf};
 
+use crate::beside::{begin, collected};
 use crate::callers::{Nodes, last_of, nodes_with};
 use crate::handing::{first_byte, hand};
 use crate::meeting::{Heard, meet};
 use crl_calls::{
-    CallFault, Caller, EndFault, EndWhy, rgn_barrier, rgn_bcast_recv, rgn_bcast_send, rgn_create,
-    rgn_delete, rgn_end_read, rgn_flush, rgn_map, rgn_reduce_sum, rgn_rid, rgn_size,
-    rgn_start_read, rgn_unmap,
+    CallFault, Caller, rgn_barrier, rgn_bcast_recv, rgn_bcast_send, rgn_create, rgn_delete,
+    rgn_flush, rgn_map, rgn_reduce_sum, rgn_rid, rgn_size, rgn_unmap,
 };
-use crl_guard::Reading;
+use crl_cluster::Pass;
 use crl_model::bytes::Bytes;
-use crl_model::call::Refusal;
+use crl_model::call::{Call, Refusal};
 use crl_model::name::Name;
-use std::alloc::Global;
 use std::sync::Wait;
 use std::test::Fail;
 use std::thread::{self, Threads, join};
@@ -104,5 +103,46 @@ fn calls_are_refused(rt: HostRuntime) -> Result<(), Fail> {
     rgn_delete(&rt, &nodes, who, name)?;
     let deleted = rgn_map(&rt, &nodes, who, name);
     assert!(rt; deleted == Err(CallFault::Refused(Refusal::Deleted)));
+    Ok(())
+}
+
+// One thread calls by the caller of node 0, while another takes the answer for which that node still waits.
+fn call_beside<R: Threads + Wait + Sync>(
+    rt: &R,
+    nodes: &Nodes,
+    who: Caller,
+    pass: Pass,
+) -> (bool, Option<Refusal>)
+    requires who { IsCallerOf nodes.now who }
+    requires pass { IsOf nodes.now pass × (0 < node_count nodes.now) }
+{
+    join(
+        rt,
+        move || -> bool
+            requires { IsCallerOf nodes.now who }
+        {
+            let mut who = who;
+            rgn_create(rt, nodes, &mut who, 4).is_ok()
+        },
+        move || -> Option<Refusal>
+            requires { IsOf nodes.now pass × (0 < node_count nodes.now) }
+        {
+            let mut pass = pass;
+            collected(rt, nodes, &mut pass, 0)
+        },
+    )
+}
+
+#[test]
+fn another_pass_uses_the_node(rt: HostRuntime) -> Result<(), Fail> {
+    let (nodes, mut list) = nodes_with(rt.alloc(), 2)?;
+    let other = last_of(&nodes, &mut list).expect(&rt, "a caller");
+    let who = last_of(&nodes, &mut list).expect(&rt, "a caller");
+    let mut pass = other.into_pass();
+    let name = Name::new(1, 1);
+    assert!(rt; begin(&nodes, &mut pass, 0, Call::Map { name }));
+    let (created, refused) = call_beside(&rt, &nodes, who, pass);
+    assert!(rt; created);
+    assert!(rt; refused == Some(Refusal::Unknown));
     Ok(())
 }
