@@ -1,0 +1,7 @@
+mod Walking
+mod Telling
+mod Tried
+mod Asked
+mod Ended
+mod Started
+mod Shows

@@ -1,0 +1,7 @@
+use Rattle.std.proofs.Common.{◌≡◌}
+use Rattle.crl_cluster.specs.Clusters.{view_of, IsOf}
+use Rattle.crl_calls.specs.Trails.{Moves}
+use Rattle.crl_calls.proofs.ending.end_or_never.Given as goal
+
+abbrev pub invariant-loop : goal.invariant-loop
+invariant-loop g l = IsOf l.cluster l.pass × (l.guard ≡ l.fn.guard) × Moves (view_of l.fn.pass) (view_of l.pass)

@@ -1,0 +1,109 @@
+//! The calls about sections: they are started, which gives a guard, and ended by the guard.
+ghost use Rattle.std.specs.Prelude.{◌≡◌, IfOk, MatchResult};
+ghost use Rattle.crl_model.specs.declared.call.Call.TheVariants as call;
+ghost use Rattle.crl_protocol.specs.Node as node;
+ghost use Rattle.crl_cluster.specs.Clusters.{shape_of};
+ghost use Rattle.crl_calls.specs.Callers.{knows, IsCallerOf, IsAnswered, IsFaulted, IsNotEnded, may_end_read, may_end_write};
+ghost use Rattle.crl_calls.specs.Shown.{ShowsArray};
+
+use crate::asking::ask;
+use crate::caller::Caller;
+use crate::ending::end_at_last;
+use crate::faults::{CallFault, EndFault};
+use crate::forms::{StartsRead, StartsWrite};
+use crl_cluster::Cluster;
+use crl_guard::{Reading, Writing};
+use crl_member::Member;
+use crl_model::call::Call;
+use crl_model::name::Name;
+use std::sync::Wait;
+
+/// Opens a read section. Its guard shows the region's bytes, which stay as they are until its end.
+///
+/// # Errors
+///
+/// Refused: `NotMapped`, `SectionOpen` or `TooMany`. `OutOfMemory`, `Spent`.
+pub fn rgn_start_read<R: Wait, N: Member>(
+    rt: &R,
+    cluster: &Cluster<N, ()>,
+    who: &mut Caller,
+    name: Name,
+) -> Result<Reading, CallFault>
+    requires caller { IsCallerOf cluster.now who.old }
+    ensures caller { IsCallerOf cluster.now who.new }
+    ensures told { let s = shape_of cluster.now in
+        let c = call.StartRead name in
+        MatchResult result
+        (λ guard. IsAnswered s c who.old (λ _ answer. (guard.name ≡ name) × (answer ≡ node.Reading guard)) who.new)
+        (λ why. IsFaulted s c who.old why who.new) }
+    ensures shows { IfOk result (λ guard. ShowsArray (shape_of cluster.now) (knows who.new).front guard) }
+{
+    ask(rt, cluster, who, Call::StartRead { name }, StartsRead { name })
+}
+
+/// Opens a write section, which excludes all other sections of the region. Its guard begins with the region's bytes.
+///
+/// # Errors
+///
+/// Refused: `NotMapped` or `SectionOpen`. `OutOfMemory`, `Spent`.
+pub fn rgn_start_write<R: Wait, N: Member>(
+    rt: &R,
+    cluster: &Cluster<N, ()>,
+    who: &mut Caller,
+    name: Name,
+) -> Result<Writing, CallFault>
+    requires caller { IsCallerOf cluster.now who.old }
+    ensures caller { IsCallerOf cluster.now who.new }
+    ensures told { let s = shape_of cluster.now in
+        let c = call.StartWrite name in
+        MatchResult result
+        (λ guard. IsAnswered s c who.old (λ _ answer. (guard.name ≡ name) × (answer ≡ node.Writing guard)) who.new)
+        (λ why. IsFaulted s c who.old why who.new) }
+    ensures shows { IfOk result (λ guard. ShowsArray (shape_of cluster.now) (knows who.new).front guard) }
+{
+    ask(rt, cluster, who, Call::StartWrite { name }, StartsWrite { name })
+}
+
+/// Ends the newest read section of the guard's region. It takes no memory.
+///
+/// # Errors
+///
+/// `Foreign` or `Spent`. The guard comes back.
+pub fn rgn_end_read<R: Wait, N: Member>(
+    rt: &R,
+    cluster: &Cluster<N, ()>,
+    who: &mut Caller,
+    guard: Reading,
+) -> Result<(), EndFault<Reading>>
+    requires caller { IsCallerOf cluster.now who.old }
+    ensures caller { IsCallerOf cluster.now who.new }
+    ensures told { let s = shape_of cluster.now in
+        let c = call.EndRead guard.name in
+        MatchResult result
+        (λ _. IsAnswered s c who.old (λ _ answer. answer ≡ node.Done) who.new)
+        (λ back. (back.guard ≡ guard) × IsNotEnded s c (λ n. may_end_read n guard) who.old back.why who.new) }
+{
+    end_at_last(rt, cluster, who, guard)
+}
+
+/// Ends the write section of the guard's region, which has the guard's bytes from then on. It takes no memory.
+///
+/// # Errors
+///
+/// `Foreign` or `Spent`. The guard comes back.
+pub fn rgn_end_write<R: Wait, N: Member>(
+    rt: &R,
+    cluster: &Cluster<N, ()>,
+    who: &mut Caller,
+    guard: Writing,
+) -> Result<(), EndFault<Writing>>
+    requires caller { IsCallerOf cluster.now who.old }
+    ensures caller { IsCallerOf cluster.now who.new }
+    ensures told { let s = shape_of cluster.now in
+        let c = call.EndWrite guard.name guard.bytes in
+        MatchResult result
+        (λ _. IsAnswered s c who.old (λ _ answer. answer ≡ node.Done) who.new)
+        (λ back. (back.guard ≡ guard) × IsNotEnded s c (λ n. may_end_write n guard) who.old back.why who.new) }
+{
+    end_at_last(rt, cluster, who, guard)
+}
