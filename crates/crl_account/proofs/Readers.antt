@@ -7,7 +7,7 @@ use Rattle.crl_account.specs.declared.fault.AccountFault.{AccountFault}
 use Rattle.crl_account.specs.declared.fault.AccountFault.TheVariants as faults
 use Rattle.crl_account.specs.declared.line.Stage.{Stage}
 use Rattle.crl_account.specs.declared.line.Stage.TheVariants as stages
-use Rattle.crl_account.specs.Account.{lines_of, stage_of, IsAccount}
+use Rattle.crl_account.specs.Account.{lines_of, stage_of, IsAccount, IsFirstBad}
 use Rattle.crl_account.specs.Step.{entries_in, Took, IsRefused}
 use Rattle.crl_account.specs.Unread.{Unread}
 use Rattle.crl_account.specs.Reader.{IsRead, HasGiven, IsWhole, IsBroken, Gave, GaveLine}
@@ -70,3 +70,14 @@ gives_fault text given faults.OutOfMemory later h = h
 
 pub gives_none : (text : List ℕ) (given : List Entry) (later : Unread) → GaveLine text given (Ok None) later → HasGiven text given later
 gives_none text given later h = subst (λ (es : List Entry). HasGiven text es later) (append-nil given) h
+
+-- a fault says that the text is no account, or that memory is wanting
+pub fault_only : (text : List ℕ) (given : List Entry) (fault : AccountFault) (later : Unread) → Gave text given (Err fault) later → (entries : List Entry) → IsAccount (lines_of text) entries
+    → fault ≡ faults.OutOfMemory
+fault_only text given (faults.BadLine number) later h entries is = absurd (h.1.none entries is)
+fault_only text given faults.OutOfMemory later h entries is = refl
+
+pub fault_bad : (text : List ℕ) (given : List Entry) (fault : AccountFault) (later : Unread) → Gave text given (Err fault) later → (line : ℕ) → fault ≡ faults.BadLine line
+    → IsFirstBad (lines_of text) line
+fault_bad text given (faults.BadLine number) later h line e = let same : number ≡ line = cc in subst (λ (n : ℕ). IsFirstBad (lines_of text) n) same h.1.first
+fault_bad text given faults.OutOfMemory later h line e = cc

@@ -1,13 +1,9 @@
-use Rattle.std.proofs.Common.{◌+◌, ◌≤◌, length}
-use Rattle.crl_account.proofs.Feeds.{Progress}
-use Rattle.crl_account.proofs.read.read_account.Given as goal
+use Rattle.std.proofs.Common.{length}
+use Rattle.crl_account.specs.Reader.{HasGiven}
+use Rattle.crl_account.proofs.reader.read_account.Given as goal
 
--- the lines so far are read, and each took a byte at least
-abbrev pub invariant-loop-rest : goal.invariant-loop-rest
-invariant-loop-rest l = record {
-  progress : Progress l.text l.rest l.number l.entries.items l.stage;
-  bound : l.number + length l.rest ≤ length l.text;
-}
+abbrev pub invariant-loop-reader : goal.invariant-loop-reader
+invariant-loop-reader l = HasGiven l.text l.entries.items l.reader
 
-abbrev pub decreases-loop-rest : goal.decreases-loop-rest
-decreases-loop-rest l = length l.rest
+abbrev pub decreases-loop-reader : goal.decreases-loop-reader
+decreases-loop-reader l = length l.reader.bytes
