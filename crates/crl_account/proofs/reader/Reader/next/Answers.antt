@@ -1,4 +1,4 @@
-use Rattle.std.proofs.Common.{◌≡◌, ◌<◌, ◌+◌, Err, Ok, Some, None, arith, sym, subst, ap, ◌∙◌}
+use Rattle.std.proofs.Common.{arith}
 use Rattle.std.proofs.lemmas.Result.{err_from_is_err_and}
 use Rattle.crl_account.proofs.Readers.{given_whole, gives_fault, gives_none}
 use Rattle.crl_account.proofs.reader.Reader.next.Goals as goal

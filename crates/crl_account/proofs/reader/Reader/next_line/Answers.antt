@@ -1,4 +1,4 @@
-use Rattle.std.proofs.Common.{◌≡◌, sym, subst}
+use Rattle.std.proofs.Common.{sym, subst}
 use Rattle.crl_account.specs.Unread.{Unread}
 use Rattle.crl_account.specs.Reader.{HasGiven}
 use Rattle.crl_account.proofs.Readers.{given_line, given_broken}
