@@ -2,6 +2,7 @@
 ghost use Rattle.std.specs.Prelude.{◌≡◌};
 
 use crl_account::AccountFault;
+use crl_model::OutOfMemory;
 use thiserror::Error;
 
 /// Why a history isn't taken.
@@ -27,5 +28,15 @@ impl From<AccountFault> for CheckFault {
             AccountFault::BadLine(line) => CheckFault::BadLine(line),
             AccountFault::OutOfMemory => CheckFault::OutOfMemory,
         }
+    }
+}
+
+impl From<OutOfMemory> for CheckFault {
+    ghost use Rattle.crl_check.specs.declared.fault.CheckFault.TheVariants as faults;
+
+    ghost from_gives = { λ _ e. e ≡ faults.OutOfMemory };
+
+    fn from(_error: OutOfMemory) -> CheckFault {
+        CheckFault::OutOfMemory
     }
 }

@@ -1,5 +1,5 @@
 //! Judging of entries that come one by one.
-ghost use Rattle.std.specs.Prelude.{◌≡◌, ◌<◌, ◌≤◌, ◌++◌, ◌∷◌, [], List, IfOk, OnOk, OnErr, Err};
+ghost use Rattle.std.specs.Prelude.{◌≡◌, ◌<◌, ◌≤◌, ◌++◌, ◌∷◌, [], List, IfOk, OnOk};
 ghost use Rattle.crl_model.specs.declared.entry.Entry.{Entry};
 ghost use Rattle.crl_machine.specs.SingleMachine.{State, start};
 ghost use Rattle.crl_check.specs.Histories.{SaysOf};
@@ -8,7 +8,7 @@ ghost use Rattle.crl_check.specs.Judging.{HasJudged};
 use crate::fault::CheckFault;
 use crl_machine::machine::{Judged, Machine};
 use crl_model::entry::Entry;
-use crl_model::{NODE_LIMIT, NodeNo};
+use crl_model::{NODE_LIMIT, NodeNo, OutOfMemory};
 use std::alloc::Global;
 
 /// What was judged of the entries so far. Behind the first that is no legal step none is judged.
@@ -23,27 +23,22 @@ pub(crate) struct Judge {
 
 impl Judge {
     /// The judge of a history of so many nodes that has no entry yet.
-    pub(crate) fn new(alloc: Global, nodes: NodeNo) -> Result<Judge, CheckFault>
+    pub(crate) fn new(alloc: Global, nodes: NodeNo) -> Result<Judge, OutOfMemory>
         requires some { 1 ≤ nodes }
         requires few { nodes ≤ NODE_LIMIT }
-        ensures ok { IfOk result (λ judge. HasJudged (start nodes) [] judge) }
-        ensures want { OnErr result (result ≡ Err CheckFault.OutOfMemory) }
+        ensures { IfOk result (λ judge. HasJudged (start nodes) [] judge) }
     {
-        let Ok(machine) = Machine::new(alloc, nodes) else {
-            return Err(CheckFault::OutOfMemory);
-        };
         Ok(Judge {
-            machine,
+            machine: Machine::new(alloc, nodes)?,
             legal: 0,
             broken: false,
         })
     }
 
     /// Judges the next entry.
-    pub(crate) fn take(&mut self, entry: &Entry) -> Result<(), CheckFault>
+    pub(crate) fn take(&mut self, entry: &Entry) -> Result<(), OutOfMemory>
         requires room { self.old.legal < usize.MAX }
-        ensures ok { (s : State) (given : List Entry) → HasJudged s given self.old → OnOk result (HasJudged s (given ++ entry.now ∷ []) self.new) }
-        ensures want { OnErr result (result ≡ Err CheckFault.OutOfMemory) }
+        ensures { (s : State) (given : List Entry) → HasJudged s given self.old → OnOk result (HasJudged s (given ++ entry.now ∷ []) self.new) }
     {
         if self.broken {
             return Ok(());
@@ -51,7 +46,7 @@ impl Judge {
         match self.machine.judge(entry) {
             Ok(()) => self.legal += 1,
             Err(Judged::Illegal) => self.broken = true,
-            Err(Judged::OutOfMemory) => return Err(CheckFault::OutOfMemory),
+            Err(Judged::OutOfMemory) => return Err(OutOfMemory),
         }
         Ok(())
     }

@@ -1,0 +1,1 @@
+use Rattle.crl_check.proofs.judge_text.Goals as goal
