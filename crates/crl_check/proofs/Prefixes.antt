@@ -43,4 +43,4 @@ found_within s given true legal t f = omega (arith, illegal_inside s given legal
 
 -- the first i entries, and one more
 pub one_more : (es : List Entry) (i : ℕ) (e : Entry) → i < length es → e ≡ get_or es i e → take i es ++ e ∷ [] ≡ take (i + 1) es
-one_more es i e inside is = sym (take_more i es e inside ∙ ap (λ x. take i es ++ x ∷ []) (sym is))
+one_more es i e inside is = sym (take_more es i e inside ∙ ap (λ x. take i es ++ x ∷ []) (sym is))

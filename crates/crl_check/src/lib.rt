@@ -13,12 +13,11 @@ ghost use Rattle.crl_check.specs.Accounts.{IsLegalText, IsIllegalText, SaysOfTex
 mod fault;
 mod judge;
 
-pub use fault::CheckFault;
-
 use crate::judge::Judge;
 use crl_account::Reader;
 use crl_model::entry::Entry;
 use crl_model::{NODE_LIMIT, NodeNo};
+pub use fault::CheckFault;
 use std::alloc::Global;
 
 /// Whether the entries are a legal history of so many nodes.
