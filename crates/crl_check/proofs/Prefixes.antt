@@ -1,8 +1,8 @@
 -- Histories that are judged entry by entry.
-use Rattle.std.proofs.Common.{◌≡◌, ℕ, ◌+◌, ◌<◌, ◌≤◌, suc, Bool, true, false, List, [], ◌∷◌, ◌++◌, length, take, get_or, refl, sym, ap, subst, ◌∙◌, arith, append_assoc, length-append, length-take-le}
+use Rattle.std.proofs.Common.{◌≡◌, ℕ, ◌+◌, ◌<◌, ◌≤◌, suc, Bool, true, false, List, [], ◌∷◌, ◌++◌, length, take, get_or, sym, ap, ◌∙◌, arith, append_assoc, length-append}
 use Rattle.std.proofs.lemmas.List.{take_more}
 use Rattle.crl_model.specs.declared.entry.Entry.{Entry}
-use Rattle.crl_machine.specs.SingleMachine.{State, IsLegal, after, IsHistory, after_all}
+use Rattle.crl_machine.specs.SingleMachine.{State, IsLegal, after}
 use Rattle.crl_machine.proofs.Laws.{history_push, after_push}
 use Rattle.crl_check.specs.Histories.{IsFirstIllegal}
 use Rattle.crl_check.specs.Judging.{Found}

@@ -1,5 +1,5 @@
 -- What is said of a text, from what is said of its entries.
-use Rattle.std.proofs.Common.{◌≡◌, ℕ, ◌≤◌, List, length, Ok, Err, sym, subst, arith}
+use Rattle.std.proofs.Common.{◌≡◌, ℕ, ◌≤◌, List, length, Ok, Err, subst, arith}
 use Rattle.std.specs.Prelude.{Result, OnOk}
 use Rattle.crl_model.specs.declared.entry.Entry.{Entry}
 use Rattle.crl_machine.specs.SingleMachine.{State}

@@ -1,5 +1,5 @@
 -- What is said of a text: it is the account of a legal history, or of one that isn't, or no account.
-use Rattle.std.specs.Prelude.{◌≡◌, ℕ, ◌<◌, List, length, Result, Ok, Err}
+use Rattle.std.specs.Prelude.{ℕ, ◌<◌, List, length, Result, Ok, Err}
 use Rattle.crl_model.specs.declared.entry.Entry.{Entry}
 use Rattle.crl_machine.specs.SingleMachine.{State, IsHistory}
 use Rattle.crl_account.specs.Reader.{IsWhole, IsBroken}

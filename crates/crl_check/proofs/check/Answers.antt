@@ -1,1 +1,0 @@
-use Rattle.crl_check.proofs.check.Goals as goal

@@ -1,4 +1,4 @@
-use Rattle.std.proofs.Common.{◌≡◌, List, ℕ, sym, subst}
+use Rattle.std.proofs.Common.{List, ℕ, sym, subst}
 use Rattle.crl_machine.specs.SingleMachine.{start}
 use Rattle.crl_account.specs.Account.{lines_of, IsAccount}
 use Rattle.crl_account.proofs.Laws.{written_lines}

@@ -1,4 +1,3 @@
-use Rattle.std.proofs.Common.{◌+◌}
 use Rattle.crl_machine.specs.Seen.{state}
 use Rattle.crl_check.proofs.Prefixes.{found_legal, found_still}
 use Rattle.crl_check.proofs.judge.Judge.take.Goals as goal
