@@ -6,5 +6,7 @@ mod Lines
 mod Held
 mod Stages
 mod Feeds
+mod Readers
+pub mod Laws
 mod Printed
 mod Elements

@@ -1,5 +1,5 @@
 -- The text of a printable report is an account of its entries.
-use Rattle.std.proofs.Common.{◌≡◌, ℕ, suc, ◌<◌, true, List, [], ◌∷◌, ◌++◌, length, refl, sym, ap, subst, ◌∙◌, append_assoc, arith, inl, inr, Ok, Err}
+use Rattle.std.proofs.Common.{◌≡◌, ℕ, suc, true, List, [], ◌∷◌, ◌++◌, refl, sym, ap, subst, ◌∙◌, append_assoc, arith, inl, inr, Ok, Err}
 use Rattle.std.specs.Prelude.{IfOk, Result}
 use Rattle.std.specs.List.{All, AllByRecursion, flat_map}
 use Rattle.std.proofs.lemmas.List.{append-nil}
@@ -13,7 +13,7 @@ use Rattle.crl_account.specs.declared.line.Line.{Line}
 use Rattle.crl_account.specs.declared.line.Line.TheVariants as lines
 use Rattle.crl_account.specs.declared.line.Stage.TheVariants as stages
 use Rattle.crl_account.specs.Text.{spaced, account_text, final_text, blocked_text, counts_text, report_text, IsPrintable}
-use Rattle.crl_account.specs.Account.{lines_of, line_text, stage_of, FitsEntry, FitsLine, IsPrintableLine, IsLine, IsLineOf, AreCounts, AreStuck, AreRegions, IsAccount, IsReadable}
+use Rattle.crl_account.specs.Account.{lines_of, line_text, FitsEntry, FitsLine, IsPrintableLine, IsLine, IsLineOf, AreCounts, AreStuck, AreRegions, IsAccount, IsReadable}
 use Rattle.crl_account.specs.Reports.{HasBytes, IsPrintableReport, region_line, stuck_line, FitsRegion, FitsBlocked, FitsReport}
 use Rattle.crl_account.proofs.Plain.{avoids, plain_avoids, avoids-append, spaced_avoids, parts_word}
 use Rattle.crl_account.proofs.Lines.{first_word, other_words, text_is, first_plain, others_plain}

@@ -8,18 +8,8 @@ use Rattle.crl_account.specs.declared.line.Stage.{Stage}
 use Rattle.crl_account.specs.declared.line.Stage.TheVariants as stages
 use Rattle.crl_account.specs.Account.{IsLine, IsLineOf, stage_of, AreCounts, AreStuck, AreRegions, IsAccount, IsFirstBad}
 use Rattle.crl_account.specs.Step.{follows, entries_in, IsRefused}
+use Rattle.crl_account.specs.Reader.{IsBehind, IsRead}
 use Rattle.crl_account.proofs.Lines.{line_unique}
-
--- what may stand behind lines up to this stage
-abbrev pub IsBehind : Stage → List (List ℕ) → List Entry → Type 0
-IsBehind stages.Entries rest entries = IsAccount rest entries
-IsBehind stages.Regions rest [] = AreRegions rest
-IsBehind stages.Regions rest (entry ∷ entries) = ⊥
-IsBehind stages.Stuck rest [] = AreStuck rest
-IsBehind stages.Stuck rest (entry ∷ entries) = ⊥
-IsBehind stages.Counts [] [] = Unit {0}
-IsBehind stages.Counts [] (entry ∷ entries) = ⊥
-IsBehind stages.Counts (line ∷ rest) entries = ⊥
 
 -- ---- one line
 
@@ -117,11 +107,6 @@ line_from stages.Stuck bytes rest (entry ∷ entries) behind = absurd behind
 line_from stages.Counts bytes rest entries behind = absurd behind
 
 -- ---- the lines so far
-
--- these lines are read: just what may stand behind them makes an account of them, with these entries in front
-pub record IsRead (done : List (List ℕ)) (front : List Entry) (stage : Stage) : Type 0 where
-  pub to : (rest : List (List ℕ)) (entries : List Entry) → IsBehind stage rest entries → IsAccount (done ++ rest) (front ++ entries)
-  pub from : (rest : List (List ℕ)) (all : List Entry) → IsAccount (done ++ rest) all → (entries : List Entry) × (all ≡ front ++ entries) × IsBehind stage rest entries
 
 pub read_none : IsRead [] [] stages.Entries
 read_none = record { to = λ rest entries behind. behind; from = λ rest all is. (all, refl, is) }

@@ -1,7 +1,9 @@
 pub mod Text
-pub mod Reading
-pub mod Reports
 pub mod Words
+pub mod Reading
 pub mod Guess
 pub mod Account
 pub mod Step
+pub mod Unread
+pub mod Reader
+pub mod Reports

@@ -1,5 +1,5 @@
 -- One step of reading: which line may stand where, and what it adds.
-use Rattle.std.specs.Prelude.{◌≡◌, ℕ, Bool, true, false, List, [], ◌∷◌, ◌++◌}
+use Rattle.std.specs.Prelude.{◌≡◌, ℕ, Bool, true, false, List, Option, Some, None, option_to_list}
 use Rattle.crl_model.specs.declared.entry.Entry.{Entry}
 use Rattle.crl_account.specs.declared.line.Line.{Line}
 use Rattle.crl_account.specs.declared.line.Line.TheVariants as lines
@@ -21,17 +21,20 @@ follows stages.Counts stages.Stuck = true
 follows _ _ = false
 
 -- the entry of a line, if it has one
-abbrev pub entries_in : Line → List Entry
-entries_in (lines.Entry entry) = entry ∷ []
-entries_in _ = []
+abbrev pub entry_in : Line → Option Entry
+entry_in (lines.Entry entry) = Some entry
+entry_in _ = None
 
--- the text is a line that may stand behind lines up to the stage, and its entry is added
-pub record Took (bytes : List ℕ) (stage next : Stage) (old new : List Entry) : Type 0 where
+abbrev pub entries_in : Line → List Entry
+entries_in line = option_to_list (entry_in line)
+
+-- the text is a line that may stand behind lines up to the stage, of this next stage and with this entry
+pub record Took (bytes : List ℕ) (stage next : Stage) (entry : Option Entry) : Type 0 where
   pub line : Line
   pub is : IsLine line bytes
   pub allowed : follows (stage_of line) stage ≡ true
   pub next_is : next ≡ stage_of line
-  pub added : new ≡ old ++ entries_in line
+  pub entry_is : entry ≡ entry_in line
 
 -- the text is no line, or none that may stand here
 abbrev pub IsRefused : List ℕ → Stage → Type 0

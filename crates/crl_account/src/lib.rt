@@ -9,13 +9,14 @@ mod guess;
 mod line;
 mod piece;
 mod read;
+mod reader;
 mod report;
 mod sound;
 mod words;
 mod write;
 
 pub use fault::AccountFault;
-pub use read::read_account;
+pub use reader::{Reader, read_account};
 pub use report::print_report;
 pub use sound::is_printable;
 pub use words::{call_word, refusal_word};

@@ -1,14 +1,11 @@
-//! Reading an account.
-ghost use Rattle.std.specs.Prelude.{◌≡◌, ◌++◌, ◌∷◌, ◌<◌, [], ◌↔◌, Some, List, ℕ, length, codes, IsTrue, IfOk, OnOk, Ok, Err, MatchResult};
-ghost use Rattle.crl_model.specs.declared.entry.Entry.{Entry};
+//! Reading the lines of an account.
+ghost use Rattle.std.specs.Prelude.{◌≡◌, ◌++◌, ◌∷◌, ◌<◌, ◌↔◌, Some, length, codes, IsTrue, IfOk, OnOk, Err};
 ghost use Rattle.crl_account.specs.declared.line.Line.{Line};
 ghost use Rattle.crl_account.specs.Reading.{Gives};
-ghost use Rattle.std.specs.List.{AllByRecursion};
-ghost use Rattle.crl_account.specs.Text.{account_text};
-ghost use Rattle.crl_account.specs.Account.{IsReadable, AreRegions, lines_of, line_text, IsLine, IsAccount, IsFirstBad};
-ghost use Rattle.crl_account.specs.Step.{entries_in, Took, IsRefused};
+ghost use Rattle.crl_account.specs.Account.{lines_of, line_text, IsLine};
+ghost use Rattle.crl_account.specs.Step.{entry_in, Took, IsRefused};
 
-use crate::fault::{AccountFault, LineFault};
+use crate::fault::LineFault;
 use crate::field::cut;
 use crate::guess::guess_line;
 use crate::line::{Line, Stage, follows, stage_of};
@@ -71,25 +68,24 @@ fn read_line(alloc: Global, text: &[u8], scratch: &mut Vec<u8>) -> Result<Line, 
     }
 }
 
-/// Adds the entry of the line, if it has one.
-fn push_entry_of(line: Line, entries: &mut Vec<Entry>) -> Result<(), OutOfMemory>
-    ensures { OnOk result (entries.new.items ≡ entries.old.items ++ entries_in line) }
+/// The entry of the line, if it has one.
+fn entry_of(line: Line) -> Option<Entry>
+    ensures { result ≡ entry_in line }
 {
-    if let Line::Entry(entry) = line {
-        entries.push(entry)?;
+    match line {
+        Line::Entry(entry) => Some(entry),
+        _ => None,
     }
-    Ok(())
 }
 
-/// Takes the next line, of this text, behind lines up to the stage: gives its stage, and adds its entry.
-fn take_line(
+/// Takes the next line, of this text, behind lines up to the stage: gives its stage, and its entry if it has one.
+pub(crate) fn take_line(
     alloc: Global,
     text: &[u8],
     stage: Stage,
-    entries: &mut Vec<Entry>,
     scratch: &mut Vec<u8>,
-) -> Result<Stage, LineFault>
-    ensures ok { IfOk result (λ next. Took text.now stage next entries.old.items entries.new.items) }
+) -> Result<(Stage, Option<Entry>), LineFault>
+    ensures ok { IfOk result (λ taken. Took text.now stage taken.0 taken.1) }
     ensures bad { result ≡ Err LineFault.Bad → IsRefused text.now stage }
 {
     let line = read_line(alloc, text, scratch)?;
@@ -97,12 +93,11 @@ fn take_line(
     if !follows(next, stage) {
         return Err(LineFault::Bad);
     }
-    push_entry_of(line, entries)?;
-    Ok(next)
+    Ok((next, entry_of(line)))
 }
 
 /// The first line of a text, and what follows its line feed.
-fn cut_line(text: &[u8]) -> (&[u8], &[u8])
+pub(crate) fn cut_line(text: &[u8]) -> (&[u8], &[u8])
     requires { 0 < length text.now }
     ensures lines { lines_of text.now ≡ result.0.now ∷ lines_of result.1.now }
     ensures shorter { length result.1.now < length text.now }
@@ -112,41 +107,4 @@ fn cut_line(text: &[u8]) -> (&[u8], &[u8])
         Some(after) => (line, after),
         None => (line, &text[text.len()..]),
     }
-}
-
-/// Reads an account: lines of entries, then of regions, then of stuck nodes, then at most one line of
-/// counts. The last line may lack its line feed. The lines behind the entries must be such lines, and
-/// nothing else is asked of them.
-///
-/// # Errors
-///
-/// `BadLine` with the number, from 1, of the first line that fits no allowed place; `OutOfMemory`.
-pub fn read_account(alloc: Global, text: &[u8]) -> Result<Vec<Entry>, AccountFault>
-    // What is read are the entries of the account.
-    ensures account { IfOk result (λ read. IsAccount (lines_of text.now) read.items) }
-    // An account has no other entries, and is refused only for memory.
-    ensures only { (entries : List Entry) → IsAccount (lines_of text.now) entries
-        → MatchResult result (λ read. read.items ≡ entries) (λ fault. fault ≡ AccountFault.OutOfMemory) }
-    // What was written is read again, whatever lines of the other kinds stand behind.
-    ensures written { (entries : List Entry) (behind : List ℕ) → AllByRecursion IsReadable entries → AreRegions (lines_of behind)
-        → text.now ≡ account_text entries ++ behind
-        → MatchResult result (λ read. read.items ≡ entries) (λ fault. fault ≡ AccountFault.OutOfMemory) }
-    ensures bad { (line : ℕ) → result ≡ Err (AccountFault.BadLine line) → IsFirstBad (lines_of text.now) line }
-{
-    let mut entries = Vec::new(alloc);
-    let mut scratch = Vec::new(alloc);
-    let mut stage = Stage::Entries;
-    let mut number: u64 = 0;
-    let mut rest = text;
-    while !rest.is_empty() {
-        let (line, after) = cut_line(rest);
-        number += 1;
-        match take_line(alloc, line, stage, &mut entries, &mut scratch) {
-            Ok(next) => stage = next,
-            Err(LineFault::Bad) => return Err(AccountFault::BadLine(number)),
-            Err(LineFault::OutOfMemory) => return Err(AccountFault::OutOfMemory),
-        }
-        rest = after;
-    }
-    Ok(entries)
 }

@@ -1,31 +1,46 @@
--- A history that is judged entry by entry.
-use Rattle.std.proofs.Common.{◌≡◌, ℕ, ◌+◌, ◌<◌, List, [], ◌∷◌, ◌++◌, take, drop, length, get_or, sym, ap, ◌∙◌, arith, length-take-le, take-append-drop}
-use Rattle.std.proofs.lemmas.List.{take_more, drop_more}
+-- Histories that are judged entry by entry.
+use Rattle.std.proofs.Common.{◌≡◌, ℕ, ◌+◌, ◌<◌, ◌≤◌, suc, Bool, true, false, List, [], ◌∷◌, ◌++◌, length, take, get_or, sym, ap, ◌∙◌, arith, append_assoc, length-append}
+use Rattle.std.proofs.lemmas.List.{take_more}
 use Rattle.crl_model.specs.declared.entry.Entry.{Entry}
-use Rattle.crl_machine.specs.SingleMachine.{State, IsLegal, after, IsHistory, after_all}
+use Rattle.crl_machine.specs.SingleMachine.{State, IsLegal, after}
 use Rattle.crl_machine.proofs.Laws.{history_push, after_push}
 use Rattle.crl_check.specs.Histories.{IsFirstIllegal}
+use Rattle.crl_check.specs.Judging.{Found}
 
--- the first i entries are legal, and this is the state after them
-pub record SoFar (s : State) (es : List Entry) (i : ℕ) (t : State) : Type 0 where
-  pub legal : IsHistory s (take i es)
-  pub state : t ≡ after_all s (take i es)
+-- a legal step more
+pub found_legal : (s : State) (given : List Entry) (broken : Bool) (legal : ℕ) (t u : State) (e : Entry) → broken ≡ false → Found s given broken legal t → IsLegal t e → u ≡ after t e
+    → Found s (given ++ e ∷ []) broken (legal + 1) u
+found_legal s given true legal t u e b f step made = absurd cc
+found_legal s given false legal t u e b f step made = (
+  history_push s given e f.0 (rw f.2 at step),
+  ap (λ n. n + 1) f.1 ∙ sym (length-append given (e ∷ [])),
+  made ∙ ap (λ x. after x e) f.2 ∙ sym (after_push s given e),
+)
 
-pub one_more : (s : State) (es : List Entry) (i : ℕ) (t u : State) (e : Entry) → i < length es → e ≡ get_or es i e → SoFar s es i t → IsLegal t e → u ≡ after t e → SoFar s es (i + 1) u
-one_more s es i t u e inside is f legal made =
-    let more : take (i + 1) es ≡ take i es ++ e ∷ [] = take_more es i e inside ∙ ap (λ x. take i es ++ x ∷ []) (sym is) in
-    record {
-      legal = rw more (history_push s (take i es) e f.legal (rw f.state at legal));
-      state = rw more (made ∙ ap (λ x. after x e) f.state ∙ sym (after_push s (take i es) e));
-    }
-
-pub first_illegal : (s : State) (es : List Entry) (i : ℕ) (t : State) (e : Entry) → i < length es → e ≡ get_or es i e → SoFar s es i t → (IsLegal t e → ⊥) → IsFirstIllegal s es i
-first_illegal s es i t e inside is f illegal = record {
-  before = take i es;
-  entry = e;
-  behind = drop (i + 1) es;
-  whole = sym (take-append-drop i es) ∙ ap (λ x. take i es ++ x) (drop_more es i e inside ∙ ap (λ x. x ∷ drop (i + 1) es) (sym is));
-  place = sym (length-take-le i es (omega (arith, inside)));
+-- an entry behind the first that is no legal step
+pub found_still : (s : State) (given : List Entry) (broken : Bool) (legal : ℕ) (t : State) (e : Entry) → broken ≡ true → Found s given broken legal t → Found s (given ++ e ∷ []) broken legal t
+found_still s given false legal t e b f = absurd cc
+found_still s given true legal t e b f = record {
+  before = f.before;
+  entry = f.entry;
+  behind = f.behind ++ e ∷ [];
+  whole = ap (λ es. es ++ e ∷ []) f.whole ∙ append_assoc f.before (f.entry ∷ f.behind) (e ∷ []);
+  place = f.place;
   legal = f.legal;
-  illegal = rw f.state at illegal;
+  illegal = f.illegal;
 }
+
+-- the first entry that is no legal step is one of the entries
+pub illegal_inside : (s : State) (es : List Entry) (i : ℕ) → IsFirstIllegal s es i → i < length es
+illegal_inside s es i f =
+    let whole : length es ≡ length f.before + suc (length f.behind) = ap length f.whole ∙ length-append f.before (f.entry ∷ f.behind) in
+    omega (arith, whole, f.place)
+
+-- no more are legal than there are
+pub found_within : (s : State) (given : List Entry) (broken : Bool) (legal : ℕ) (t : State) → Found s given broken legal t → legal ≤ length given
+found_within s given false legal t f = omega (arith, f.1)
+found_within s given true legal t f = omega (arith, illegal_inside s given legal f)
+
+-- the first i entries, and one more
+pub one_more : (es : List Entry) (i : ℕ) (e : Entry) → i < length es → e ≡ get_or es i e → take i es ++ e ∷ [] ≡ take (i + 1) es
+one_more es i e inside is = sym (take_more es i e inside ∙ ap (λ x. take i es ++ x ∷ []) (sym is))

@@ -6,9 +6,9 @@ use Rattle.std.specs.Io.KnownBytes.{Appends}
 use Rattle.std.specs.List.{AllByRecursion}
 use Rattle.crl_model.specs.declared.entry.Entry.{Entry}
 use Rattle.crl_model.specs.Reports.{Reported}
-use Rattle.crl_machine.specs.SingleMachine.{State, start, after_all}
+use Rattle.crl_machine.specs.SingleMachine.{start, after_all}
 use Rattle.crl_machine.specs.FinalRegions.{final_regions}
-use Rattle.crl_check.specs.Histories.{IsFirstIllegal}
+use Rattle.crl_check.specs.Accounts.{IsLegalText, IsIllegalText}
 use Rattle.crl_protocol.specs.Chosen.{always_first}
 use Rattle.crl_order.specs.declared.order.Order.{Order}
 use Rattle.crl_order.specs.Words.{words_to_come}
@@ -28,9 +28,9 @@ use Rattle.crl_cli.specs.declared.status.Status.TheVariants as status
 use Rattle.crl_cli.specs.declared.account.Unread.TheVariants as unread
 use Rattle.crl_cli.specs.Answers.{Prints, HasHeadlineBy, HasHeadline, HasSomeHeadline, IsAnswered}
 use Rattle.crl_cli.specs.Reading.{IsScriptOf, IsUnread, unread_for}
-use Rattle.crl_cli.specs.Outcome.{SaysOrder, SaysSome, SaysCheck, SaysEntries, Says, quietly, SaysOf, status_of, does_read, limit_of, IsBadScript, IsBadAccount, Asked, asked, IsInput, Comes, usage, read_fault, said, made}
+use Rattle.crl_cli.specs.Outcome.{SaysOrder, SaysSome, SaysCheck, Says, quietly, SaysOf, status_of, does_read, limit_of, IsBadScript, IsBadAccount, Asked, asked, IsInput, Comes, usage, read_fault, said, made}
 use Rattle.crl_cli.specs.Runs.{IsHistoryOf}
-use Rattle.crl_cli.specs.Texts.{usage_text, read_fault_text}
+use Rattle.crl_cli.specs.Texts.{usage_text, read_fault_text, legal_text, illegal_text}
 
 -- the answer to bytes that aren't a script
 pub unread_bytes : {E : Type 0} (r : Result Outcome E) (bytes text : List ℕ) → IsBadScript bytes text → IfOk r (λ o. o.status ≡ status.BadScript) → IfOk r (λ o. o.text.items ≡ text) → IsUnread bytes (unread_for r)
@@ -71,22 +71,25 @@ pub bad_account_bytes : {E : Type 0} (r : Result Outcome E) (nodes : ℕ) (bytes
 bad_account_bytes (Ok o) nodes bytes text bad is same = bad_account_one nodes bytes text o.text.items o.status bad is same
 bad_account_bytes (Err e) nodes bytes text bad is same = tt
 
-of_entries : (s : Status) (nodes : ℕ) (bytes text : List ℕ) (entries : List Entry) → length bytes ≤ ACCOUNT_LIMIT → IsAccount (lines_of bytes) entries → SaysEntries nodes s entries text → SaysCheck nodes s bytes text
-of_entries status.Ok nodes bytes text entries within account h = record { within = within; entries = entries; account = account; legal = h.0; says = h.1 }
-of_entries status.Illegal nodes bytes text entries within account h = record { within = within; entries = entries; account = account; place = h.0; first = h.1; says = h.2 }
-of_entries status.Usage nodes bytes text entries within account h = h
-of_entries status.Stuck nodes bytes text entries within account h = h
-of_entries status.BadScript nodes bytes text entries within account h = h
-of_entries status.ReadFault nodes bytes text entries within account h = h
-of_entries status.WriteFault nodes bytes text entries within account h = h
-of_entries status.OutOfMemory nodes bytes text entries within account h = h
-of_entries status.BadAccount nodes bytes text entries within account h = absurd h
+legal_one : (nodes : ℕ) (bytes given : List ℕ) (s : Status) → length bytes ≤ ACCOUNT_LIMIT → IsLegalText (start nodes) bytes → s ≡ status.Ok → given ≡ legal_text → SaysCheck nodes s bytes given
+legal_one nodes bytes given s within legal is same = rw is (record { within = within; entries = legal.entries; account = legal.whole.account; legal = legal.legal; says = same })
 
--- the answer to bytes that are an account
-pub judged_bytes : {E : Type 0} (r : Result Outcome E) (nodes : ℕ) (bytes : List ℕ) (entries : List Entry) → length bytes ≤ ACCOUNT_LIMIT → IsAccount (lines_of bytes) entries
-    → IfOk r (λ o. SaysEntries nodes o.status entries o.text.items) → IfOk r (λ o. SaysCheck nodes o.status bytes o.text.items)
-judged_bytes (Ok o) nodes bytes entries within account h = of_entries o.status nodes bytes o.text.items entries within account h
-judged_bytes (Err e) nodes bytes entries within account h = tt
+-- the answer to the account of a legal history
+pub legal_bytes : {E : Type 0} (r : Result Outcome E) (nodes : ℕ) (bytes : List ℕ) → length bytes ≤ ACCOUNT_LIMIT → IsLegalText (start nodes) bytes → IfOk r (λ o. o.status ≡ status.Ok) → IfOk r (λ o. o.text.items ≡ legal_text)
+    → IfOk r (λ o. SaysCheck nodes o.status bytes o.text.items)
+legal_bytes (Ok o) nodes bytes within legal is same = legal_one nodes bytes o.text.items o.status within legal is same
+legal_bytes (Err e) nodes bytes within legal is same = tt
+
+illegal_one : (nodes : ℕ) (bytes given : List ℕ) (s : Status) (place : ℕ) → length bytes ≤ ACCOUNT_LIMIT → IsIllegalText (start nodes) bytes place → s ≡ status.Illegal → given ≡ illegal_text (place + 1)
+    → SaysCheck nodes s bytes given
+illegal_one nodes bytes given s place within illegal is same =
+    rw is (record { within = within; entries = illegal.entries; account = illegal.whole.account; place = place; first = illegal.first; says = same })
+
+-- the answer to the account of a history that is no legal one
+pub illegal_bytes : {E : Type 0} (r : Result Outcome E) (nodes : ℕ) (bytes : List ℕ) (place : ℕ) → length bytes ≤ ACCOUNT_LIMIT → IsIllegalText (start nodes) bytes place → IfOk r (λ o. o.status ≡ status.Illegal)
+    → IfOk r (λ o. o.text.items ≡ illegal_text (place + 1)) → IfOk r (λ o. SaysCheck nodes o.status bytes o.text.items)
+illegal_bytes (Ok o) nodes bytes place within illegal is same = illegal_one nodes bytes o.text.items o.status place within illegal is same
+illegal_bytes (Err e) nodes bytes place within illegal is same = tt
 
 usage_one : (a : Asked) (s : Status) (text : List ℕ) → a.command ≡ None → s ≡ status.Usage → text ≡ usage_text → Comes a s text
 usage_one a s text none is same = rw (is, same) (usage none)
@@ -239,12 +242,6 @@ asked_so r c d same left later faults faults_later comes = subst (λ (x : Option
 -- `order` is a command of a call that waits for nobody
 pub quiet_order : (o : Option Command) (order : Order) → o ≡ Some (command.Order order) → quietly o ≡ Some (command.Order order)
 quiet_order o order e = ap quietly e
-
--- the first entry that is no legal step is one of the entries
-pub place_inside : (s : State) (es : List Entry) (i : ℕ) → IsFirstIllegal s es i → i < length es
-place_inside s es i f =
-    let whole : length es ≡ length f.before + suc (length f.behind) = ap length f.whole ∙ length-append f.before (f.entry ∷ f.behind) in
-    omega (arith, whole, f.place)
 
 -- ---- what is printed of a script
 

@@ -113,12 +113,6 @@ Says (command.Gen recipe) status bytes text = SaysMade recipe status text
 Says (command.Summary recipe) status bytes text = SaysSummary recipe status text
 Says (command.Threads workers) status bytes text = SaysSome status bytes text
 
--- what is said of the entries of an account
-abbrev pub SaysEntries : ℕ → Status → List Entry → List ℕ → Type 0
-SaysEntries nodes status.Ok entries text = IsHistory (start nodes) entries × (text ≡ legal_text)
-SaysEntries nodes status.Illegal entries text = (place : ℕ) × IsFirstIllegal (start nodes) entries place × (text ≡ illegal_text (place + 1))
-SaysEntries nodes _ entries text = ⊥
-
 -- the status of a run that is stuck, or isn't
 abbrev pub status_of : Bool → Status
 status_of true = status.Stuck

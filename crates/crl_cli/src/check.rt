@@ -1,47 +1,33 @@
 //! `check NODES`: the judging of an account.
 ghost use Rattle.std.specs.Prelude.{◌≡◌, ◌≤◌, ◌<◌, ◌+◌, IfOk, length};
-ghost use Rattle.crl_cli.specs.Outcome.{SaysCheck, SaysEntries};
+ghost use Rattle.crl_cli.specs.Outcome.{SaysCheck};
 ghost use Rattle.crl_cli.specs.Texts.{legal_text, illegal_text, bad_account_text};
 
 use crate::ACCOUNT_LIMIT;
 use crate::outcome::Outcome;
 use crate::status::Status;
-use crl_account::{AccountFault, read_account};
-use crl_check::{CheckFault, check};
-use crl_model::entry::Entry;
+use crl_check::{CheckFault, check_account};
 use crl_model::{NODE_LIMIT, NodeNo, OutOfMemory};
 use std::alloc::Global;
 
-/// Judges the account that these bytes are.
+/// Judges the account that these bytes are. Each entry is a line, from the first on.
 pub(crate) fn check_text(alloc: Global, bytes: &[u8], nodes: NodeNo) -> Result<Outcome, OutOfMemory>
     requires within { length bytes.now ≤ ACCOUNT_LIMIT + 1 }
     requires some { 1 ≤ nodes }
     requires few { nodes ≤ NODE_LIMIT }
     ensures { IfOk result (λ o. SaysCheck nodes o.status bytes.now o.text.items) }
 {
-    if bytes.len() > ACCOUNT_LIMIT {
+    let len = bytes.len();
+    if len > ACCOUNT_LIMIT {
         return bad_account(alloc, 0);
     }
-    match read_account(alloc, bytes) {
-        Ok(entries) => check_entries(alloc, entries.as_slice(), nodes),
-        Err(AccountFault::BadLine(line)) => bad_account(alloc, line),
-        Err(AccountFault::OutOfMemory) => Err(OutOfMemory),
-    }
-}
-
-/// Judges the entries of an account. Each entry is a line, from the first on.
-fn check_entries(alloc: Global, entries: &[Entry], nodes: NodeNo) -> Result<Outcome, OutOfMemory>
-    requires some { 1 ≤ nodes }
-    requires few { nodes ≤ NODE_LIMIT }
-    ensures { IfOk result (λ o. SaysEntries nodes o.status entries.now o.text.items) }
-{
-    let count = entries.len();
-    match check(alloc, entries, nodes) {
+    match check_account(alloc, bytes, nodes) {
         Ok(()) => legal(alloc),
         Err(CheckFault::Illegal(place)) => {
-            prove!(place < count);
+            prove!(place < len);
             illegal(alloc, place as u64 + 1)
         }
+        Err(CheckFault::BadLine(line)) => bad_account(alloc, line),
         Err(CheckFault::OutOfMemory) => Err(OutOfMemory),
     }
 }

@@ -1,7 +1,8 @@
-use Rattle.crl_machine.specs.Seen.{state}
+use Rattle.std.proofs.Common.{take}
 use Rattle.crl_machine.specs.SingleMachine.{start}
-use Rattle.crl_check.proofs.Prefixes.{SoFar}
+use Rattle.crl_check.specs.Judging.{HasJudged}
 use Rattle.crl_check.proofs.check.Given as goal
 
-abbrev pub invariant-loop-i : goal.invariant-loop-i
-invariant-loop-i l = SoFar (start l.nodes) l.entries l.i (state l.machine)
+-- the entries so far are judged
+abbrev pub invariant-loop-entry : goal.invariant-loop-entry
+invariant-loop-entry l = HasJudged (start l.nodes) (take l.entry-index l.entries) l.judge
