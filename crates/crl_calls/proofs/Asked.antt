@@ -1,5 +1,5 @@
 -- What a caller is after a call, and what the call tells.
-use Rattle.std.proofs.Common.{◌≡◌, ℕ, ◌<◌, ◌^◌, Bool, false, true, List, [], length, refl, sym, ap, ◌∙◌, subst}
+use Rattle.std.proofs.Common.{◌≡◌, ℕ, ◌<◌, ◌^◌, false, true, List, [], length, refl, sym, ◌∙◌, subst}
 use Rattle.std.specs.Prelude.{MatchResult}
 use Rattle.std.specs.declared.result.Result.{Result}
 use Rattle.std.specs.declared.result.Result.TheVariants.{Ok, Err}
@@ -11,8 +11,7 @@ use Rattle.crl_protocol.specs.Verdict.{word_of}
 use Rattle.crl_turns.specs.declared.turned.Shape.{Shape}
 use Rattle.crl_turns.specs.declared.view.View.{View}
 use Rattle.crl_cluster.specs.declared.cluster.Cluster.{Cluster}
-use Rattle.crl_cluster.specs.declared.cluster.Pass.{Pass}
-use Rattle.crl_cluster.specs.Clusters.{view_of, node_count, IsOf}
+use Rattle.crl_cluster.specs.Clusters.{node_count, IsOf}
 use Rattle.crl_calls.specs.declared.asking.Never.{Never}
 use Rattle.crl_calls.specs.declared.asking.Never.TheVariants as never
 use Rattle.crl_calls.specs.declared.asking.Told.{Told}
@@ -21,7 +20,7 @@ use Rattle.crl_calls.specs.declared.faults.CallFault.{CallFault}
 use Rattle.crl_calls.specs.declared.faults.CallFault.TheVariants as fault
 use Rattle.crl_calls.specs.Answers.{may_refuse}
 use Rattle.crl_calls.specs.Callers.{knows, IsCallerOf, IsAnswered, IsFaulted, IsSpent}
-use Rattle.crl_calls.specs.Trails.{Walks, Moves, AnswersCall, unmade, RunsFull}
+use Rattle.crl_calls.specs.Trails.{Walks, AnswersCall, unmade}
 use Rattle.crl_calls.specs.Tries.{is_full, IsNever, IsGiven}
 use Rattle.crl_calls.proofs.Walking.{walk_none}
 use Rattle.crl_calls.proofs.Telling.{idle_on}

@@ -1,5 +1,5 @@
 -- The end of a section by its guard.
-use Rattle.std.proofs.Common.{◌≡◌, ℕ, ◌<◌, ◌≤◌, ◌+◌, nat_lt, ◌^◌, Bool, false, true, not, arith, List, [], ◌∷◌, length, Option, None, Some, refl, sym, ap, ◌∙◌, subst}
+use Rattle.std.proofs.Common.{◌≡◌, ℕ, ◌+◌, nat_lt, ◌^◌, Bool, false, true, not, arith, List, [], ◌∷◌, length, Option, None, Some, refl, sym, ap, ◌∙◌, subst}
 use Rattle.std.proofs.lemmas.Bool.{ltb-true}
 use Rattle.std.specs.Option.{is_some}
 use Rattle.std.specs.Prelude.{MatchResult}
@@ -32,7 +32,7 @@ use Rattle.crl_calls.specs.declared.faults.EndFault.{EndFault}
 use Rattle.crl_calls.specs.declared.faults.EndWhy.{EndWhy}
 use Rattle.crl_calls.specs.declared.faults.EndWhy.TheVariants as end
 use Rattle.crl_calls.specs.Callers.{knows, IsCallerOf, IsAnswered, IsNotEnded, is_allowed}
-use Rattle.crl_calls.specs.Trails.{Walks, Moves, MovesToTheEnd, Ends, Does}
+use Rattle.crl_calls.specs.Trails.{Walks, Moves, Does}
 use Rattle.crl_calls.specs.Tries.{ended_of, stops, is_full_end, IsNeverEnded, IsEnded}
 use Rattle.crl_calls.proofs.Walking.{walk_event, walk_undone, walk_around}
 use Rattle.crl_calls.proofs.Telling.{moves_walk, moves_then, moves_full, does_now, answered_at_once, full_unmade}

@@ -1,7 +1,7 @@
 -- A guard that the last event of a front answers shows the array.
-use Rattle.std.proofs.Common.{◌≡◌, ℕ, List, ◌∷◌, [], ◌++◌, refl, sym, ap, ◌∙◌, subst}
+use Rattle.std.proofs.Common.{◌≡◌, List, sym, ap, ◌∙◌, subst}
 use Rattle.crl_model.specs.declared.event.Event.{Event}
-use Rattle.crl_machine.specs.SingleMachine.{State, after_all}
+use Rattle.crl_machine.specs.SingleMachine.{after_all}
 use Rattle.std.specs.Prelude.{MatchResult, IfOk}
 use Rattle.std.specs.declared.result.Result.{Result}
 use Rattle.std.specs.declared.result.Result.TheVariants.{Ok, Err}

@@ -1,5 +1,5 @@
 -- Moved pieces, then an event, then more of them: what a call tells, step by step.
-use Rattle.std.proofs.Common.{◌≡◌, ℕ, ◌^◌, ⊎_elim, Bool, true, false, List, [], ◌∷◌, ◌++◌, length, refl, sym, ap, ◌∙◌, subst, append_assoc}
+use Rattle.std.proofs.Common.{◌≡◌, ℕ, ⊎_elim, true, false, List, [], ◌∷◌, ◌++◌, sym, ◌∙◌, subst, append_assoc}
 use Rattle.crl_model.specs.declared.call.Call.{Call}
 use Rattle.crl_model.specs.declared.event.Event.{Event}
 use Rattle.crl_model.specs.declared.event.Event.TheVariants as event
@@ -7,7 +7,7 @@ use Rattle.crl_protocol.specs.Node.{Answer}
 use Rattle.crl_turns.specs.declared.turned.Shape.{Shape}
 use Rattle.crl_turns.specs.declared.view.View.{View}
 use Rattle.crl_turns.specs.Closing.{HoldsNone}
-use Rattle.crl_calls.specs.Trails.{is_move, AreMoves, Walks, Moves, MovesToTheEnd, Ends, Does, IsTrail, at_once, collected, AnswersCall, IsPartOfTrail, unmade, waiting, RunsFull}
+use Rattle.crl_calls.specs.Trails.{is_move, AreMoves, Walks, Moves, MovesToTheEnd, Ends, Does, at_once, collected, AnswersCall, unmade, waiting, RunsFull}
 use Rattle.crl_calls.proofs.Walking.{walk_none, walk_then}
 use Rattle.std.specs.Prelude.{MatchResult}
 use Rattle.std.specs.declared.result.Result.{Result}

@@ -1,5 +1,5 @@
 -- What a pass appended itself, over several steps; and what one event at a node that is held for it adds.
-use Rattle.std.proofs.Common.{◌≡◌, ℕ, zero, suc, ◌==◌, ◌≤◌, ◌^◌, ◌⊎◌, inl, inr, ⊎_elim, Bool, true, false, List, [], ◌∷◌, ◌++◌, length, slice_get, Option, Some, None, refl, sym, ap, ◌∙◌, subst, arith, append_assoc, append-nil, length-append, le_refl, le_trans}
+use Rattle.std.proofs.Common.{◌≡◌, ℕ, zero, suc, ◌==◌, ◌≤◌, ◌^◌, ◌⊎◌, inl, inr, ⊎_elim, Bool, true, false, List, [], ◌∷◌, ◌++◌, length, slice_get, Some, refl, sym, ap, ◌∙◌, subst, append_assoc, append-nil, le_refl, le_trans}
 use Rattle.crl_model.specs.declared.event.Event.{Event}
 use Rattle.crl_model.specs.declared.event.Event.TheVariants as event
 use Rattle.crl_protocol.specs.Node.{Answer}
@@ -9,7 +9,7 @@ use Rattle.crl_turns.specs.declared.view.Place.{Place}
 use Rattle.crl_turns.specs.declared.view.Place.TheVariants.{Free, Drawn, Empty}
 use Rattle.crl_turns.specs.declared.view.View.{View}
 use Rattle.crl_turns.specs.Calls.{after_take, after_give_back}
-use Rattle.crl_turns.specs.Plays.{after_load, after_append, after_try}
+use Rattle.crl_turns.specs.Plays.{after_load, after_try}
 use Rattle.crl_turns.specs.Fronts.{Begins}
 use Rattle.crl_turns.specs.Rule.{value_place, place_if}
 use Rattle.crl_turns.proofs.Laws.{begins_same, begins_trans, begins_length}
@@ -19,7 +19,7 @@ use Rattle.crl_cluster.specs.declared.faults.TryFault.{TryFault}
 use Rattle.crl_cluster.specs.declared.faults.TryFault.TheVariants.{Busy, Nothing, Step}
 use Rattle.crl_cluster.specs.Acting.{Comes, IsDone, IsUndone}
 use Rattle.crl_cluster.specs.Trying.{Alone, IsNotTried, IsCarried, IsUncarried, IsNotCarried}
-use Rattle.crl_calls.specs.Trails.{is_move, AreMoves, AreAt, HoldsNoMore, Walks, Moves, Ends}
+use Rattle.crl_calls.specs.Trails.{AreAt, Walks, Ends}
 
 get_more : {A : Type 0} (xs ys : List A) (k : ℕ) (x : A) → slice_get xs k ≡ Some x → slice_get (xs ++ ys) k ≡ Some x
 get_more [] ys k x e = cc
@@ -109,7 +109,7 @@ walk_around s node old held done new es begins takes walks gives = record {
   holds = λ part.
       let is = ap (λ (v : View). value_place part v.holds) gives in
       let was : (value_place part done.holds ≡ Free) ⊎ (value_place part done.holds ≡ place_if (part == node) Empty (place_if (part == node) Drawn (value_place part old.holds)))
-          = ⊎_elim (λ free. inl free) (λ same. inr (same ∙ ap (λ (v : View). value_place part v.holds) takes)) (walks.holds part) in
+      = ⊎_elim (λ free. inl free) (λ same. inr (same ∙ ap (λ (v : View). value_place part v.holds) takes)) (walks.holds part) in
       ⊎_elim (λ free. inl (is ∙ free)) (λ same. inr (is ∙ same)) (given (part == node) (value_place part old.holds) (value_place part done.holds) was);
 }
 

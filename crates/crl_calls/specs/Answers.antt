@@ -1,5 +1,5 @@
 -- Which refusals a call may meet.
-use Rattle.std.specs.Prelude.{Bool, true, false, ◌||◌}
+use Rattle.std.specs.Prelude.{Bool, true, false}
 use Rattle.crl_model.specs.declared.call.CallKind.{CallKind}
 use Rattle.crl_model.specs.declared.call.CallKind.TheVariants as kind
 use Rattle.crl_model.specs.declared.call.Refusal.{Refusal}

@@ -8,7 +8,6 @@ use Rattle.crl_model.specs.declared.call.Refusal.{Refusal}
 use Rattle.crl_protocol.specs.Node.{Node, Answer, Refused}
 use Rattle.crl_protocol.specs.Sections.{Guard}
 use Rattle.crl_protocol.specs.Verdict.{verdict, word_of}
-use Rattle.crl_protocol.specs.World.{World}
 use Rattle.crl_member.specs.Fitting.{fits_reading, fits_writing}
 use Rattle.crl_turns.specs.declared.turned.Shape.{Shape}
 use Rattle.crl_turns.specs.declared.view.View.{View}

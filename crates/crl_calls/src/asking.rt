@@ -216,10 +216,12 @@ fn given<R: Wait, F: Form>(
     ensures { IsGiven (F.gives form.now) (F.word form.now) answer result }
 {
     match answer {
-        Ok(Told {
-            answer: Answer::Refused(why),
-            later,
-        }) => {
+        Ok(
+            Told {
+                answer: Answer::Refused(why),
+                later,
+            },
+        ) => {
             if may_refuse(form.word(), later, why) {
                 return Err(CallFault::Refused(why));
             }

@@ -230,7 +230,10 @@ impl Form for Barriers {
 
     fn take(&self, answer: Answer<Reading, Writing>) -> Option<()> {
         match answer {
-            Answer::Came { round: _, fold: Fold::Barrier } => Some(()),
+            Answer::Came {
+                round: _,
+                fold: Fold::Barrier,
+            } => Some(()),
             other => {
                 let_go(other);
                 None
@@ -261,7 +264,10 @@ impl Form for Sends {
 
     fn take(&self, answer: Answer<Reading, Writing>) -> Option<()> {
         match answer {
-            Answer::Came { round: _, fold: Fold::Broadcast(bytes) } => {
+            Answer::Came {
+                round: _,
+                fold: Fold::Broadcast(bytes),
+            } => {
                 drop(bytes);
                 Some(())
             }
@@ -295,7 +301,10 @@ impl Form for Receives {
 
     fn take(&self, answer: Answer<Reading, Writing>) -> Option<Bytes> {
         match answer {
-            Answer::Came { round: _, fold: Fold::Broadcast(bytes) } => Some(bytes),
+            Answer::Came {
+                round: _,
+                fold: Fold::Broadcast(bytes),
+            } => Some(bytes),
             other => {
                 let_go(other);
                 None
@@ -326,7 +335,10 @@ impl Form for Sums {
 
     fn take(&self, answer: Answer<Reading, Writing>) -> Option<i128> {
         match answer {
-            Answer::Came { round: _, fold: Fold::Sum(value) } => Some(value),
+            Answer::Came {
+                round: _,
+                fold: Fold::Sum(value),
+            } => Some(value),
             other => {
                 let_go(other);
                 None
@@ -357,7 +369,10 @@ impl Form for Mins {
 
     fn take(&self, answer: Answer<Reading, Writing>) -> Option<i64> {
         match answer {
-            Answer::Came { round: _, fold: Fold::Min(value) } => Some(value),
+            Answer::Came {
+                round: _,
+                fold: Fold::Min(value),
+            } => Some(value),
             other => {
                 let_go(other);
                 None
@@ -388,7 +403,10 @@ impl Form for Maxs {
 
     fn take(&self, answer: Answer<Reading, Writing>) -> Option<i64> {
         match answer {
-            Answer::Came { round: _, fold: Fold::Max(value) } => Some(value),
+            Answer::Came {
+                round: _,
+                fold: Fold::Max(value),
+            } => Some(value),
             other => {
                 let_go(other);
                 None

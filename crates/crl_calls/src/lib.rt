@@ -16,9 +16,7 @@ pub mod theorems;
 
 pub use caller::Caller;
 pub use faults::{CallFault, EndFault, EndWhy};
-pub use names::{
-    Mapped, rgn_create, rgn_delete, rgn_flush, rgn_map, rgn_rid, rgn_size, rgn_unmap,
-};
+pub use names::{Mapped, rgn_create, rgn_delete, rgn_flush, rgn_map, rgn_rid, rgn_size, rgn_unmap};
 pub use rounds::{
     rgn_barrier, rgn_bcast_recv, rgn_bcast_send, rgn_reduce_max, rgn_reduce_min, rgn_reduce_sum,
 };

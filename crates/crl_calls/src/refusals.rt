@@ -21,11 +21,8 @@ fn may_meet(word: CallKind, why: Refusal) -> bool
         ),
         CallKind::Write => matches!(why, Refusal::NotMapped | Refusal::SectionOpen),
         CallKind::Send => is_mixed(why) || matches!(why, Refusal::WrongSize),
-        CallKind::Barrier
-        | CallKind::Receive
-        | CallKind::Sum
-        | CallKind::Min
-        | CallKind::Max => is_mixed(why),
+        CallKind::Barrier | CallKind::Receive | CallKind::Sum | CallKind::Min | CallKind::Max =>
+            is_mixed(why),
         CallKind::EndRead | CallKind::Put | CallKind::Add | CallKind::EndWrite => false,
     }
 }

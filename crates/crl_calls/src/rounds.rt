@@ -36,7 +36,15 @@ pub fn rgn_barrier<R: Wait, N: Member>(
         (λ _. IsAnswered s c who.old (λ _ answer. (round : ℕ) × (answer ≡ node.Came round fold.Barrier)) who.new)
         (λ why. IsFaulted s c who.old why who.new) }
 {
-    ask(rt, cluster, who, Call::Come { part: Part::Barrier }, Barriers)
+    ask(
+        rt,
+        cluster,
+        who,
+        Call::Come {
+            part: Part::Barrier,
+        },
+        Barriers,
+    )
 }
 
 /// Sends bytes to the callers that receive in this round.
@@ -58,7 +66,15 @@ pub fn rgn_bcast_send<R: Wait, N: Member>(
         (λ _. IsAnswered s c who.old (λ _ answer. (round : ℕ) × (sent : List ℕ) × (answer ≡ node.Came round (fold.Broadcast sent))) who.new)
         (λ why. IsFaulted s c who.old why who.new) }
 {
-    ask(rt, cluster, who, Call::Come { part: Part::Send(bytes) }, Sends)
+    ask(
+        rt,
+        cluster,
+        who,
+        Call::Come {
+            part: Part::Send(bytes),
+        },
+        Sends,
+    )
 }
 
 /// Receives the bytes that one caller sends in this round.
@@ -79,7 +95,15 @@ pub fn rgn_bcast_recv<R: Wait, N: Member>(
         (λ bytes. IsAnswered s c who.old (λ _ answer. (round : ℕ) × (answer ≡ node.Came round (fold.Broadcast bytes))) who.new)
         (λ why. IsFaulted s c who.old why who.new) }
 {
-    ask(rt, cluster, who, Call::Come { part: Part::Receive }, Receives)
+    ask(
+        rt,
+        cluster,
+        who,
+        Call::Come {
+            part: Part::Receive,
+        },
+        Receives,
+    )
 }
 
 /// The sum of all callers' values.
@@ -101,7 +125,15 @@ pub fn rgn_reduce_sum<R: Wait, N: Member>(
         (λ given. IsAnswered s c who.old (λ _ answer. (round : ℕ) × (answer ≡ node.Came round (fold.Sum given))) who.new)
         (λ why. IsFaulted s c who.old why who.new) }
 {
-    ask(rt, cluster, who, Call::Come { part: Part::Sum(value) }, Sums)
+    ask(
+        rt,
+        cluster,
+        who,
+        Call::Come {
+            part: Part::Sum(value),
+        },
+        Sums,
+    )
 }
 
 /// The least of all callers' values.
@@ -123,7 +155,15 @@ pub fn rgn_reduce_min<R: Wait, N: Member>(
         (λ given. IsAnswered s c who.old (λ _ answer. (round : ℕ) × (answer ≡ node.Came round (fold.Min given))) who.new)
         (λ why. IsFaulted s c who.old why who.new) }
 {
-    ask(rt, cluster, who, Call::Come { part: Part::Min(value) }, Mins)
+    ask(
+        rt,
+        cluster,
+        who,
+        Call::Come {
+            part: Part::Min(value),
+        },
+        Mins,
+    )
 }
 
 /// The greatest of all callers' values.
@@ -145,5 +185,13 @@ pub fn rgn_reduce_max<R: Wait, N: Member>(
         (λ given. IsAnswered s c who.old (λ _ answer. (round : ℕ) × (answer ≡ node.Came round (fold.Max given))) who.new)
         (λ why. IsFaulted s c who.old why who.new) }
 {
-    ask(rt, cluster, who, Call::Come { part: Part::Max(value) }, Maxs)
+    ask(
+        rt,
+        cluster,
+        who,
+        Call::Come {
+            part: Part::Max(value),
+        },
+        Maxs,
+    )
 }

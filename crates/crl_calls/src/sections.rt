@@ -38,7 +38,13 @@ pub fn rgn_start_read<R: Wait, N: Member>(
         (λ why. IsFaulted s c who.old why who.new) }
     ensures shows { IfOk result (λ guard. ShowsArray (shape_of cluster.now) (knows who.new).front guard) }
 {
-    ask(rt, cluster, who, Call::StartRead { name }, StartsRead { name })
+    ask(
+        rt,
+        cluster,
+        who,
+        Call::StartRead { name },
+        StartsRead { name },
+    )
 }
 
 /// Opens a write section, which excludes all other sections of the region. Its guard begins with the region's bytes.
@@ -61,7 +67,13 @@ pub fn rgn_start_write<R: Wait, N: Member>(
         (λ why. IsFaulted s c who.old why who.new) }
     ensures shows { IfOk result (λ guard. ShowsArray (shape_of cluster.now) (knows who.new).front guard) }
 {
-    ask(rt, cluster, who, Call::StartWrite { name }, StartsWrite { name })
+    ask(
+        rt,
+        cluster,
+        who,
+        Call::StartWrite { name },
+        StartsWrite { name },
+    )
 }
 
 /// Ends the newest read section of the guard's region. It takes no memory.

@@ -1,4 +1,4 @@
-use Rattle.std.proofs.Common.{refl, sym, ◌∙◌, ap, subst, ◌≡◌}
+use Rattle.std.proofs.Common.{refl, ◌∙◌, ap}
 use Rattle.crl_turns.specs.Calls.{after_give_back}
 use Rattle.crl_cluster.specs.Clusters.{view_of, shape_of}
 use Rattle.crl_calls.proofs.Walking.{walk_try}

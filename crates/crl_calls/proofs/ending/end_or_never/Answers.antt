@@ -25,10 +25,11 @@ returns-in-Foreign-clause-told g c =
     let s = shape_of c.args.cluster.now in
     let mid = view_of c.loop.pass in
     let new = view_of c.end_once.new.pass in
-    let told = c.in-Foreign.ensures.told in
-    (told.0 ∙ c.loop.invariant.1,
+    let told = c.in-Foreign.ensures.told in (
+      told.0 ∙ c.loop.invariant.1,
       ended_after s c.args.node (λ n. g.G.Ending.may_end n c.args.guard) (view_of c.args.pass.now) mid new end.Foreign c.loop.invariant.2
-      (subst (λ k. IsNeverEnded s c.args.node (λ n. g.G.Ending.may_end n k) mid end.Foreign new) c.loop.invariant.1 told.1))
+          (subst (λ k. IsNeverEnded s c.args.node (λ n. g.G.Ending.may_end n k) mid end.Foreign new) c.loop.invariant.1 told.1),
+    )
 
 pub returns-in-Full-clause-told : goal.returns-in-Full-clause-told
 returns-in-Full-clause-told g c =
