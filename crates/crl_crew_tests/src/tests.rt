@@ -72,7 +72,8 @@ endwrite c
 fn has_eight(report: &Report) -> bool {
     match report.regions.first() {
         Some(region) => {
-            report.regions.len() == 1 && region.bytes.as_slice() == [0, 0, 0, 0, 0, 0, 0, 8].as_slice()
+            report.regions.len() == 1
+                && region.bytes.as_slice() == [0, 0, 0, 0, 0, 0, 0, 8].as_slice()
         }
         None => false,
     }
