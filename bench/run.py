@@ -81,6 +81,14 @@ def shared_account(count, account, answer):
     answer.write("legal\n")
 
 
+def short_lines(count, account, answer):
+    """The account of a node that flushes one region so often: the shortest lines that there are."""
+    account.write("0 create 0:1 1\n0 map 0:1 1\n")
+    for _ in range(count // 1_000):
+        account.write("0 flush 0:1\n" * 1_000)
+    answer.write("legal\n")
+
+
 def creates(count, account, answer):
     """The account of a node that creates so many regions of one byte."""
     for region in range(1, count + 1):
@@ -287,6 +295,8 @@ def bench_wide(bench):
 def bench_check(bench):
     run = bench.compare(shared_account, 155_000, 2.3, ("check", "64"))
     bench.within(run, 3, 1024)
+    (run,) = bench.measure(short_lines, [5_000_000], ("check", "64"))
+    bench.check(run.memory <= 2 * 12 * 5_000_000, "at most twice the account")
     (run,) = bench.measure(creates, [830_000], ("check", "64"))
     bench.within(run, 0.6, 300)
     (run,) = bench.measure(large_creates, [10_000], ("check", "64"))
