@@ -48,7 +48,9 @@ impl<N: Member, T: Luggage> Cluster<N, T> {
         };
         match self.append_next(pass, &event) {
             Ok(at) => {
-                from.behind.node.make_carry(&mut to.behind.node, at, place, came);
+                from.behind
+                    .node
+                    .make_carry(&mut to.behind.node, at, place, came);
                 Ok(())
             }
             Err(why) => Err(why),

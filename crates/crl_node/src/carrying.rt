@@ -40,13 +40,7 @@ pub(crate) fn ready_carry(
 
 /// Carries the piece at this place of the outbox, which was made ready: what came in its frame goes into the inbox of `to`.
 #[tactic(auto, using(crate::proofs::Sending::put_behind))]
-pub(crate) fn make_carry(
-    desk: &mut Desk,
-    to: &mut Desk,
-    at: u64,
-    place: usize,
-    came: Received,
-)
+pub(crate) fn make_carry(desk: &mut Desk, to: &mut Desk, at: u64, place: usize, came: Received)
     requires node { IsNode desk.old × IsNode to.old }
     requires there { place < length desk.old.outbox.list }
     requires ready { CanCarry desk.old to.old }
