@@ -1,1 +1,1 @@
-mod Callers
+mod Lists

@@ -39,12 +39,7 @@ pub fn begin(nodes: &Nodes, pass: &mut Pass, node: NodeNo, call: Call) -> bool
 }
 
 /// The pass takes the answer of the node as soon as there is one: why it is a refusal.
-pub fn collected<R: Wait>(
-    rt: &R,
-    nodes: &Nodes,
-    pass: &mut Pass,
-    node: NodeNo,
-) -> Option<Refusal>
+pub fn collected<R: Wait>(rt: &R, nodes: &Nodes, pass: &mut Pass, node: NodeNo) -> Option<Refusal>
     requires here { IsOf nodes.now pass.old }
     requires node { node < node_count nodes.now }
     ensures here { IsOf nodes.now pass.new }

@@ -79,12 +79,7 @@ pub fn hand<R: Wait>(
 }
 
 /// The first byte of a read section, which is ended.
-fn read_first<R: Wait>(
-    rt: &R,
-    nodes: &Nodes,
-    who: &mut Caller,
-    name: Name,
-) -> Result<u8, CallFault>
+fn read_first<R: Wait>(rt: &R, nodes: &Nodes, who: &mut Caller, name: Name) -> Result<u8, CallFault>
     requires caller { IsCallerOf nodes.now who.old }
     ensures caller { IsCallerOf nodes.now who.new }
 {

@@ -3,8 +3,8 @@ ghost use Rattle.crl_calls.specs.Callers.{IsCallerOf};
 
 use crate::callers::Nodes;
 use crl_calls::{
-    CallFault, Caller, rgn_barrier, rgn_bcast_recv, rgn_bcast_send, rgn_reduce_max,
-    rgn_reduce_min, rgn_reduce_sum,
+    CallFault, Caller, rgn_barrier, rgn_bcast_recv, rgn_bcast_send, rgn_reduce_max, rgn_reduce_min,
+    rgn_reduce_sum,
 };
 use crl_model::bytes::Bytes;
 use std::alloc::Global;

@@ -65,18 +65,22 @@ fn eight_meet(rt: HostRuntime) -> Result<(), Fail> {
     let (nodes, list) = nodes_with(alloc, 8)?;
     let nodes = &nodes;
     let handle = &rt;
-    let met = thread::map_vec(&rt, list, &|who: Caller| -> bool
-        requires { IsCallerOf nodes.now who }
-    {
-        let mut who = who;
-        meet(handle, alloc, nodes, &mut who, 9)
-            == Ok(Heard {
-                first: 9,
-                sum: 28,
-                least: 0,
-                greatest: 7,
-            })
-    })?;
+    let met = thread::map_vec(
+        &rt,
+        list,
+        &|who: Caller| -> bool
+            requires { IsCallerOf nodes.now who }
+        {
+            let mut who = who;
+            meet(handle, alloc, nodes, &mut who, 9)
+                == Ok(Heard {
+                    first: 9,
+                    sum: 28,
+                    least: 0,
+                    greatest: 7,
+                })
+        },
+    )?;
     assert!(rt; met.iter().all(|well| *well));
     Ok(())
 }

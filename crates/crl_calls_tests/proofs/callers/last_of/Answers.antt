@@ -1,5 +1,5 @@
 use Rattle.crl_calls.specs.Callers.{IsCallerOf}
-use Rattle.crl_calls_tests.proofs.Callers.{all_front, all_last}
+use Rattle.crl_calls_tests.proofs.Lists.{all_front, all_last}
 use Rattle.crl_calls_tests.proofs.callers.last_of.Goals as goal
 
 pub returns-clause-rest : goal.returns-clause-rest
