@@ -159,7 +159,7 @@ fn another_pass_uses_the_node(rt: HostRuntime) -> Result<(), Fail> {
     let mut pass = other.into_pass();
     let name = Name::new(1, 1);
     assert!(rt; begin(&nodes, &mut pass, 0, Call::Map { name }));
-    let (created, refused) = call_beside(&rt, &nodes, &mut who, pass);
+    let (created, refused) = call_beside(&rt, &nodes, who, pass);
     assert!(rt; created);
     assert!(rt; refused == Some(Refusal::Unknown));
     Ok(())
