@@ -1,6 +1,7 @@
 ghost use Rattle.std.specs.Prelude.{◌<◌};
 ghost use Rattle.crl_cluster.specs.Clusters.{node_count, IsOf};
 ghost use Rattle.crl_calls.specs.Callers.{IsCallerOf};
+ghost use Rattle.crl_calls_tests.specs.Callers.{AreCallersOf};
 
 use crate::beside::{begin, collected};
 use crate::callers::{Nodes, last_of, nodes_with};
@@ -11,12 +12,14 @@ use crl_calls::{
     rgn_flush, rgn_map, rgn_reduce_sum, rgn_rid, rgn_size, rgn_unmap,
 };
 use crl_cluster::Pass;
+use crl_model::OutOfMemory;
 use crl_model::bytes::Bytes;
 use crl_model::call::{Call, Refusal};
 use crl_model::name::Name;
+use std::alloc::Global;
 use std::sync::Wait;
 use std::test::Fail;
-use std::thread::{self, Threads, join};
+use std::thread::{Threads, join, map_vec};
 
 // Two threads add to a region in turns, so many times each.
 fn hand_both<R: Threads + Wait + Sync>(
@@ -59,28 +62,40 @@ fn a_region_goes_to_and_fro(rt: HostRuntime) -> Result<(), Fail> {
     Ok(())
 }
 
-#[test]
-fn eight_meet(rt: HostRuntime) -> Result<(), Fail> {
-    let alloc = rt.alloc();
-    let (nodes, list) = nodes_with(alloc, 8)?;
-    let nodes = &nodes;
-    let handle = &rt;
-    let met = thread::map_vec(
-        &rt,
+/// What each of eight callers hears that meet, where node 0 sends 9.
+const HEARD: Heard = Heard {
+    first: 9,
+    sum: 28,
+    least: 0,
+    greatest: 7,
+};
+
+// Whether each caller hears that, in a thread of its own.
+fn meet_all<R: Threads + Wait + Sync>(
+    rt: &R,
+    alloc: Global,
+    nodes: &Nodes,
+    list: Vec<Caller>,
+) -> Result<Vec<bool>, OutOfMemory>
+    requires { AreCallersOf nodes.now list.items }
+{
+    map_vec(
+        rt,
         list,
-        &|who: Caller| -> bool
+        &move |who: Caller| -> bool
             requires { IsCallerOf nodes.now who }
         {
             let mut who = who;
-            meet(handle, alloc, nodes, &mut who, 9)
-                == Ok(Heard {
-                    first: 9,
-                    sum: 28,
-                    least: 0,
-                    greatest: 7,
-                })
+            meet(rt, alloc, nodes, &mut who, 9) == Ok(HEARD)
         },
-    )?;
+    )
+}
+
+#[test]
+fn eight_meet(rt: HostRuntime) -> Result<(), Fail> {
+    let (nodes, list) = nodes_with(rt.alloc(), 8)?;
+    let met = meet_all(&rt, rt.alloc(), &nodes, list)?;
+    assert_eq!(rt; met.len(), 8);
     assert!(rt; met.iter().all(|well| *well));
     Ok(())
 }
@@ -89,23 +104,22 @@ fn eight_meet(rt: HostRuntime) -> Result<(), Fail> {
 fn calls_are_refused(rt: HostRuntime) -> Result<(), Fail> {
     let (nodes, mut list) = nodes_with(rt.alloc(), 1)?;
     let mut who = last_of(&nodes, &mut list).expect(&rt, "a caller");
-    let who = &mut who;
-    let bad = rgn_create(&rt, &nodes, who, 0);
+    let bad = rgn_create(&rt, &nodes, &mut who, 0);
     assert!(rt; bad == Err(CallFault::Refused(Refusal::BadSize)));
-    let name = rgn_create(&rt, &nodes, who, 4)?;
-    let unmapped = rgn_flush(&rt, &nodes, who, name);
+    let name = rgn_create(&rt, &nodes, &mut who, 4)?;
+    let unmapped = rgn_flush(&rt, &nodes, &mut who, name);
     assert!(rt; unmapped == Err(CallFault::Refused(Refusal::NotMapped)));
-    let mapped = rgn_map(&rt, &nodes, who, name)?;
+    let mapped = rgn_map(&rt, &nodes, &mut who, name)?;
     assert!(rt; rgn_rid(&mapped) == name && rgn_size(&mapped) == 4);
-    rgn_barrier(&rt, &nodes, who)?;
-    assert!(rt; rgn_reduce_sum(&rt, &nodes, who, 5) == Ok(5));
+    rgn_barrier(&rt, &nodes, &mut who)?;
+    assert!(rt; rgn_reduce_sum(&rt, &nodes, &mut who, 5) == Ok(5));
     let bytes = Bytes::copy_of(rt.alloc(), &[1])?;
-    rgn_bcast_send(&rt, &nodes, who, bytes)?;
-    let alone = rgn_bcast_recv(&rt, &nodes, who);
+    rgn_bcast_send(&rt, &nodes, &mut who, bytes)?;
+    let alone = rgn_bcast_recv(&rt, &nodes, &mut who);
     assert!(rt; alone == Err(CallFault::Refused(Refusal::Mixed)));
-    rgn_unmap(&rt, &nodes, who, name)?;
-    rgn_delete(&rt, &nodes, who, name)?;
-    let deleted = rgn_map(&rt, &nodes, who, name);
+    rgn_unmap(&rt, &nodes, &mut who, name)?;
+    rgn_delete(&rt, &nodes, &mut who, name)?;
+    let deleted = rgn_map(&rt, &nodes, &mut who, name);
     assert!(rt; deleted == Err(CallFault::Refused(Refusal::Deleted)));
     Ok(())
 }
