@@ -3,7 +3,7 @@ use Rattle.std.specs.Prelude.{◌≡◌, ℕ, ◌≤◌, ◌^◌, ◌⊎◌, Boo
 use Rattle.crl_model.specs.declared.call.Call.{Call}
 use Rattle.crl_model.specs.declared.event.Event.{Event}
 use Rattle.crl_model.specs.declared.event.Event.TheVariants as event
-use Rattle.crl_protocol.specs.Node.{Answer}
+use Rattle.crl_protocol.specs.Node.{Node, Answer}
 use Rattle.crl_protocol.specs.World.{step, IsRun}
 use Rattle.crl_turns.specs.declared.turned.Shape.{Shape}
 use Rattle.crl_turns.specs.declared.view.Place.TheVariants.{Free}
@@ -88,6 +88,12 @@ pub record RunsFull (node : ℕ) (c : Call) (old new : View) : Type 0 where
   pub trail : IsPartOfTrail node c events
   pub walks : Walks old events new
   pub full : length new.front ≡ 2 ^ 62
+
+-- The front ends with this event, and the node was so before it.
+pub record EndsWhere (s : Shape) (node : ℕ) (is_so : Node → Bool) (e : Event) (front : List Event) : Type 0 where
+  pub before : List Event
+  pub front_is : front ≡ before ++ e ∷ []
+  pub was_so : is_so ((world_at s before).nodes node) ≡ true
 
 -- Pieces were moved, and then this event was done, with this answer.
 pub record Does (s : Shape) (e : Event) (old : View) (answer : Answer) (new : View) : Type 0 where
