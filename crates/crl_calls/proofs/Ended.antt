@@ -32,11 +32,11 @@ use Rattle.crl_calls.specs.declared.ending.Ended.TheVariants as ended
 use Rattle.crl_calls.specs.declared.faults.EndFault.{EndFault}
 use Rattle.crl_calls.specs.declared.faults.EndWhy.{EndWhy}
 use Rattle.crl_calls.specs.declared.faults.EndWhy.TheVariants as end
-use Rattle.crl_calls.specs.Callers.{knows, IsCallerOf, EndsSection, IsNotEnded, is_allowed}
+use Rattle.crl_calls.specs.Callers.{knows, IsCallerOf, EndsSection, IsSpentBefore, IsNotEnded, is_allowed}
 use Rattle.crl_calls.specs.Trails.{Walks, Moves, Does}
 use Rattle.crl_calls.specs.Tries.{ended_of, stops, is_full_end, EndsHeld, DoesEnd, IsNeverEnded, IsEnded}
 use Rattle.crl_calls.proofs.Walking.{walk_event, walk_undone, walk_around}
-use Rattle.crl_calls.proofs.Telling.{moves_walk, moves_then, moves_full, does_now, does_after, answered_at_once, full_unmade}
+use Rattle.crl_calls.proofs.Telling.{moves_none, moves_walk, moves_then, moves_full, does_now, does_after, answered_at_once}
 use Rattle.crl_calls.proofs.Asked.{caller_on}
 
 pub allowed : (o : Option Refusal) → is_allowed o ≡ true → o ≡ None
@@ -140,22 +140,25 @@ filled : {G : Type 0} (s : Shape) (node : ℕ) (c : Call) (may_end : Node → Bo
 filled s node c may_end guard old new (Ok done) is full = cc
 filled s node c may_end guard old new (Err back) is full = full_of s node may_end old new back.why is.1 full
 
+pub spent_unended : {N T A B : Type 0} (cluster : Cluster N T A B) (who : Caller) → IsCallerOf cluster who → who.spent ≡ true → IsSpentBefore who who
+spent_unended cluster who is spent = record { node = refl; spent = spent; moves = (moves_none (knows who), is.full spent); stays = λ _. refl }
+
 pub ended_caller : {N T A B G : Type 0} (cluster : Cluster N T A B) (s : Shape) (c : Call) (may_end : Node → Bool) (guard : G) (old new : Caller) (r : Result (Unit {0}) (EndFault G)) → IsCallerOf cluster old → IsOf cluster new.pass
     → new.node ≡ old.node → new.spent ≡ is_full_end r → EndTold s old.node c may_end guard (knows old) (knows new) r → IsCallerOf cluster new
 ended_caller cluster s c may_end guard old new r is here node spent told =
     let w = walked s old.node c may_end guard (knows old) (knows new) r told in
     caller_on cluster old new w.0 is here node w.1 (λ full. filled s old.node c may_end guard (knows old) (knows new) r told (sym spent ∙ full))
 
-not_ended : (s : Shape) (c : Call) (may_end : Node → Bool) (old new : Caller) (why : EndWhy) → old.spent ≡ false → new.node ≡ old.node → new.spent ≡ stops why → IsNeverEnded s old.node may_end (knows old) why (knows new)
-    → IsNotEnded s c may_end old why new
-not_ended s c may_end old new end.Foreign awake node spent is = (record { awake = record { node = node; before = awake; after = spent }; moves = is.0 }, is.1)
-not_ended s c may_end old new end.Spent awake node spent is =
-    record { node = node; spent = spent; call = full_unmade old.node c (knows old) (knows new) is; stays = λ was. absurd (let w : false ≡ true = sym awake ∙ was in cc) }
+not_ended : (s : Shape) (may_end : Node → Bool) (old new : Caller) (why : EndWhy) → old.spent ≡ false → new.node ≡ old.node → new.spent ≡ stops why → IsNeverEnded s old.node may_end (knows old) why (knows new)
+    → IsNotEnded s may_end old why new
+not_ended s may_end old new end.Foreign awake node spent is = (record { awake = record { node = node; before = awake; after = spent }; moves = is.0 }, is.1)
+not_ended s may_end old new end.Spent awake node spent is =
+    record { node = node; spent = spent; moves = is; stays = λ was. absurd (let w : false ≡ true = sym awake ∙ was in cc) }
 
 pub ended_told : {G : Type 0} (s : Shape) (c : Call) (may_end : Node → Bool) (guard : G) (old new : Caller) (r : Result (Unit {0}) (EndFault G)) → old.spent ≡ false → new.node ≡ old.node → new.spent ≡ is_full_end r
     → EndTold s old.node c may_end guard (knows old) (knows new) r
-    → MatchResult r (λ _. EndsSection s c may_end old new) (λ back. (back.guard ≡ guard) × IsNotEnded s c may_end old back.why new)
+    → MatchResult r (λ _. EndsSection s c may_end old new) (λ back. (back.guard ≡ guard) × IsNotEnded s may_end old back.why new)
 ended_told s c may_end guard old new (Ok done) awake node spent is =
     let made = answered_at_once s old.node c (knows old) Done (knows new) is.does in
     record { answered = record { awake = record { node = node; before = awake; after = spent }; later = false; answer = Done; gives = (refl, refl); call = made }; may = is.may }
-ended_told s c may_end guard old new (Err back) awake node spent is = (is.0, not_ended s c may_end old new back.why awake node spent is.1)
+ended_told s c may_end guard old new (Err back) awake node spent is = (is.0, not_ended s may_end old new back.why awake node spent is.1)

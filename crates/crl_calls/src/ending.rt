@@ -258,7 +258,7 @@ pub(crate) fn end_at_last<R: Wait, N: Member, G: Ending>(
     ensures told { let s = shape_of cluster.now in
         let c = G.call guard in
         MatchResult result (λ _. EndsSection s c (λ n. G.may_end n guard) who.old who.new)
-        (λ back. (back.guard ≡ guard) × IsNotEnded s c (λ n. G.may_end n guard) who.old back.why who.new) }
+        (λ back. (back.guard ≡ guard) × IsNotEnded s (λ n. G.may_end n guard) who.old back.why who.new) }
 {
     if who.spent {
         return Err(EndFault {

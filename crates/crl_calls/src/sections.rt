@@ -93,7 +93,7 @@ pub fn rgn_end_read<R: Wait, N: Member>(
         let c = call.EndRead guard.name in
         MatchResult result
         (λ _. EndsSection s c (λ n. may_end_read n guard) who.old who.new)
-        (λ back. (back.guard ≡ guard) × IsNotEnded s c (λ n. may_end_read n guard) who.old back.why who.new) }
+        (λ back. (back.guard ≡ guard) × IsNotEnded s (λ n. may_end_read n guard) who.old back.why who.new) }
 {
     end_at_last(rt, cluster, who, guard)
 }
@@ -115,7 +115,7 @@ pub fn rgn_end_write<R: Wait, N: Member>(
         let c = call.EndWrite guard.name guard.bytes in
         MatchResult result
         (λ _. EndsSection s c (λ n. may_end_write n guard) who.old who.new)
-        (λ back. (back.guard ≡ guard) × IsNotEnded s c (λ n. may_end_write n guard) who.old back.why who.new) }
+        (λ back. (back.guard ≡ guard) × IsNotEnded s (λ n. may_end_write n guard) who.old back.why who.new) }
 {
     end_at_last(rt, cluster, who, guard)
 }
