@@ -35,7 +35,7 @@ use Rattle.crl_calls.specs.declared.faults.EndWhy.TheVariants as end
 use Rattle.crl_calls.specs.Callers.{knows, IsCallerOf, EndsSection, IsSpentBefore, IsNotEnded, is_allowed}
 use Rattle.crl_calls.specs.Trails.{Walks, Moves, Does}
 use Rattle.crl_calls.specs.Tries.{ended_of, stops, is_full_end, EndsHeld, DoesEnd, IsNeverEnded, IsEnded}
-use Rattle.crl_calls.proofs.Walking.{walk_event, walk_undone, walk_around}
+use Rattle.crl_calls.proofs.Walking.{last_event, last_around, walk_event, walk_undone, walk_around}
 use Rattle.crl_calls.proofs.Telling.{moves_none, moves_walk, moves_then, moves_full, does_now, does_after, answered_at_once}
 use Rattle.crl_calls.proofs.Asked.{caller_on}
 
@@ -101,6 +101,7 @@ module _ (s : Shape) (node : ℕ) (old held done new : View) (begins : Begins ol
       let came = is.comes in
       does_now s e old answer new (walk_around s node old held done new (e ∷ []) begins takes (walk_event s e held done came) gives)
       (record { before = came.before; front_is = front_is ∙ came.front; run = came.run; enabled = came.enabled; answer_is = is.answer_is })
+      (last_around node done new gives (last_event s e held done came))
 
   ends_around : (c : Call) (may_end : Node → Bool) → EndsHeld s node c may_end held done → DoesEnd s node c may_end old new
   ends_around c may_end is =
