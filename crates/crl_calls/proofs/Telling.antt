@@ -3,11 +3,11 @@ use Rattle.std.proofs.Common.{◌≡◌, ℕ, ⊎_elim, true, false, List, [], �
 use Rattle.crl_model.specs.declared.call.Call.{Call}
 use Rattle.crl_model.specs.declared.event.Event.{Event}
 use Rattle.crl_model.specs.declared.event.Event.TheVariants as event
-use Rattle.crl_protocol.specs.Node.{Answer}
+use Rattle.crl_protocol.specs.Node.{Answer, Wait}
 use Rattle.crl_turns.specs.declared.turned.Shape.{Shape}
 use Rattle.crl_turns.specs.declared.view.View.{View}
 use Rattle.crl_turns.specs.Closing.{HoldsNone}
-use Rattle.crl_calls.specs.Trails.{is_move, AreMoves, Walks, Moves, MovesToTheEnd, Ends, Does, at_once, collected, AnswersCall, unmade, waiting, RunsFull}
+use Rattle.crl_calls.specs.Trails.{is_move, AreMoves, Walks, Moves, MovesToTheEnd, Ends, OwnsLast, Does, at_once, collected, AnswersCall, unmade, waiting, RunsFull}
 use Rattle.crl_calls.proofs.Walking.{walk_none, walk_then}
 use Rattle.std.specs.Prelude.{MatchResult}
 use Rattle.std.specs.declared.result.Result.{Result}
@@ -40,8 +40,8 @@ pub moves_on : {E : Type 0} (a b c : View) (r : Result (Unit {0}) E) → Moves a
 moves_on a b c (Ok done) first second = moves_then a b c first second
 moves_on a b c (Err full) first second = moves_full a b c first second
 
-pub does_now : (s : Shape) (e : Event) (old : View) (answer : Answer) (new : View) → Walks old (e ∷ []) new → Ends s e answer new.front → Does s e old answer new
-does_now s e old answer new walks ends = record { events = []; moves = tt; walks = walks; ends = ends }
+pub does_now : (s : Shape) (e : Event) (old : View) (answer : Answer) (new : View) → Walks old (e ∷ []) new → Ends s e answer new.front → OwnsLast new → Does s e old answer new
+does_now s e old answer new walks ends last = record { events = []; moves = tt; walks = walks; ends = ends; last = last }
 
 pub does_after : (s : Shape) (e : Event) (a b : View) (answer : Answer) (c : View) → Moves a b → Does s e b answer c → Does s e a answer c
 does_after s e a b answer c first does = record {
@@ -49,19 +49,22 @@ does_after s e a b answer c first does = record {
   moves = are_both first.events does.events first.moves does.moves;
   walks = subst (λ es. Walks a es c) (sym (append_assoc first.events does.events (e ∷ []))) (walk_then a b c first.events (does.events ++ e ∷ []) first.walks does.walks);
   ends = does.ends;
+  last = does.last;
 }
 
 pub answered_at_once : (s : Shape) (node : ℕ) (c : Call) (old : View) (answer : Answer) (new : View) → Does s (event.Call node c) old answer new → AnswersCall s node c old false answer new
 answered_at_once s node c old answer new does =
-    record { events = does.events ++ event.Call node c ∷ []; trail = at_once does.events does.moves; walks = does.walks; ends = does.ends }
+    record { events = does.events ++ event.Call node c ∷ []; trail = at_once does.events does.moves; walks = does.walks; ends = does.ends; last = does.last; waited = tt }
 
-pub answered_later : (s : Shape) (node : ℕ) (c : Call) (old : View) (first : Answer) (mid : View) (answer : Answer) (new : View)
-    → Does s (event.Call node c) old first mid → Does s (event.Collect node) mid answer new → AnswersCall s node c old true answer new
-answered_later s node c old first mid answer new made took = record {
+pub answered_later : (s : Shape) (node : ℕ) (c : Call) (old mid : View) (answer : Answer) (new : View)
+    → Does s (event.Call node c) old Wait mid → Does s (event.Collect node) mid answer new → AnswersCall s node c old true answer new
+answered_later s node c old mid answer new made took = record {
   events = (made.events ++ event.Call node c ∷ []) ++ (took.events ++ event.Collect node ∷ []);
   trail = collected made.events took.events made.moves took.moves;
   walks = walk_then old mid new _ _ made.walks took.walks;
   ends = took.ends;
+  last = took.last;
+  waited = record { middle = mid; made = made; took = took };
 }
 
 pub full_unmade : (node : ℕ) (c : Call) (old new : View) → MovesToTheEnd old new → RunsFull node c old new

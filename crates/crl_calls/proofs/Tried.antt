@@ -17,7 +17,7 @@ use Rattle.crl_cluster.specs.Acting.{Comes, IsDone}
 use Rattle.crl_cluster.specs.Trying.{Alone, IsNotTried, IsCarried, IsNotCarried, HasNoPiece}
 use Rattle.crl_calls.specs.Trails.{Moves, MovesToTheEnd, Does}
 use Rattle.crl_calls.specs.Tries.{tried_of, taken_of, IsTried, IsTaken}
-use Rattle.crl_calls.proofs.Walking.{walk_untried, walk_handled, walk_carried, walk_uncarried, walk_done, full_untried, full_uncarried, ends_alone}
+use Rattle.crl_calls.proofs.Walking.{walk_untried, walk_handled, walk_carried, walk_uncarried, walk_done, full_untried, full_uncarried, ends_alone, last_alone}
 use Rattle.crl_calls.proofs.Telling.{moves_walk, moves_one, does_now}
 
 abbrev HandleTold : Shape → ℕ → ℕ → View → View → Result (Unit {0}) TryFault → Type 0
@@ -48,7 +48,7 @@ carried_told s node place old new r (Err full) told on =
 
 -- an event that was done at a node which was held for it
 pub tried_does : (s : Shape) (node : ℕ) (e : Event) (answer : Answer) (old new : View) → Alone s node old new (λ held done. IsDone s e held answer done) → Does s e old answer new
-tried_does s node e answer old new alone = does_now s e old answer new (walk_done s node e answer old new alone) (ends_alone s node e answer old new alone)
+tried_does s node e answer old new alone = does_now s e old answer new (walk_done s node e answer old new alone) (ends_alone s node e answer old new alone) (last_alone s node e answer old new alone)
 
 pub tried_not : (s : Shape) (node : ℕ) (c back : Call) (HasNothing : World → Type 0) (old new : View) (why : TryFault) → back ≡ c → IsNotTried s node HasNothing old why new → IsTried s node c old (tried_of why back) new
 tried_not s node c back HasNothing old new (Busy out) same is = (same, moves_walk old new (walk_untried s node HasNothing old new (Busy out) is))

@@ -1,5 +1,5 @@
 -- What a pass appended itself, over several steps; and what one event at a node that is held for it adds.
-use Rattle.std.proofs.Common.{◌≡◌, ℕ, zero, suc, ◌==◌, ◌≤◌, ◌^◌, ◌⊎◌, inl, inr, ⊎_elim, Bool, true, false, List, [], ◌∷◌, ◌++◌, length, slice_get, Some, refl, sym, ap, ◌∙◌, subst, append_assoc, append-nil, le_refl, le_trans}
+use Rattle.std.proofs.Common.{◌≡◌, ℕ, zero, suc, ◌==◌, ◌≤◌, ◌^◌, ◌⊎◌, inl, inr, ⊎_elim, Bool, true, false, arith, List, [], ◌∷◌, ◌++◌, length, slice_get, Some, refl, sym, ap, ◌∙◌, subst, append_assoc, append-nil, le_refl, le_trans}
 use Rattle.crl_model.specs.declared.event.Event.{Event}
 use Rattle.crl_model.specs.declared.event.Event.TheVariants as event
 use Rattle.crl_protocol.specs.Node.{Answer}
@@ -19,7 +19,7 @@ use Rattle.crl_cluster.specs.declared.faults.TryFault.{TryFault}
 use Rattle.crl_cluster.specs.declared.faults.TryFault.TheVariants.{Busy, Nothing, Step}
 use Rattle.crl_cluster.specs.Acting.{Comes, IsDone, IsUndone}
 use Rattle.crl_cluster.specs.Trying.{Alone, IsNotTried, IsCarried, IsUncarried, IsNotCarried}
-use Rattle.crl_calls.specs.Trails.{AreAt, Walks, Ends}
+use Rattle.crl_calls.specs.Trails.{AreAt, Walks, OwnsLast, Ends}
 
 get_more : {A : Type 0} (xs ys : List A) (k : ℕ) (x : A) → slice_get xs k ≡ Some x → slice_get (xs ++ ys) k ≡ Some x
 get_more [] ys k x e = cc
@@ -36,13 +36,23 @@ at_more front whole low first [] [] b le is = tt
 at_more front whole low first [] (e ∷ es) b le is = absurd is
 at_more front whole low first (p ∷ ps) [] b le is = absurd is
 at_more front whole low first (p ∷ ps) (e ∷ es) b le is =
-    (le_trans le is.0, subst (λ l. slice_get l p ≡ Some e) b.1 (get_more front b.0 p e is.1), at_more front whole low first ps es b le is.2)
+    (le_trans le is.0, subst (λ l. slice_get l p ≡ Some e) b.1 (get_more front b.0 p e is.1), at_more front whole (suc p) (suc p) ps es b (le_refl (suc p)) is.2)
 
-at_both : (front : List Event) (first : ℕ) (ps qs : List ℕ) (es fs : List Event) → AreAt front first ps es → AreAt front first qs fs → AreAt front first (ps ++ qs) (es ++ fs)
-at_both front first [] qs [] fs is then = then
-at_both front first [] qs (e ∷ es) fs is then = absurd is
-at_both front first (p ∷ ps) qs [] fs is then = absurd is
-at_both front first (p ∷ ps) qs (e ∷ es) fs is then = (is.0, is.1, at_both front first ps qs es fs is.2 then)
+-- a position of an event is inside
+get_inside : {A : Type 0} (xs : List A) (k : ℕ) (x : A) → slice_get xs k ≡ Some x → suc k ≤ length xs
+get_inside [] k x e = cc
+get_inside (y ∷ xs) zero x e = omega (arith)
+get_inside (y ∷ xs) (suc k) x e = omega (arith, get_inside xs k x e)
+
+-- events of a front, and then others behind it
+at_both : (front whole : List Event) (first : ℕ) (ps qs : List ℕ) (es fs : List Event) → Begins front whole → first ≤ length front → AreAt front first ps es → AreAt whole (length front) qs fs
+    → AreAt whole first (ps ++ qs) (es ++ fs)
+at_both front whole first [] qs [] fs b le is then = at_more whole whole first (length front) qs fs (begins_same whole) le then
+at_both front whole first [] qs (e ∷ es) fs b le is then = absurd is
+at_both front whole first (p ∷ ps) qs [] fs b le is then = absurd is
+at_both front whole first (p ∷ ps) qs (e ∷ es) fs b le is then =
+    let more = subst (λ l. slice_get l p ≡ Some e) b.1 (get_more front b.0 p e is.1) in
+    (is.0, more, at_both front whole (suc p) ps qs es fs b (get_inside front p e is.1) is.2 then)
 
 pub walk_none : (v : View) → Walks v [] v
 walk_none v = record { begins = begins_same v.front; gained = []; own = sym (append-nil v.own); each = tt; splits = refl; holds = λ part. inr refl }
@@ -52,9 +62,7 @@ walk_then a b c es fs first second = record {
   begins = begins_trans a.front b.front c.front first.begins second.begins;
   gained = first.gained ++ second.gained;
   own = second.own ∙ ap (λ l. l ++ second.gained) first.own ∙ append_assoc a.own first.gained second.gained;
-  each = at_both c.front (length a.front) first.gained second.gained es fs
-      (at_more b.front c.front (length a.front) (length a.front) first.gained es second.begins (le_refl (length a.front)) first.each)
-      (at_more c.front c.front (length a.front) (length b.front) second.gained fs (begins_same c.front) (begins_length a.front b.front first.begins) second.each);
+  each = at_both b.front c.front (length a.front) first.gained second.gained es fs second.begins (begins_length a.front b.front first.begins) first.each second.each;
   splits = second.splits ∙ first.splits;
   holds = λ part. ⊎_elim (λ free. inl free) (λ same. ⊎_elim (λ free. inl (same ∙ free)) (λ was. inr (same ∙ was)) (first.holds part)) (second.holds part);
 }
@@ -85,6 +93,19 @@ walk_event s e old new came = record {
   each = (begins_length old.front came.before came.grows.begins, subst (λ l. slice_get l (length came.before) ≡ Some e) (sym came.front) (get_last came.before e), tt);
   splits = ap (λ (v : View). v.splits) came.view;
   holds = λ part. inr (ap (λ (v : View). value_place part v.holds) came.view);
+}
+
+pub last_event : (s : Shape) (e : Event) (old new : View) → Comes s e old new → OwnsLast new
+last_event s e old new came = record { before = came.before; last = e; front_is = came.front; earlier = old.own; own_is = ap (λ (v : View). v.own) came.view }
+
+-- giving a node back changes neither
+pub last_around : (node : ℕ) (done new : View) → new ≡ after_give_back node done → OwnsLast done → OwnsLast new
+last_around node done new gives last = record {
+  before = last.before;
+  last = last.last;
+  front_is = ap (λ (v : View). v.front) gives ∙ last.front_is;
+  earlier = last.earlier;
+  own_is = ap (λ (v : View). v.own) gives ∙ last.own_is;
 }
 
 pub walk_undone : (s : Shape) (old new : View) (why : StepFault) → IsUndone s old why new → Walks old [] new
@@ -156,6 +177,9 @@ pub ends_alone : (s : Shape) (node : ℕ) (e : Event) (answer : Answer) (old new
 ends_alone s node e answer old new alone =
     let came = alone.happens.comes in
     record { before = came.before; front_is = ap (λ (v : View). v.front) alone.gives ∙ came.front; run = came.run; enabled = came.enabled; answer_is = alone.happens.answer_is }
+
+pub last_alone : (s : Shape) (node : ℕ) (e : Event) (answer : Answer) (old new : View) → Alone s node old new (λ held done. IsDone s e held answer done) → OwnsLast new
+last_alone s node e answer old new alone = last_around node alone.done new alone.gives (last_event s e alone.held alone.done alone.happens.comes)
 
 pub walk_done : (s : Shape) (node : ℕ) (e : Event) (answer : Answer) (old new : View) → Alone s node old new (λ held done. IsDone s e held answer done) → Walks old (e ∷ []) new
 walk_done s node e answer old new alone = walk_alone s node old new _ _ (λ held done is. walk_event s e held done is.comes) alone

@@ -5,7 +5,8 @@ use Rattle.std.specs.declared.option.Option.TheVariants.{None}
 use Rattle.crl_model.specs.declared.call.Call.{Call}
 use Rattle.crl_model.specs.declared.call.Call.TheVariants as call
 use Rattle.crl_model.specs.declared.call.Refusal.{Refusal}
-use Rattle.crl_protocol.specs.Node.{Node, Answer, Refused}
+use Rattle.crl_model.specs.declared.event.Event.TheVariants as event
+use Rattle.crl_protocol.specs.Node.{Node, Answer, Done, Refused}
 use Rattle.crl_protocol.specs.Sections.{Guard}
 use Rattle.crl_protocol.specs.Verdict.{verdict, word_of}
 use Rattle.crl_member.specs.Fitting.{fits_reading, fits_writing}
@@ -23,7 +24,7 @@ use Rattle.crl_calls.specs.declared.faults.CallFault.TheVariants as fault
 use Rattle.crl_calls.specs.declared.faults.EndWhy.{EndWhy}
 use Rattle.crl_calls.specs.declared.faults.EndWhy.TheVariants as end
 use Rattle.crl_calls.specs.Answers.{may_refuse}
-use Rattle.crl_calls.specs.Trails.{Moves, AnswersCall, RunsFull}
+use Rattle.crl_calls.specs.Trails.{Moves, MovesToTheEnd, AnswersCall, EndsWhere, RunsFull}
 
 -- what a caller knows and did
 abbrev pub knows : Caller → View
@@ -86,6 +87,13 @@ pub record IsSpent (c : Call) (old new : Caller) : Type 0 where
   pub call : RunsFull old.node c (knows old) (knows new)
   pub stays : old.spent ≡ true → new ≡ old
 
+-- The same, where the call was not made: pieces were moved, and nothing else.
+pub record IsSpentBefore (old new : Caller) : Type 0 where
+  pub node : new.node ≡ old.node
+  pub spent : new.spent ≡ true
+  pub moves : MovesToTheEnd (knows old) (knows new)
+  pub stays : old.spent ≡ true → new ≡ old
+
 -- Why a call has no answer that is Ok.
 abbrev pub IsFaulted : Shape → Call → Caller → CallFault → Caller → Type 0
 IsFaulted s c old (fault.Refused why) new = IsRefused s c old why new
@@ -103,7 +111,12 @@ may_end_read n g = fits_reading n g && is_allowed (verdict n (call.EndRead g.nam
 abbrev pub may_end_write : Node → Guard → Bool
 may_end_write n g = fits_writing n g && is_allowed (verdict n (call.EndWrite g.name g.bytes))
 
--- Why a section was not ended: the node after the front has none that the guard ends; or the history is full.
-abbrev pub IsNotEnded : Shape → Call → (Node → Bool) → Caller → EndWhy → Caller → Type 0
-IsNotEnded s c may_end old end.Foreign new = IsUnmade old new × (may_end ((world_at s (knows new).front).nodes old.node) ≡ false)
-IsNotEnded s c may_end old end.Spent new = IsSpent c old new
+-- The section was ended at once: the node before the last event of the front had one that the guard ends.
+pub record EndsSection (s : Shape) (c : Call) (may_end : Node → Bool) (old new : Caller) : Type 0 where
+  pub answered : IsAnswered s c old (λ later answer. (later ≡ false) × (answer ≡ Done)) new
+  pub may : EndsWhere s old.node may_end (event.Call old.node c) (knows new).front
+
+-- Why a section was not ended: the node after the front has none that the guard ends; or the history is full, and the end was not made.
+abbrev pub IsNotEnded : Shape → (Node → Bool) → Caller → EndWhy → Caller → Type 0
+IsNotEnded s may_end old end.Foreign new = IsUnmade old new × (may_end ((world_at s (knows new).front).nodes old.node) ≡ false)
+IsNotEnded s may_end old end.Spent new = IsSpentBefore old new

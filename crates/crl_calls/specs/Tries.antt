@@ -6,13 +6,14 @@ use Rattle.crl_model.specs.declared.call.Call.{Call}
 use Rattle.crl_model.specs.declared.call.CallKind.{CallKind}
 use Rattle.crl_model.specs.declared.event.Event.TheVariants as event
 use Rattle.crl_protocol.specs.Node as node
-use Rattle.crl_protocol.specs.Node.{Node, Answer}
+use Rattle.crl_protocol.specs.Node.{Node, Answer, Done}
 use Rattle.crl_turns.specs.declared.turned.Shape.{Shape}
 use Rattle.crl_turns.specs.declared.view.View.{View}
 use Rattle.crl_cluster.specs.declared.faults.StepFault.{StepFault}
 use Rattle.crl_cluster.specs.declared.faults.StepFault.TheVariants as step
 use Rattle.crl_cluster.specs.declared.faults.TryFault.{TryFault}
 use Rattle.crl_cluster.specs.declared.faults.TryFault.TheVariants.{Busy, Nothing, Step}
+use Rattle.crl_cluster.specs.Acting.{IsDone}
 use Rattle.crl_cluster.specs.Standing.{world_at}
 use Rattle.crl_calls.specs.declared.asking.Never.{Never}
 use Rattle.crl_calls.specs.declared.asking.Never.TheVariants as never
@@ -29,7 +30,7 @@ use Rattle.crl_calls.specs.declared.faults.EndFault.{EndFault}
 use Rattle.crl_calls.specs.declared.faults.EndWhy.{EndWhy}
 use Rattle.crl_calls.specs.declared.faults.EndWhy.TheVariants as end
 use Rattle.crl_calls.specs.Answers.{may_refuse}
-use Rattle.crl_calls.specs.Trails.{Moves, MovesToTheEnd, Does, RunsFull}
+use Rattle.crl_calls.specs.Trails.{Moves, MovesToTheEnd, EndsWhere, Does, RunsFull}
 
 -- How a try ended, by why nothing was done. What passes: a turn that is out, a node that isn't free or ready yet, a count
 -- that had moved on; and for an answer that is to be taken, want of memory.
@@ -84,6 +85,15 @@ ended_of step.OutOfMemory back = ended.Again back
 ended_of (step.Moved saw found) back = ended.Again back
 ended_of step.Spent back = ended.Full back
 
+-- The section is ended where the node is held, or by a try: the node before it has one open that the guard ends.
+pub record EndsHeld (s : Shape) (node : ℕ) (c : Call) (may_end : Node → Bool) (old new : View) : Type 0 where
+  pub does : IsDone s (event.Call node c) old Done new
+  pub may : EndsWhere s node may_end (event.Call node c) new.front
+
+pub record DoesEnd (s : Shape) (node : ℕ) (c : Call) (may_end : Node → Bool) (old new : View) : Type 0 where
+  pub does : Does s (event.Call node c) old Done new
+  pub may : EndsWhere s node may_end (event.Call node c) new.front
+
 -- Why a section is never ended: the node after the front has none open that the guard ends, or the history is full.
 abbrev pub IsNeverEnded : Shape → ℕ → (Node → Bool) → View → EndWhy → View → Type 0
 IsNeverEnded s node may_end old end.Foreign new = Moves old new × (may_end ((world_at s new.front).nodes node) ≡ false)
@@ -91,10 +101,10 @@ IsNeverEnded s node may_end old end.Spent new = MovesToTheEnd old new
 
 -- what a try tells to end a section by its guard
 abbrev pub IsEnded : {G : Type 0} → Type 0 → Shape → ℕ → (Node → Bool) → G → View → Ended G → View → Type 0
-IsEnded IsDone s node may_end guard old ended.Done new = IsDone
-IsEnded IsDone s node may_end guard old (ended.Again back) new = (back ≡ guard) × Moves old new
-IsEnded IsDone s node may_end guard old (ended.Foreign back) new = (back ≡ guard) × IsNeverEnded s node may_end old end.Foreign new
-IsEnded IsDone s node may_end guard old (ended.Full back) new = (back ≡ guard) × IsNeverEnded s node may_end old end.Spent new
+IsEnded IsItDone s node may_end guard old ended.Done new = IsItDone
+IsEnded IsItDone s node may_end guard old (ended.Again back) new = (back ≡ guard) × Moves old new
+IsEnded IsItDone s node may_end guard old (ended.Foreign back) new = (back ≡ guard) × IsNeverEnded s node may_end old end.Foreign new
+IsEnded IsItDone s node may_end guard old (ended.Full back) new = (back ≡ guard) × IsNeverEnded s node may_end old end.Spent new
 
 abbrev pub stops : EndWhy → Bool
 stops end.Foreign = false

@@ -7,9 +7,8 @@ ghost use Rattle.crl_protocol.specs.Verdict.{verdict};
 ghost use Rattle.crl_protocol.specs.World.{is_free};
 ghost use Rattle.crl_cluster.specs.Clusters.{view_of, shape_of, node_count, IsOf, IsHeld, IsSameHeld};
 ghost use Rattle.crl_cluster.specs.Acting.{IsDone, IsUndone};
-ghost use Rattle.crl_calls.specs.Trails.{Does};
-ghost use Rattle.crl_calls.specs.Callers.{IsCallerOf, IsAnswered, IsNotEnded, is_allowed};
-ghost use Rattle.crl_calls.specs.Tries.{ended_of, is_full_end, IsEnded, IsNeverEnded};
+ghost use Rattle.crl_calls.specs.Callers.{IsCallerOf, EndsSection, IsNotEnded, is_allowed};
+ghost use Rattle.crl_calls.specs.Tries.{ended_of, is_full_end, EndsHeld, DoesEnd, IsEnded, IsNeverEnded};
 
 use crate::caller::Caller;
 use crate::faults::{EndFault, EndWhy};
@@ -148,7 +147,7 @@ fn end_held<N: Member, G: Ending>(
     ensures held { IsHeld N.state (shape_of cluster.now) (view_of pass.new) held.new × IsSameHeld held.old held.new }
     ensures told { let s = shape_of cluster.now in
         let i = held.old.number in
-        let done = IsDone s (event.Call i (G.call guard)) (view_of pass.old) Done (view_of pass.new) in
+        let done = EndsHeld s i (G.call guard) (λ n. G.may_end n guard) (view_of pass.old) (view_of pass.new) in
         IsEnded done s i (λ n. G.may_end n guard) guard (view_of pass.old) result (view_of pass.new) }
 {
     if !guard.may_end(held.node()) {
@@ -174,7 +173,7 @@ fn end_once<N: Member, G: Ending>(
     requires node { node < node_count cluster.now }
     ensures here { IsOf cluster.now pass.new }
     ensures told { let s = shape_of cluster.now in
-        let done = Does s (event.Call node (G.call guard)) (view_of pass.old) Done (view_of pass.new) in
+        let done = DoesEnd s node (G.call guard) (λ n. G.may_end n guard) (view_of pass.old) (view_of pass.new) in
         IsEnded done s node (λ n. G.may_end n guard) guard (view_of pass.old) result (view_of pass.new) }
 {
     match cluster.hold(pass, node) {
@@ -199,7 +198,7 @@ fn end_or_never<R: Wait, N: Member, G: Ending>(
     requires node { node < node_count cluster.now }
     ensures here { IsOf cluster.now pass.new }
     ensures told { let s = shape_of cluster.now in
-        MatchResult result (λ _. Does s (event.Call node (G.call guard)) (view_of pass.old) Done (view_of pass.new))
+        MatchResult result (λ _. DoesEnd s node (G.call guard) (λ n. G.may_end n guard) (view_of pass.old) (view_of pass.new))
         (λ back. (back.guard ≡ guard) × IsNeverEnded s node (λ n. G.may_end n guard) (view_of pass.old) back.why (view_of pass.new)) }
 {
     let mut guard = guard;
@@ -258,8 +257,8 @@ pub(crate) fn end_at_last<R: Wait, N: Member, G: Ending>(
     ensures caller { IsCallerOf cluster.now who.new }
     ensures told { let s = shape_of cluster.now in
         let c = G.call guard in
-        MatchResult result (λ _. IsAnswered s c who.old (λ _ answer. answer ≡ Done) who.new)
-        (λ back. (back.guard ≡ guard) × IsNotEnded s c (λ n. G.may_end n guard) who.old back.why who.new) }
+        MatchResult result (λ _. EndsSection s c (λ n. G.may_end n guard) who.old who.new)
+        (λ back. (back.guard ≡ guard) × IsNotEnded s (λ n. G.may_end n guard) who.old back.why who.new) }
 {
     if who.spent {
         return Err(EndFault {

@@ -3,7 +3,7 @@ ghost use Rattle.std.specs.Prelude.{◌≡◌, IfOk, MatchResult};
 ghost use Rattle.crl_model.specs.declared.call.Call.TheVariants as call;
 ghost use Rattle.crl_protocol.specs.Node as node;
 ghost use Rattle.crl_cluster.specs.Clusters.{shape_of};
-ghost use Rattle.crl_calls.specs.Callers.{knows, IsCallerOf, IsAnswered, IsFaulted, IsNotEnded, may_end_read, may_end_write};
+ghost use Rattle.crl_calls.specs.Callers.{knows, IsCallerOf, IsAnswered, IsFaulted, EndsSection, IsNotEnded, may_end_read, may_end_write};
 ghost use Rattle.crl_calls.specs.Shown.{ShowsArray};
 
 use crate::asking::ask;
@@ -92,8 +92,8 @@ pub fn rgn_end_read<R: Wait, N: Member>(
     ensures told { let s = shape_of cluster.now in
         let c = call.EndRead guard.name in
         MatchResult result
-        (λ _. IsAnswered s c who.old (λ _ answer. answer ≡ node.Done) who.new)
-        (λ back. (back.guard ≡ guard) × IsNotEnded s c (λ n. may_end_read n guard) who.old back.why who.new) }
+        (λ _. EndsSection s c (λ n. may_end_read n guard) who.old who.new)
+        (λ back. (back.guard ≡ guard) × IsNotEnded s (λ n. may_end_read n guard) who.old back.why who.new) }
 {
     end_at_last(rt, cluster, who, guard)
 }
@@ -114,8 +114,8 @@ pub fn rgn_end_write<R: Wait, N: Member>(
     ensures told { let s = shape_of cluster.now in
         let c = call.EndWrite guard.name guard.bytes in
         MatchResult result
-        (λ _. IsAnswered s c who.old (λ _ answer. answer ≡ node.Done) who.new)
-        (λ back. (back.guard ≡ guard) × IsNotEnded s c (λ n. may_end_write n guard) who.old back.why who.new) }
+        (λ _. EndsSection s c (λ n. may_end_write n guard) who.old who.new)
+        (λ back. (back.guard ≡ guard) × IsNotEnded s (λ n. may_end_write n guard) who.old back.why who.new) }
 {
     end_at_last(rt, cluster, who, guard)
 }

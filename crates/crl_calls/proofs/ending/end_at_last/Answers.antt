@@ -1,11 +1,10 @@
 use Rattle.std.proofs.Common.{refl}
 use Rattle.crl_cluster.specs.Clusters.{shape_of}
-use Rattle.crl_calls.proofs.Asked.{spent_before}
-use Rattle.crl_calls.proofs.Ended.{ended_caller, ended_told}
+use Rattle.crl_calls.proofs.Ended.{spent_unended, ended_caller, ended_told}
 use Rattle.crl_calls.proofs.ending.end_at_last.Goals as goal
 
 pub returns-then-who-clause-told : goal.returns-then-who-clause-told
-returns-then-who-clause-told g c = (refl, spent_before c.args.cluster.now (g.G.Ending.call c.args.guard) c.args.who.now c.requires.caller c.if-who.true)
+returns-then-who-clause-told g c = (refl, spent_unended c.args.cluster.now c.args.who.now c.requires.caller c.if-who.true)
 
 pub returns-clause-caller : goal.returns-clause-caller
 returns-clause-caller g c =

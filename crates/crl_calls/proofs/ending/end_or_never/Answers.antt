@@ -1,12 +1,9 @@
 use Rattle.std.proofs.Common.{refl, ◌∙◌, subst}
-use Rattle.crl_model.specs.declared.event.Event.TheVariants as event
-use Rattle.crl_protocol.specs.Node.{Done}
 use Rattle.crl_cluster.specs.Clusters.{view_of, shape_of}
 use Rattle.crl_calls.specs.declared.faults.EndWhy.TheVariants as end
-use Rattle.crl_calls.specs.Trails.{Does}
-use Rattle.crl_calls.specs.Tries.{IsNeverEnded}
-use Rattle.crl_calls.proofs.Telling.{moves_none, moves_then, moves_full, does_after}
-use Rattle.crl_calls.proofs.Ended.{ended_after}
+use Rattle.crl_calls.specs.Tries.{DoesEnd, IsNeverEnded}
+use Rattle.crl_calls.proofs.Telling.{moves_none, moves_then, moves_full}
+use Rattle.crl_calls.proofs.Ended.{ends_after, ended_after}
 use Rattle.crl_calls.proofs.ending.end_or_never.Goals as goal
 
 pub loop-init : goal.loop-init
@@ -17,8 +14,8 @@ returns-in-Done-clause-told g c =
     let s = shape_of c.args.cluster.now in
     let mid = view_of c.loop.pass in
     let new = view_of c.end_once.new.pass in
-    does_after s (event.Call c.args.node (g.G.Ending.call c.args.guard)) (view_of c.args.pass.now) mid Done new c.loop.invariant.2
-    (subst (λ k. Does s (event.Call c.args.node (g.G.Ending.call k)) mid Done new) c.loop.invariant.1 c.in-Done.ensures.told)
+    ends_after s c.args.node (g.G.Ending.call c.args.guard) (λ n. g.G.Ending.may_end n c.args.guard) (view_of c.args.pass.now) mid new c.loop.invariant.2
+    (subst (λ k. DoesEnd s c.args.node (g.G.Ending.call k) (λ n. g.G.Ending.may_end n k) mid new) c.loop.invariant.1 c.in-Done.ensures.told)
 
 pub returns-in-Foreign-clause-told : goal.returns-in-Foreign-clause-told
 returns-in-Foreign-clause-told g c =
