@@ -1,4 +1,5 @@
 mod AgainLemmas
+mod AtOnceLemmas
 mod BlockLemmas
 mod BlockRun
 pub mod Laws

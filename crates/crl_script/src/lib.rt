@@ -4,6 +4,7 @@
 pub mod fault;
 mod label;
 mod line;
+mod look;
 mod place;
 mod printing;
 mod progress;

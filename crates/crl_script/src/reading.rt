@@ -1,7 +1,7 @@
 //! Reads a script.
-ghost use Rattle.std.specs.Prelude.{◌≡◌, ◌<◌, ◌≤◌, ◌^◌, length, map, IfOk, vec_len};
+ghost use Rattle.std.specs.Prelude.{◌≡◌, ◌<◌, ◌≤◌, ◌^◌, length, map, IfOk, IfSome, true, vec_len};
 ghost use Rattle.crl_script.specs.Again.{AllStatements};
-ghost use Rattle.crl_script.specs.Labels.{known_names};
+ghost use Rattle.crl_script.specs.Labels.{known_names, names_in};
 ghost use Rattle.crl_script.specs.Reads.{Reads, ReadsAs};
 ghost use Rattle.crl_script.specs.Seen.{seen};
 ghost use Rattle.crl_script.specs.Sentence.{program_of, read_with, script_of};
@@ -9,8 +9,10 @@ ghost use Rattle.crl_script.specs.Sentence.{program_of, read_with, script_of};
 use crate::fault::{LineFault, ScriptFault, ScriptWhy};
 use crate::label::Labels;
 use crate::line::next_line;
+use crate::look::first_labels;
 use crate::progress::Reading;
 use crate::script::Script;
+use crl_model::OutOfMemory;
 use std::alloc::Global;
 
 /// Reads a text, with labels that have these names, or each some name where none are given.
@@ -38,6 +40,37 @@ fn read_with<'a>(
         number += 1;
     }
     Ok(reading)
+}
+
+/// Reads a text with the labels that a look at it finds, if they turn out to be those that it creates. A text that isn't read
+/// so has a fault.
+#[tactic(auto, using(crate::proofs::AtOnceLemmas::read_at_once, crate::proofs::PlainRun::text_made))]
+fn read_at_once(alloc: Global, text: &[u8]) -> Result<Option<Reading<'_>>, OutOfMemory>
+    requires { length text.now < 2 ^ 32 }
+    ensures read { IfOk result (λ found. IfSome found (λ r. script_of text.now ≡ program_of (seen r))) }
+    ensures blocks { IfOk result (λ found. IfSome found (λ r. vec_len r.blocks ≤ 64)) }
+    ensures statements { IfOk result (λ found. IfSome found (λ r. AllStatements (map (λ b. b.items) r.blocks.items))) }
+{
+    let Ok(labels) = first_labels(alloc, text) else {
+        return Err(OutOfMemory);
+    };
+    let known = Some(labels);
+    match read_with(alloc, &known, text) {
+        Ok(reading) if are_known(&known, &reading.labels) => Ok(Some(reading)),
+        Err(ScriptFault::OutOfMemory) => Err(OutOfMemory),
+        _ => Ok(None),
+    }
+}
+
+/// Whether these are the labels that were known.
+#[tactic(auto, using(crate::proofs::AtOnceLemmas::same_names))]
+fn are_known<'a>(known: &Option<Labels<'a>>, labels: &Labels<'a>) -> bool
+    ensures { result ≡ true → names_in labels.now ≡ known_names known.now }
+{
+    match known {
+        None => false,
+        Some(known) => labels == known,
+    }
 }
 
 /// The script that was read, which has a line that isn't skipped.
@@ -94,6 +127,11 @@ pub fn read_script(alloc: Global, text: &[u8]) -> Result<Script, ScriptFault>
     requires { length text.now < 2 ^ 32 }
     ensures { Reads result (script_of text.now) }
 {
+    match read_at_once(alloc, text) {
+        Ok(Some(reading)) => return script(reading),
+        Ok(None) => {}
+        Err(OutOfMemory) => return Err(ScriptFault::OutOfMemory),
+    }
     let known = {
         let first = read_with(alloc, &None, text)?;
         Some(first.labels)
