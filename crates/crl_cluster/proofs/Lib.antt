@@ -1,6 +1,7 @@
 mod Growing
 mod Worlds
 mod Landing
+mod Learning
 mod Coming
 mod Nodes
 mod Fresh

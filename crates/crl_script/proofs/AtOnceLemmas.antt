@@ -1,6 +1,6 @@
 -- Where a text is read with the names of the labels that it then turns out to create, this is what it says: reading it with
 -- a name for every label finds no fault either, and the same labels.
-use Rattle.std.proofs.Common.{◌≡◌, ℕ, ◌+◌, Bool, true, false, cond, zero, suc, List, [], ◌∷◌, ◌++◌, length, replicate, set, get_or, Option, Some, None, Result, Ok, Err, refl, sym, ap, ◌∙◌, subst, arith}
+use Rattle.std.proofs.Common.{◌≡◌, ℕ, ◌+◌, Bool, true, false, cond, List, [], ◌∷◌, ◌++◌, length, replicate, set, get_or, Option, Some, None, Result, Ok, Err, refl, sym, ap, ◌∙◌, subst}
 use Rattle.std.specs.Prelude.{codes, nat_lt, nat_le, ◌==◌, ◌&&◌, is_some}
 use Rattle.std.specs.List.{list_any}
 use Rattle.std.specs.Str.{bytes_eq}
@@ -25,14 +25,14 @@ use Rattle.crl_script.specs.declared.fault.ScriptWhy.TheVariants.{NoNodes, BadNo
 use Rattle.crl_script.specs.declared.place.Place.{Place}
 use Rattle.crl_script.specs.declared.place.Place.TheVariants.{Start, Head, Outside, Inside}
 use Rattle.crl_script.specs.Labels.{Names, any_name, names_in}
-use Rattle.crl_script.specs.Program.{Program, Fault}
+use Rattle.crl_script.specs.Program.{Fault}
 use Rattle.crl_script.specs.Progress.{Progress, start, with_nodes, nodes_line, cache_line, with_block, node_line, with_statement, with_region, create_line, other_line, statement_line, line_at, words_line, line_of}
 use Rattle.crl_script.specs.Reading.{◌>>=◌}
 use Rattle.crl_script.specs.Sentence.{lines_from, read_with, at_line, ◌>=>◌, program_of, script_of}
-use Rattle.crl_script.specs.Statements.{statement_of, kind_of, one_of, about_of, call_of, region_of, three_of, put_of, add_of, alone_of, called, or_fault}
+use Rattle.crl_script.specs.Statements.{statement_of, kind_of, one_of, about_of, call_of, region_of, three_of, put_of, add_of, called, or_fault}
 use Rattle.crl_script.specs.Text.{Line, lines_of, words_of, is_comment}
 use Rattle.crl_script.specs.Words.{is_label, number_of, bytes_of}
-use Rattle.crl_script.proofs.PlainLemmas.{bind_ok, chosen, chosen_yes}
+use Rattle.crl_script.proofs.PlainLemmas.{bind_ok}
 
 -- ---- labels
 
@@ -176,10 +176,10 @@ nodes_free p q blocks [] h = cc h
 nodes_free p q blocks (word ∷ []) h =
     let r = bind_ok (number_of 18446744073709551615 BadNumber word) (with_nodes p) q h in
     rw r.1 (go r.0 (nat_le 1 r.0 && nat_le r.0 64) r.2) where
-  go : (n : ℕ) (b : Bool) → cond b (Ok (record p { place = Head; blocks = replicate n [] })) (Err BadNodes) ≡ Ok q
-      → Follows (cond b (Ok (record (but_blocks p blocks) { place = Head; blocks = replicate n [] })) (Err BadNodes)) q
-  go n true h = follows _ (record p { place = Head; blocks = replicate n [] }) q (replicate n [], refl, refl) h
-  go n false h = cc h
+      go : (n : ℕ) (b : Bool) → cond b (Ok (record p { place = Head; blocks = replicate n [] })) (Err BadNodes) ≡ Ok q
+          → Follows (cond b (Ok (record (but_blocks p blocks) { place = Head; blocks = replicate n [] })) (Err BadNodes)) q
+      go n true h = follows _ (record p { place = Head; blocks = replicate n [] }) q (replicate n [], refl, refl) h
+      go n false h = cc h
 nodes_free p q blocks (word ∷ next ∷ words) h = cc h
 
 cache_free : (p q : Progress) (blocks : List (List Statement)) (words : List (List ℕ)) → length blocks ≡ length p.blocks → cache_line p words ≡ Ok q → Follows (cache_line (but_blocks p blocks) words) q
@@ -196,21 +196,22 @@ node_free p q blocks [] e h = cc h
 node_free p q blocks (word ∷ []) e h =
     let r = bind_ok (number_of 4294967295 BadNumber word) (with_block p) q h in
     rw r.1 (rw e (go r.0 (nat_le (length p.blocks) r.0) (list_any (λ k. k == r.0) p.begun) r.2)) where
-  go : (n : ℕ) (far twice : Bool) → cond far (Err BadNode) (cond twice (Err TwiceNode) (Ok (record p { place = Inside n; begun = p.begun ++ n ∷ []; made = 0 }))) ≡ Ok q
-      → Follows (cond far (Err BadNode) (cond twice (Err TwiceNode) (Ok (record (but_blocks p blocks) { place = Inside n; begun = p.begun ++ n ∷ []; made = 0 })))) q
-  go n true twice h = cc h
-  go n false true h = cc h
-  go n false false h = follows _ (record p { place = Inside n; begun = p.begun ++ n ∷ []; made = 0 }) q (blocks, e, refl) h
+      go : (n : ℕ) (far twice : Bool) → cond far (Err BadNode) (cond twice (Err TwiceNode) (Ok (record p { place = Inside n; begun = p.begun ++ n ∷ []; made = 0 }))) ≡ Ok q
+          → Follows (cond far (Err BadNode) (cond twice (Err TwiceNode) (Ok (record (but_blocks p blocks) { place = Inside n; begun = p.begun ++ n ∷ []; made = 0 })))) q
+      go n true twice h = cc h
+      go n false true h = cc h
+      go n false false h = follows _ (record p { place = Inside n; begun = p.begun ++ n ∷ []; made = 0 }) q (blocks, e, refl) h
 node_free p q blocks (word ∷ next ∷ words) e h = cc h
 
 -- a statement more in each
 put_free_in : (node : ℕ) (s t : Statement) (p : Progress) (blocks : List (List Statement)) → length blocks ≡ length p.blocks
     → (more : List (List Statement)) × (length more ≡ length (with_statement node s p).blocks) × (with_statement node t (but_blocks p blocks) ≡ but_blocks (with_statement node s p) more)
 unfolding with_statement
-put_free_in node s t p blocks e =
-    (set blocks node (get_or blocks node [] ++ t ∷ []),
-    length-set blocks node (get_or blocks node [] ++ t ∷ []) ∙ e ∙ sym (length-set p.blocks node (get_or p.blocks node [] ++ s ∷ [])),
-    refl)
+put_free_in node s t p blocks e = (
+  set blocks node (get_or blocks node [] ++ t ∷ []),
+  length-set blocks node (get_or blocks node [] ++ t ∷ []) ∙ e ∙ sym (length-set p.blocks node (get_or p.blocks node [] ++ s ∷ [])),
+  refl,
+)
 
 create_free : (p q : Progress) (blocks : List (List Statement)) (node : ℕ) (words : List (List ℕ)) → length blocks ≡ length p.blocks → create_line p node words ≡ Ok q
     → Follows (create_line (but_blocks p blocks) node words) q
@@ -303,12 +304,12 @@ lines_free known [] p q blocks n e h =
     let same : p ≡ q = cc h in (but_blocks p blocks, refl, ap (λ (p : Progress). p.names) same)
 lines_free known (line ∷ lines) p q blocks n e h =
     go (line_of known p line) (λ next. line_free known p next blocks line e) (λ next more. lines_free known lines next q more (n + 1)) h where
-  go : (r : Result Progress ScriptWhy) → ((next : Progress) → r ≡ Ok next → Follows (line_of any_name (but_blocks p blocks) line) next)
-      → ((next : Progress) (more : List (List Statement)) → length more ≡ length next.blocks → lines_from known next (n + 1) lines ≡ Ok q → Finds (lines_from any_name (but_blocks next more) (n + 1) lines) q)
-      → (at_line n r >=> (λ next. lines_from known next (n + 1) lines)) ≡ Ok q
-      → Finds (at_line n (line_of any_name (but_blocks p blocks) line) >=> (λ next. lines_from any_name next (n + 1) lines)) q
-  go (Ok next) step rest h = let here = step next refl in rw here.2 (rest next here.0 here.1 h)
-  go (Err why) step rest h = cc h
+      go : (r : Result Progress ScriptWhy) → ((next : Progress) → r ≡ Ok next → Follows (line_of any_name (but_blocks p blocks) line) next)
+          → ((next : Progress) (more : List (List Statement)) → length more ≡ length next.blocks → lines_from known next (n + 1) lines ≡ Ok q → Finds (lines_from any_name (but_blocks next more) (n + 1) lines) q)
+          → (at_line n r >=> (λ next. lines_from known next (n + 1) lines)) ≡ Ok q
+          → Finds (at_line n (line_of any_name (but_blocks p blocks) line) >=> (λ next. lines_from any_name next (n + 1) lines)) q
+      go (Ok next) step rest h = let here = step next refl in rw here.2 (rest next here.0 here.1 h)
+      go (Err why) step rest h = cc h
 
 -- a text that is read with the names that it creates
 pub read_at_once : (names : Names) (text : List ℕ) (q : Progress) → read_with names text ≡ Ok q → q.names ≡ names → script_of text ≡ program_of q

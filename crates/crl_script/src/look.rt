@@ -1,12 +1,12 @@
 //! A first look at a text, for the labels that it creates.
 ghost use Rattle.std.specs.Prelude.{◌+◌, ◌<◌, ◌≤◌, ◌^◌, length};
 
+use crate::fault::{LineFault, ScriptWhy};
 use crate::label::{Labels, give};
 use crate::line::{next_line, next_word};
-use crate::fault::{LineFault, ScriptWhy};
 use crate::word::number;
-use crl_model::{NODE_LIMIT, NodeNo};
 use crl_model::name::Name;
+use crl_model::{NODE_LIMIT, NodeNo};
 use std::alloc::Global;
 use std::collections::BTreeMap;
 

@@ -1,4 +1,4 @@
-use Rattle.std.proofs.Common.{◌≡◌, refl, sym, ap, ◌∙◌}
+use Rattle.std.proofs.Common.{sym, ap, ◌∙◌}
 use Rattle.crl_script.specs.Labels.{known_names}
 use Rattle.crl_script.proofs.AtOnceLemmas.{same_names}
 use Rattle.crl_script.proofs.reading.are_known.Goals as goal

@@ -1,4 +1,3 @@
-use Rattle.std.proofs.Common.{◌≡◌, refl}
 use Rattle.crl_script.specs.Labels.{names_in}
 use Rattle.crl_script.specs.Seen.{seen}
 use Rattle.crl_script.proofs.AtOnceLemmas.{read_at_once}
