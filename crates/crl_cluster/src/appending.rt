@@ -7,7 +7,7 @@ ghost use Rattle.crl_cluster.specs.Acting.{ComesAt, IsUndone};
 ghost use Rattle.crl_cluster.specs.Faults.{fault_of};
 
 use crate::cluster::{Cluster, Pass};
-use crate::faults::{StepFault, fault_of_append};
+use crate::faults::StepFault;
 use crate::luggage::Luggage;
 use crl_member::Member;
 use crl_model::event::Evented;
@@ -63,8 +63,13 @@ impl<N: Member, T: Luggage> Cluster<N, T> {
         loop {
             match self.append_once(pass, event) {
                 Ok(at) => return Ok(at),
-                Err(AppendFault::Moved { .. }) if left > 0 => left -= 1,
-                Err(fault) => return Err(fault_of_append(fault)),
+                Err(AppendFault::Spent) => return Err(StepFault::Spent),
+                Err(AppendFault::Moved { saw, found }) => {
+                    if left == 0 {
+                        return Err(StepFault::Moved { saw, found });
+                    }
+                    left -= 1;
+                }
             }
         }
     }

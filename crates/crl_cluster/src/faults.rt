@@ -1,9 +1,6 @@
 //! Why a call did nothing.
-ghost use Rattle.std.specs.Prelude.{◌≡◌};
-ghost use Rattle.crl_cluster.specs.Faults.{fault_of};
 
 use crl_model::NodeNo;
-use crl_turns::AppendFault;
 
 /// The turn of this node is out.
 #[derive(Debug, Drop, Clone, Copy, PartialEq)]
@@ -45,14 +42,4 @@ pub struct NotDone<G> {
 pub struct NotTried<G> {
     pub why: TryFault,
     pub back: G,
-}
-
-/// Why an event was not appended.
-pub(crate) fn fault_of_append(fault: AppendFault) -> StepFault
-    ensures { result ≡ fault_of fault }
-{
-    match fault {
-        AppendFault::Moved { saw, found } => StepFault::Moved { saw, found },
-        AppendFault::Spent => StepFault::Spent,
-    }
 }

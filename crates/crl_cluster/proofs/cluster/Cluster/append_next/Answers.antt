@@ -1,33 +1,54 @@
 use Rattle.std.proofs.Common.{subst}
+use Rattle.crl_turns.specs.declared.faults.AppendFault.TheVariants.{Moved, Spent}
 use Rattle.crl_turns.specs.Fronts.{Runs}
 use Rattle.crl_cluster.specs.Standing.{MayCome}
 use Rattle.crl_cluster.specs.Clusters.{view_of, shape_of}
-use Rattle.crl_cluster.proofs.Coming.{still_may, still_has, comes, undone}
+use Rattle.crl_cluster.specs.Acting.{IsUndone}
+use Rattle.crl_cluster.specs.Faults.{fault_of}
+use Rattle.crl_cluster.proofs.Learning.{may_later, has_later, comes_later, undone_later, learns_more}
 use Rattle.crl_cluster.proofs.cluster.Cluster.append_next.Goals as goal
 
-pub append-requires-clause-enabled : goal.append-requires-clause-enabled
-append-requires-clause-enabled g c =
-    let looks = c.seen-saw.ensures.told in
+pub append_once-requires-clause-enabled : goal.append_once-requires-clause-enabled
+append_once-requires-clause-enabled g c =
+    let s = shape_of c.args.self.now in
     let old = view_of c.args.pass.now in
-    let runs = subst (λ s. Runs (MayCome s) old.front) c.requires.here.shape_is c.args.pass.now.runs in
-    still_may (shape_of c.args.self.now) _ old _ looks.grows.begins runs looks.grows.runs looks.grows.spares looks.view c.requires.enabled c.requires.has
+    let now = view_of c.loop-at.pass in
+    let runs_old = subst (λ s. Runs (MayCome s) old.front) c.requires.here.shape_is c.args.pass.now.runs in
+    let runs = subst (λ s. Runs (MayCome s) now.front) c.loop-at.invariant.here.shape_is c.loop-at.pass.runs in
+    may_later s old now c.loop-at.invariant.learns (g.E.Evented.event c.args.event.now) c.requires.has runs_old runs c.requires.enabled
 
-pub append-requires-clause-has : goal.append-requires-clause-has
-append-requires-clause-has g c =
-    let looks = c.seen-saw.ensures.told in
-    let old = view_of c.args.pass.now in
-    let runs = subst (λ s. Runs (MayCome s) old.front) c.requires.here.shape_is c.args.pass.now.runs in
-    still_has (shape_of c.args.self.now) _ old _ looks.grows.begins runs looks.grows.runs looks.grows.spares looks.view c.requires.enabled c.requires.has _ c.args.self.now.all
+pub append_once-requires-clause-has : goal.append_once-requires-clause-has
+append_once-requires-clause-has g c =
+    has_later (shape_of c.args.self.now) (view_of c.args.pass.now) (view_of c.loop-at.pass) c.loop-at.invariant.learns (g.E.Evented.event c.args.event.now) c.requires.has
 
 pub returns-in-Ok-clause-told : goal.returns-in-Ok-clause-told
 returns-in-Ok-clause-told g c =
-    let looks = c.seen-saw.ensures.told in
-    let appends = c.in-Ok.ensures.told in
-    let old = view_of c.args.pass.now in
-    let runs = subst (λ s. Runs (MayCome s) old.front) c.requires.here.shape_is c.args.pass.now.runs in
-    comes (shape_of c.args.self.now) _ old _ looks.grows.begins runs looks.grows.runs looks.grows.spares looks.view c.requires.enabled c.requires.has _ _ looks.counts appends.limit appends.ends appends.view
+    comes_later (shape_of c.args.self.now) (view_of c.args.pass.now) (view_of c.loop-at.pass) c.loop-at.invariant.learns (g.E.Evented.event c.args.event.now) c.requires.has
+    c.in-Ok.at (view_of c.append_once.new.pass) c.in-Ok.ensures.told
 
-pub returns-in-Err-clause-told : goal.returns-in-Err-clause-told
-returns-in-Err-clause-told g c =
-    let looks = c.seen-saw.ensures.told in
-    undone (shape_of c.args.self.now) (view_of c.args.pass.now) _ _ looks.grows.begins looks.grows.runs looks.grows.spares looks.view _ _ _ c.in-Err.fault _ looks.counts c.fault_of_append.ensures c.in-Err.ensures.told
+pub returns-in-Err-Spent-clause-told : goal.returns-in-Err-Spent-clause-told
+returns-in-Err-Spent-clause-told g c =
+    let s = shape_of c.args.self.now in
+    let now = view_of c.loop-at.pass in
+    let new = view_of c.append_once.new.pass in
+    undone_later s (view_of c.args.pass.now) now c.loop-at.invariant.learns Spent new
+    (subst (λ fault. IsUndone s now (fault_of fault) new) c.in-Err-Spent.field-0-is c.in-Err-Spent.ensures.told)
+
+pub returns-then-left-eq0-clause-told : goal.returns-then-left-eq0-clause-told
+returns-then-left-eq0-clause-told g c =
+    let s = shape_of c.args.self.now in
+    let now = view_of c.loop-at.pass in
+    let new = view_of c.append_once.new.pass in
+    undone_later s (view_of c.args.pass.now) now c.loop-at.invariant.learns (Moved c.in-Err-Moved.saw c.in-Err-Moved.found) new
+    (subst (λ fault. IsUndone s now (fault_of fault) new) c.in-Err-Moved.field-0-is c.in-Err-Moved.ensures.told)
+
+pub loop-at-preserved : goal.loop-at-preserved
+loop-at-preserved g c =
+    let s = shape_of c.args.self.now in
+    let now = view_of c.loop-at.pass in
+    let new = view_of c.append_once.new.pass in
+    record {
+      here = c.in-Err-Moved.ensures.here;
+      learns = learns_more s (view_of c.args.pass.now) now c.loop-at.invariant.learns c.in-Err-Moved.saw c.in-Err-Moved.found new
+          (subst (λ fault. IsUndone s now (fault_of fault) new) c.in-Err-Moved.field-0-is c.in-Err-Moved.ensures.told);
+    }
