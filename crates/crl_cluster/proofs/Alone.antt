@@ -1,5 +1,5 @@
 -- A node that is held for one event.
-use Rattle.std.proofs.Common.{◌≡◌, ◌≢◌, ℕ, List, ◌++◌, [], length, refl, sym, ap, ◌∙◌, subst, ne_eqb}
+use Rattle.std.proofs.Common.{◌≡◌, ◌≢◌, ℕ, List, ◌++◌, [], refl, sym, ap, ◌∙◌, subst, ne_eqb}
 use Rattle.crl_model.specs.declared.event.Event.{Event}
 use Rattle.std.specs.Prelude.{MatchResult}
 use Rattle.std.specs.declared.result.Result.{Result}

@@ -1,5 +1,5 @@
 -- What a pass learns of the nodes that it holds.
-use Rattle.std.proofs.Common.{◌≡◌, ℕ, List, [], ◌∷◌, ◌++◌, length, refl, sym, ap, ◌∙◌, subst, eq-eqb}
+use Rattle.std.proofs.Common.{◌≡◌, ℕ, List, length, refl, sym, ap, ◌∙◌, subst, eq-eqb}
 use Rattle.crl_model.specs.declared.event.Event.{Event}
 use Rattle.crl_protocol.specs.Node.{Node}
 use Rattle.crl_protocol.specs.Talk.{Heard}
@@ -10,9 +10,9 @@ use Rattle.crl_turns.specs.Calls.{HasValue, after_take}
 use Rattle.crl_turns.specs.Fronts.{Begins, Runs, Spares}
 use Rattle.crl_turns.specs.Plays.{with_holding}
 use Rattle.crl_turns.specs.Rule.{HoldsTurn, value_place, place_if}
-use Rattle.crl_turns.proofs.Laws.{stands_still, begins_trans, begins_same, holds_what_it_has}
+use Rattle.crl_turns.proofs.Laws.{stands_still, begins_trans}
 use Rattle.crl_cluster.specs.Standing.{world_at, heard_at, MayCome, TouchesNode, node_stays, heard_stays}
-use Rattle.crl_cluster.specs.Clusters.{GrowsPast, held_by}
+use Rattle.crl_cluster.specs.Clusters.{GrowsPast}
 
 pub past : (these : ℕ → Type 0) (s : Shape) (old new : List Event) → Begins old new → Runs (MayCome s) new
     → ((i : ℕ) → these i → Spares (λ before e. TouchesNode s before e i) (length old) new) → GrowsPast these s old new

@@ -1,5 +1,5 @@
 -- What the event of one node leaves of it, and that this is its node after the history with the event behind it.
-use Rattle.std.proofs.Common.{◌≡◌, ◌≢◌, ℕ, ◌+◌, ◌<◌, ◌≤◌, ◌==◌, if◌then◌else◌, List, [], ◌∷◌, ◌++◌, length, refl, sym, ap, ap₂, ◌∙◌, subst, eq-eqb, ne_eqb, arith, Option, Some, None}
+use Rattle.std.proofs.Common.{◌≡◌, ◌≢◌, ℕ, if◌then◌else◌, List, [], ◌∷◌, ◌++◌, length, refl, sym, ap, ap₂, ◌∙◌, subst, eq-eqb, ne_eqb, Option, Some, None}
 use Rattle.crl_model.specs.Names.{at_node}
 use Rattle.crl_model.specs.declared.call.Call.{Call}
 use Rattle.crl_model.specs.declared.event.Event.{Event}
@@ -14,8 +14,7 @@ use Rattle.crl_protocol.specs.Sectioning.{ends_over_home, ends_over_remote, afte
 use Rattle.crl_protocol.specs.Node.{Node, Answer, Outcome, Done, home_of}
 use Rattle.crl_protocol.specs.Verdict.{verdict}
 use Rattle.crl_protocol.specs.Calls.{node_calls, call_or_refuse, takes_call}
-use Rattle.crl_protocol.specs.Receiving.{receives}
-use Rattle.crl_protocol.specs.World.{World, new_world, step, commits, noted_call, without_bytes, collects, handles_at, carries, put_in, IsRunFrom}
+use Rattle.crl_protocol.specs.World.{World, new_world, step, commits, noted_call, collects, handles_at, carries, put_in, IsRunFrom}
 use Rattle.crl_member.specs.Members.{CallIsDone, CollectIsDone, node_after_handle, after_taken, after_sent, after_put, addressee_of}
 use Rattle.crl_history.proofs.Laws.{world_then}
 use Rattle.crl_turns.specs.declared.turned.Shape.{Shape}

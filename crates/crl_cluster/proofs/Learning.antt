@@ -1,21 +1,18 @@
 -- A pass that has learnt of events which others appended, and then tries its own again: what comes of that is what comes from
 -- where it began.
-use Rattle.std.proofs.Common.{◌≡◌, ℕ, ◌<◌, ◌≤◌, List, length, refl, sym, ap, ◌∙◌, subst, arith}
+use Rattle.std.proofs.Common.{◌≡◌, ℕ, List, refl, sym, ap, ◌∙◌, arith}
 use Rattle.crl_model.specs.declared.event.Event.{Event}
-use Rattle.crl_protocol.specs.World.{World, IsRunFrom, new_world}
 use Rattle.crl_deeds.specs.Laws.{node_of}
 use Rattle.crl_turns.specs.declared.turned.Shape.{Shape}
 use Rattle.crl_turns.specs.declared.view.View.{View}
 use Rattle.crl_turns.specs.declared.faults.AppendFault.{AppendFault}
 use Rattle.crl_turns.specs.declared.faults.AppendFault.TheVariants.{Moved, Spent}
-use Rattle.crl_turns.specs.Calls.{HasValue}
 use Rattle.crl_turns.specs.Fronts.{Runs}
 use Rattle.crl_turns.specs.Plays.{after_load, after_append}
-use Rattle.crl_turns.specs.Rule.{HoldsTurn}
 use Rattle.crl_turns.proofs.Laws.{holds_what_it_has, begins_same, begins_length}
-use Rattle.crl_cluster.specs.Standing.{world_at, MayCome, TouchesNode}
+use Rattle.crl_cluster.specs.Standing.{world_at, MayCome}
 use Rattle.crl_cluster.specs.Clusters.{GrowsPast, held_by}
-use Rattle.crl_cluster.specs.Acting.{Comes, ComesAt, IsMoved, IsSpent, IsUndone}
+use Rattle.crl_cluster.specs.Acting.{ComesAt, IsMoved, IsUndone}
 use Rattle.crl_cluster.specs.Faults.{fault_of}
 use Rattle.crl_cluster.proofs.Coming.{HasTouched, touches_own}
 use Rattle.crl_cluster.proofs.Growing.{past_twice, holds_as, has_as}

@@ -1,5 +1,5 @@
 -- A held node, before its event and after it.
-use Rattle.std.proofs.Common.{◌≡◌, ◌≢◌, ℕ, ◌+◌, ◌<◌, ◌≤◌, ◌^◌, ◌==◌, ◌&&◌, nat_lt, Bool, true, false, List, [], ◌∷◌, ◌++◌, length, refl, sym, ap, ap₂, ◌∙◌, subst, eqb-true, Option, Some, None}
+use Rattle.std.proofs.Common.{◌≡◌, ◌≢◌, ℕ, ◌<◌, ◌≤◌, ◌^◌, ◌==◌, ◌&&◌, nat_lt, Bool, true, false, List, [], ◌∷◌, ◌++◌, length, refl, sym, ap, ap₂, ◌∙◌, subst, Option, Some, None}
 use Rattle.std.proofs.lemmas.Bool.{lt-ltb, and_parts}
 use Rattle.crl_model.specs.declared.call.Call.TheVariants.{Create, Delete, Map, Unmap, StartRead, EndRead, StartWrite, EndWrite, Put, Add, Flush, Come}
 use Rattle.crl_model.specs.declared.call.Refusal.{Refusal}
@@ -14,11 +14,11 @@ use Rattle.crl_protocol.specs.Places.{Taken, take_out}
 use Rattle.crl_protocol.specs.Node.{Node, Answer, Done}
 use Rattle.crl_protocol.specs.Talk.{hears_of}
 use Rattle.crl_protocol.specs.Verdict.{verdict}
-use Rattle.crl_protocol.specs.World.{World, new_world, step, is_enabled, is_free, is_ready, is_call, IsRunFrom, commits, noted_call, without_bytes}
-use Rattle.crl_deeds.specs.Laws.{touches, node_of}
+use Rattle.crl_protocol.specs.World.{new_world, step, is_enabled, is_free, is_ready, is_call, IsRunFrom, commits, noted_call, without_bytes}
+use Rattle.crl_deeds.specs.Laws.{node_of}
 use Rattle.crl_member.specs.Members.{TakenIsSafe, TakenIsInTable, CallIsDone, CollectIsDone, CarryIsDone, node_after_handle, addressee_of}
 use Rattle.crl_protocol.specs.Calls.{node_calls}
-use Rattle.crl_safety.specs.Safety.{IsSafe, PieceIsSafe}
+use Rattle.crl_safety.specs.Safety.{IsSafe}
 use Rattle.crl_sound.proofs.Laws.{pieces_safe, pieces_leave}
 use Rattle.crl_wire.specs.Frame.{IsInTable}
 use Rattle.crl_frames.specs.Frames.{HoldsOf}
@@ -30,7 +30,7 @@ use Rattle.crl_turns.specs.Fronts.{Runs}
 use Rattle.crl_turns.proofs.Laws.{holds_what_it_has}
 use Rattle.crl_cluster.specs.Standing.{world_at, heard_at, MayCome, hears_then}
 use Rattle.crl_cluster.specs.declared.cluster.Pass.{Pass}
-use Rattle.crl_cluster.specs.Clusters.{view_of, held_by}
+use Rattle.crl_cluster.specs.Clusters.{view_of}
 use Rattle.crl_cluster.specs.Acting.{Comes, ComesAt, IsDone}
 use Rattle.crl_cluster.proofs.Growing.{has_as}
 use Rattle.crl_cluster.proofs.Landing.{call_lands, call_answers, collect_lands, collect_answers, handle_lands, carry_sends, carry_puts}

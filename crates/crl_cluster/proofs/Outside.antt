@@ -1,17 +1,16 @@
 -- No event of a run touches what is past the last node.
-use Rattle.std.proofs.Common.{◌≡◌, ℕ, ◌<◌, ◌≤◌, ◌==◌, ◌||◌, ◌&&◌, nat_lt, Bool, true, false, List, [], ◌∷◌, ◌++◌, length, refl, sym, ap, ◌∙◌, subst, arith, eqb-true, append_assoc, Option, Some, None}
+use Rattle.std.proofs.Common.{◌≡◌, ℕ, ◌<◌, ◌≤◌, ◌==◌, ◌||◌, ◌&&◌, nat_lt, Bool, true, false, List, [], ◌∷◌, ◌++◌, refl, sym, ap, ◌∙◌, subst, arith, eqb-true, append_assoc, Option, Some, None}
 use Rattle.std.proofs.lemmas.Bool.{and_parts, ltb-true, false≢true}
 use Rattle.crl_model.specs.declared.event.Event.{Event}
 use Rattle.crl_model.specs.declared.event.Event.TheVariants as event
 use Rattle.crl_protocol.specs.Parcels.{Piece}
 use Rattle.crl_protocol.specs.Places.{Taken, take_out}
 use Rattle.crl_protocol.specs.Node.{Node, new_node}
-use Rattle.crl_protocol.specs.World.{World, is_enabled}
-use Rattle.crl_deeds.specs.Laws.{touches, goes_to}
-use Rattle.crl_member.specs.Members.{addressee_of}
+use Rattle.crl_protocol.specs.World.{is_enabled}
+use Rattle.crl_deeds.specs.Laws.{goes_to}
 use Rattle.crl_sound.proofs.Laws.{pieces_leave}
 use Rattle.crl_turns.specs.declared.turned.Shape.{Shape}
-use Rattle.crl_turns.specs.Fronts.{Begins, Runs}
+use Rattle.crl_turns.specs.Fronts.{Runs}
 use Rattle.crl_turns.proofs.Laws.{stands_still}
 use Rattle.crl_cluster.specs.Standing.{world_at, MayCome, TouchesNode, node_stays}
 use Rattle.crl_cluster.proofs.Worlds.{run_of, count_at}

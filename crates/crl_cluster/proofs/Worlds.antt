@@ -1,5 +1,5 @@
 -- The world after a front, which is a run.
-use Rattle.std.proofs.Common.{◌≡◌, ℕ, zero, suc, ◌+◌, ◌<◌, ◌≤◌, ◌^◌, ◌==◌, ◌&&◌, ◌||◌, nat_lt, Bool, true, false, List, [], ◌∷◌, ◌++◌, length, refl, sym, ap, ap₂, ◌∙◌, subst, arith, Option, Some, None}
+use Rattle.std.proofs.Common.{◌≡◌, ℕ, zero, suc, ◌+◌, ◌<◌, ◌≤◌, ◌^◌, ◌==◌, ◌&&◌, ◌||◌, nat_lt, true, List, [], ◌∷◌, ◌++◌, length, refl, ap, ap₂, ◌∙◌, arith, Option, Some, None}
 use Rattle.std.proofs.lemmas.Bool.{and_parts, ltb-true}
 use Rattle.crl_model.specs.declared.event.Event.{Event}
 use Rattle.crl_model.specs.declared.event.Event.TheVariants as event
@@ -7,7 +7,7 @@ use Rattle.crl_protocol.specs.Parcels.{Piece}
 use Rattle.crl_protocol.specs.Places.{Taken, take_out, behind}
 use Rattle.crl_protocol.specs.Node.{Node}
 use Rattle.crl_protocol.specs.Verdict.{verdict}
-use Rattle.crl_protocol.specs.World.{World, new_world, world_of, world_after, step, is_enabled, is_free, is_ready, is_call, handles_at, carries, IsRun, IsRunFrom}
+use Rattle.crl_protocol.specs.World.{World, new_world, world_after, step, is_enabled, is_free, is_ready, is_call, handles_at, carries, IsRunFrom}
 use Rattle.crl_deeds.specs.Laws.{touches, node_of, goes_to}
 use Rattle.crl_deeds.proofs.Laws.{turn_of, turn_count}
 use Rattle.crl_safety.specs.Safety.{IsSafe}

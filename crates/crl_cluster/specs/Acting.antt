@@ -1,10 +1,10 @@
 -- What a call tells of its pass.
-use Rattle.std.specs.Prelude.{◌≡◌, ◌≢◌, ℕ, ◌<◌, ◌≤◌, ◌^◌, true, List, [], ◌∷◌, ◌++◌, length}
+use Rattle.std.specs.Prelude.{◌≡◌, ℕ, ◌<◌, ◌≤◌, ◌^◌, List, [], ◌∷◌, ◌++◌, length}
 use Rattle.crl_model.specs.declared.event.Event.{Event}
 use Rattle.crl_protocol.specs.Node.{Node, Answer}
 use Rattle.crl_protocol.specs.Talk.{Heard, hears_of}
 use Rattle.crl_protocol.specs.World.{step, IsRun}
-use Rattle.crl_deeds.specs.Laws.{touches, node_of}
+use Rattle.crl_deeds.specs.Laws.{node_of}
 use Rattle.crl_turns.specs.declared.turned.Shape.{Shape}
 use Rattle.crl_turns.specs.declared.view.View.{View}
 use Rattle.crl_turns.specs.Fronts.{Begins}

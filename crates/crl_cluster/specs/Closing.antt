@@ -1,7 +1,6 @@
 -- What closing answers.
-use Rattle.std.specs.Prelude.{◌≡◌, ℕ, ◌<◌, ◌++◌, List, length, slice_get, Some}
+use Rattle.std.specs.Prelude.{◌≡◌, ℕ, List, length, slice_get, Some}
 use Rattle.crl_model.specs.declared.event.Event.{Event}
-use Rattle.crl_protocol.specs.Node.{Node}
 use Rattle.crl_protocol.specs.Talk.{Heard}
 use Rattle.crl_protocol.specs.World as protocol
 use Rattle.crl_turns.specs.declared.turned.Shape.{Shape}

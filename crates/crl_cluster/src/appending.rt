@@ -18,11 +18,7 @@ const MORE_TRIES: u32 = 64;
 
 impl<N: Member, T: Luggage> Cluster<N, T> {
     /// Loads the count and tries to append the event there, whose position it answers.
-    fn append_once<E: Evented>(
-        &self,
-        pass: &mut Pass,
-        event: &E,
-    ) -> Result<u64, AppendFault>
+    fn append_once<E: Evented>(&self, pass: &mut Pass, event: &E) -> Result<u64, AppendFault>
         requires here { IsOf self.now pass.old }
         requires enabled { MayCome (shape_of self.now) (view_of pass.old).front (E.event event.now) }
         requires has { (i : ℕ) → TouchesNode (shape_of self.now) (view_of pass.old).front (E.event event.now) i

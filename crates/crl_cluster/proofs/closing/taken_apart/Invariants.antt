@@ -1,4 +1,4 @@
-use Rattle.std.proofs.Common.{◌≡◌, ◌+◌, ◌≤◌, ◌++◌, length, map, vec_capacity, vec_len}
+use Rattle.std.proofs.Common.{◌≡◌, ◌+◌, ◌≤◌, ◌++◌, map, vec_capacity, vec_len}
 use Rattle.crl_cluster.specs.declared.behind.Behind.{Behind}
 use Rattle.crl_cluster.proofs.closing.taken_apart.Given as goal
 

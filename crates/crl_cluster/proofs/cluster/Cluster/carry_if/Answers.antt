@@ -1,5 +1,4 @@
-use Rattle.std.proofs.Common.{rules, refl, sym, ap, ◌∙◌, ◌≡◌, ◌≢◌, ◌<◌, ℕ, subst, length}
-use Rattle.crl_protocol.specs.Node.{Node}
+use Rattle.std.proofs.Common.{rules, refl, sym, ap, ◌∙◌, ◌≢◌, ◌<◌, subst, length}
 use Rattle.crl_turns.specs.declared.view.View.{View}
 use Rattle.crl_turns.proofs.Laws.{holds_what_it_has}
 use Rattle.crl_cluster.specs.Standing.{heard_at}
