@@ -1,17 +1,23 @@
--- The lines of a text, cut off one by one, and those of an account that was written.
-use Rattle.std.proofs.Common.{◌≡◌, ℕ, ◌-◌, ◌<◌, true, List, [], ◌∷◌, ◌++◌, length, take, drop, refl, sym, ap, subst, ◌∙◌, append_assoc, arith}
-use Rattle.std.specs.List.{join_with_byte, AllByRecursion}
-use Rattle.std.proofs.lemmas.List.{nil_from_length, length-take}
+-- The first line of a text, and the lines of an account that was written.
+use Rattle.std.proofs.Common.{◌≡◌, ℕ, Bool, true, false, cond, eqb, List, [], ◌∷◌, ◌++◌, refl, sym, ap, subst, ◌∙◌, append_assoc, arith}
+use Rattle.std.specs.List.{onto_first, AllByRecursion}
 use Rattle.std.proofs.lemmas.List.Concat.{flat_map-cons}
-use Rattle.std.proofs.lemmas.List.Splits.{join_with_byte-slice_split}
 use Rattle.crl_model.specs.declared.entry.Entry.{Entry}
 use Rattle.crl_account.specs.declared.line.Line.TheVariants as lines
 use Rattle.crl_account.specs.Text.{spaced, entry_text, account_text}
-use Rattle.crl_account.specs.Reading.{parts}
+use Rattle.crl_account.specs.Parts.{parts}
 use Rattle.crl_account.specs.Account.{without_empty_end, lines_of, IsLine, AreRegions, IsAccount, IsReadable}
-use Rattle.crl_account.proofs.Parts.{parts_some}
 use Rattle.crl_account.proofs.Plain.{avoids, plain_avoids, avoids-append, spaced_avoids, parts_word}
 use Rattle.crl_account.proofs.Lines.{first_word, other_words, first_plain, others_plain}
+
+-- there is one part at least
+parts_some : (separator : ℕ) (text : List ℕ) → (w : List ℕ) × (ws : List (List ℕ)) × (parts separator text ≡ w ∷ ws)
+parts_some separator [] = ([], [], refl)
+parts_some separator (b ∷ bs) = go (eqb b separator) (parts separator bs) where
+  go : (test : Bool) (others : List (List ℕ)) → (w : List ℕ) × (ws : List (List ℕ)) × (cond test ([] ∷ others) (onto_first b others) ≡ w ∷ ws)
+  go true others = ([], others, refl)
+  go false [] = (b ∷ [], [], refl)
+  go false (part ∷ others) = (b ∷ part, others, refl)
 
 more_behind : (line w : List ℕ) (ws : List (List ℕ)) → without_empty_end (line ∷ w ∷ ws) ≡ line ∷ without_empty_end (w ∷ ws)
 more_behind [] w ws = refl
@@ -23,16 +29,6 @@ lines_some text line after e =
     let some = parts_some 10 after in
     ap without_empty_end (e ∙ ap (λ (ps : List (List ℕ)). line ∷ ps) some.2) ∙ more_behind line some.0 some.1
     ∙ ap (λ (ps : List (List ℕ)). line ∷ without_empty_end ps) (sym some.2)
-
--- with no line feed there is one line
-pub lines_last : (text line : List ℕ) → 0 < length text → parts 10 text ≡ line ∷ [] → lines_of text ≡ line ∷ []
-lines_last text line some e = go line e (sym (join_with_byte-slice_split 10 text) ∙ ap (join_with_byte 10) e) where
-  go : (w : List ℕ) → parts 10 text ≡ w ∷ [] → text ≡ w → lines_of text ≡ w ∷ []
-  go [] p same = let none : length text ≡ 0 = ap length same in absurd (omega arith)
-  go (b ∷ bs) p same = ap without_empty_end p
-
-pub nothing_left : (text : List ℕ) → take (length text - length text) (drop (length text) text) ≡ []
-nothing_left text = nil_from_length (take (length text - length text) (drop (length text) text)) (omega (arith, length-take (length text - length text) (drop (length text) text)))
 
 -- ---- an account that was written
 

@@ -1,3 +1,4 @@
 -- What the crates above may cite of the proofs here.
-pub use Rattle.crl_account.proofs.Feeds.{written_lines}
-pub use Rattle.crl_account.proofs.Readers.{given_fits, fault_only, fault_bad}
+pub use Rattle.crl_account.proofs.Plain.{name_parts}
+pub use Rattle.crl_account.proofs.Lines.{first_word, other_words, line_parts}
+pub use Rattle.crl_account.proofs.Feeds.{lines_some, written_lines}

@@ -1,24 +1,106 @@
--- A line that was written is guessed again, so no bytes are two lines.
-use Rattle.std.proofs.Common.{◌≡◌, ◌≢◌, ℕ, ◌^◌, ◌<◌, true, false, eqb, ◌&&◌, List, [], ◌∷◌, ◌++◌, get_or, Option, Some, None, refl, sym, ap, ◌∙◌, arith, append_assoc}
+-- The words of a line, none of which has a space or a line feed.
+use Rattle.std.proofs.Common.{◌≡◌, ℕ, ◌^◌, ◌<◌, true, ◌&&◌, List, [], ◌∷◌, ◌++◌, refl, ap, ◌∙◌, arith}
 use Rattle.std.specs.Prelude.{decimal, codes}
-use Rattle.std.specs.Str.{bytes_eq}
-use Rattle.std.proofs.lemmas.Bool.{ne_eqb}
+use Rattle.std.specs.Fmt.{signed_decimal}
 use Rattle.std.proofs.lemmas.List.{append_cancel_right}
-use Rattle.std.proofs.lemmas.Option.{same_Some}
 use Rattle.hex.specs.Hex.{encode_lower}
 use Rattle.crl_model.specs.declared.name.Name.{Name}
+use Rattle.crl_model.specs.declared.call.CallKind.{CallKind}
+use Rattle.crl_model.specs.declared.call.CallKind.TheVariants as kinds
+use Rattle.crl_model.specs.declared.call.Refusal.{Refusal}
+use Rattle.crl_model.specs.declared.call.Refusal.TheVariants as refusals
+use Rattle.crl_model.specs.declared.collective.Part.{Part}
+use Rattle.crl_model.specs.declared.collective.Part.TheVariants as parts
+use Rattle.crl_model.specs.declared.collective.Fold.{Fold}
+use Rattle.crl_model.specs.declared.collective.Fold.TheVariants as folds
 use Rattle.crl_model.specs.declared.entry.What.{What}
+use Rattle.crl_model.specs.declared.entry.What.TheVariants as whats
+use Rattle.crl_model.specs.declared.entry.Place.{Place}
+use Rattle.crl_model.specs.declared.entry.Place.TheVariants as places
 use Rattle.crl_account.specs.declared.line.Line.{Line}
 use Rattle.crl_account.specs.declared.line.Line.TheVariants as lines
-use Rattle.crl_account.specs.Text.{name_text, spaced, what_words}
-use Rattle.crl_account.specs.Words.{verb_of}
-use Rattle.crl_account.specs.Reading as reading
-use Rattle.crl_account.specs.Reading.{◌>>=◌, number_of}
-use Rattle.crl_account.specs.Guess.{name_and_bytes, what_by, entry_by, region_by, stuck_round_by, stuck_section_by, stuck_at, stuck_by, counts_by, line_by, line_of}
-use Rattle.crl_account.specs.Account.{FitsName, FitsLine, IsPrintableLine, IsLine, line_text}
-use Rattle.crl_account.proofs.Digits.{number_again, first_digit}
-use Rattle.crl_account.proofs.Plain.{plain, all_plain, both, plain_decimal, plain_hex, plain_name, parts_spaced}
-use Rattle.crl_account.proofs.Again.{says, name_again, bytes_again, what_again, plain_what}
+use Rattle.crl_account.specs.Text.{name_text, spaced, call_word, refusal_word, place_text, part_words, fold_words, what_words}
+use Rattle.crl_account.specs.Parts as texts
+use Rattle.crl_account.specs.Account.{line_text, FitsName, FitsPlace, FitsPart, FitsFold, FitsWhat, FitsLine, IsLine}
+use Rattle.crl_account.proofs.Plain.{plain, all_plain, both, plain_decimal, plain_signed64, plain_signed128, plain_hex, plain_name, parts_spaced}
+
+-- ---- what an entry says
+
+plain_kind : (kind : CallKind) → plain (call_word kind) ≡ true
+plain_kind kinds.Create = refl
+plain_kind kinds.Delete = refl
+plain_kind kinds.Map = refl
+plain_kind kinds.Unmap = refl
+plain_kind kinds.Read = refl
+plain_kind kinds.EndRead = refl
+plain_kind kinds.Write = refl
+plain_kind kinds.Put = refl
+plain_kind kinds.Add = refl
+plain_kind kinds.EndWrite = refl
+plain_kind kinds.Flush = refl
+plain_kind kinds.Barrier = refl
+plain_kind kinds.Send = refl
+plain_kind kinds.Receive = refl
+plain_kind kinds.Sum = refl
+plain_kind kinds.Min = refl
+plain_kind kinds.Max = refl
+
+plain_refusal : (why : Refusal) → plain (refusal_word why) ≡ true
+plain_refusal refusals.BadSize = refl
+plain_refusal refusals.NamesSpent = refl
+plain_refusal refusals.Unknown = refl
+plain_refusal refusals.Deleted = refl
+plain_refusal refusals.NotMapped = refl
+plain_refusal refusals.SectionOpen = refl
+plain_refusal refusals.NotReading = refl
+plain_refusal refusals.NotWriting = refl
+plain_refusal refusals.InSection = refl
+plain_refusal refusals.OutOfRange = refl
+plain_refusal refusals.WrongSize = refl
+plain_refusal refusals.TooMany = refl
+plain_refusal refusals.Mixed = refl
+
+plain_place : (place : Place) → FitsPlace place → plain (place_text place) ≡ true
+plain_place (places.Region name) fits = plain_name name fits
+plain_place (places.Round round) fits = plain_decimal round (omega arith)
+
+plain_part : (part : Part) → FitsPart part → all_plain (part_words part) ≡ true
+plain_part parts.Barrier fits = refl
+plain_part (parts.Send bytes) fits = both (plain (encode_lower bytes)) true (plain_hex bytes fits) refl
+plain_part parts.Receive fits = refl
+plain_part (parts.Sum value) fits = both (plain (signed_decimal value)) true (plain_signed64 value fits) refl
+plain_part (parts.Min value) fits = both (plain (signed_decimal value)) true (plain_signed64 value fits) refl
+plain_part (parts.Max value) fits = both (plain (signed_decimal value)) true (plain_signed64 value fits) refl
+
+plain_fold : (round : ℕ) (fold : Fold) → round < 2 ^ 64 → FitsFold fold → all_plain (fold_words round fold) ≡ true
+plain_fold round folds.Barrier lt fits = both (plain (decimal round)) true (plain_decimal round (omega arith)) refl
+plain_fold round (folds.Broadcast bytes) lt fits = both (plain (decimal round)) (plain (encode_lower bytes) && true) (plain_decimal round (omega arith)) (both (plain (encode_lower bytes)) true (plain_hex bytes fits) refl)
+plain_fold round (folds.Sum value) lt fits = both (plain (decimal round)) (plain (signed_decimal value) && true) (plain_decimal round (omega arith)) (both (plain (signed_decimal value)) true (plain_signed128 value fits) refl)
+plain_fold round (folds.Min value) lt fits = both (plain (decimal round)) (plain (signed_decimal value) && true) (plain_decimal round (omega arith)) (both (plain (signed_decimal value)) true (plain_signed64 value fits) refl)
+plain_fold round (folds.Max value) lt fits = both (plain (decimal round)) (plain (signed_decimal value) && true) (plain_decimal round (omega arith)) (both (plain (signed_decimal value)) true (plain_signed64 value fits) refl)
+plain_fold round folds.Mixed lt fits = both (plain (decimal round)) true (plain_decimal round (omega arith)) refl
+
+name_plain : (name : Name) → FitsName name → all_plain (name_text name ∷ []) ≡ true
+name_plain name fits = both (plain (name_text name)) true (plain_name name fits) refl
+
+plain_what : (what : What) → FitsWhat what → all_plain (what_words what) ≡ true
+plain_what (whats.Create name size) fits = both (plain (name_text name)) (plain (decimal size) && true) (plain_name name fits.0) (both (plain (decimal size)) true (plain_decimal size (omega (arith, fits.1))) refl)
+plain_what (whats.Map name size) fits = both (plain (name_text name)) (plain (decimal size) && true) (plain_name name fits.0) (both (plain (decimal size)) true (plain_decimal size (omega (arith, fits.1))) refl)
+plain_what (whats.Unmap name) fits = name_plain name fits
+plain_what (whats.StartRead name) fits = name_plain name fits
+plain_what (whats.Read name seen) fits = both (plain (name_text name)) (plain (encode_lower seen) && true) (plain_name name fits.0) (both (plain (encode_lower seen)) true (plain_hex seen fits.1) refl)
+plain_what (whats.StartWrite name) fits = name_plain name fits
+plain_what (whats.Write name before after) fits = both (plain (name_text name)) (plain (encode_lower before) && (plain (encode_lower after) && true)) (plain_name name fits.0) (both (plain (encode_lower before)) (plain (encode_lower after) && true) (plain_hex before fits.1) (both (plain (encode_lower after)) true (plain_hex after fits.2) refl))
+plain_what (whats.Flush name) fits = name_plain name fits
+plain_what (whats.Deleting name) fits = name_plain name fits
+plain_what (whats.Deleted name) fits = name_plain name fits
+plain_what (whats.Come part) fits = plain_part part fits
+plain_what (whats.Came round fold) fits = plain_fold round fold fits.0 fits.1
+plain_what (whats.Refused kind place why) fits =
+    both (plain (call_word kind)) (plain (place_text place) && (plain (refusal_word why) && true)) (plain_kind kind)
+    (both (plain (place_text place)) (plain (refusal_word why) && true) (plain_place place fits) (both (plain (refusal_word why)) true (plain_refusal why) refl))
+
+-- ---- a line
 
 -- the words of a line: the first, and those behind
 abbrev pub first_word : Line → List ℕ
@@ -62,62 +144,9 @@ others_plain (lines.Counts events messages) fits =
     both (plain (decimal events)) (plain (decimal messages) && true) (plain_decimal events (omega (arith, fits.0)))
     (both (plain (decimal messages)) true (plain_decimal messages (omega (arith, fits.1))) refl)
 
--- ---- the guess
+-- ---- the spaces of a line part its words
 
--- a number is none of the words that begin other lines
-other_word : (word : List ℕ) (c : ℕ) (cs : List ℕ) → get_or word 0 0 ≢ c → bytes_eq word (c ∷ cs) ≡ false
-other_word [] c cs apart = refl
-other_word (b ∷ bs) c cs apart = let e : eqb b c ≡ false = ne_eqb b c apart in rw e refl
-
--- nor is a name
-other_front : (word rest : List ℕ) (c : ℕ) (cs : List ℕ) → 0 < get_or word 0 0 → get_or word 0 0 ≢ c → bytes_eq (word ++ rest) (c ∷ cs) ≡ false
-other_front [] rest c cs some apart = absurd (omega arith)
-other_front (b ∷ bs) rest c cs some apart = let e : eqb b c ≡ false = ne_eqb b c apart in rw e refl
-
-name_is_no_word : (name : Name) → FitsName name → bytes_eq (name_text name) (codes "round") ≡ false
-name_is_no_word name fits =
-    let digit = first_digit name.home (omega (arith, fits.0)) in
-    ap (λ (w : List ℕ). bytes_eq w (codes "round")) (append_assoc (decimal name.home) (codes ":") (decimal name.serial))
-    ∙ other_front (decimal name.home) (codes ":" ++ decimal name.serial) 114 (codes "ound") (omega arith) (omega arith)
-
-bind_more : {A B C : Type 0} (o : Option A) (f : A → Option B) (g : B → Option C) (y : B) → (o >>= f) ≡ Some y → (o >>= λ x. f x >>= g) ≡ g y
-bind_more None f g y e = absurd cc
-bind_more (Some x) f g y e = rw e refl
-
-entry_says : (first : List ℕ) (words : List (List ℕ)) (node : ℕ) (what : What) → number_of (2 ^ 16) first ≡ Some node → says words ≡ Some what
-    → entry_by first words ≡ Some (lines.Entry (record { node = node; what = what }))
-unfolding entry_by says
-entry_says first [] node what is_node is_what = absurd cc
-entry_says first (word ∷ words) node what is_node is_what =
-    rw is_node (bind_more (verb_of word) (λ verb. what_by verb words) (λ w. Some (lines.Entry (record { node = node; what = w }))) what is_what)
-
-guess_again : (line : Line) → IsPrintableLine line → FitsLine line → line_by (first_word line ∷ other_words line) ≡ Some line
-unfolding line_by region_by name_and_bytes stuck_by stuck_at stuck_round_by stuck_section_by counts_by
-guess_again (lines.Entry entry) prints fits =
-    let wide : entry.node < 10 ^ 64 = omega (arith, fits.0) in
-    let digit = first_digit entry.node wide in
-    let word = decimal entry.node in
-    let region : bytes_eq (decimal entry.node) (codes "region") ≡ false = other_word (decimal entry.node) 114 (codes "egion") (omega arith) in
-    let stuck : bytes_eq (decimal entry.node) (codes "stuck") ≡ false = other_word (decimal entry.node) 115 (codes "tuck") (omega arith) in
-    let events : bytes_eq (decimal entry.node) (codes "events") ≡ false = other_word (decimal entry.node) 101 (codes "vents") (omega arith) in
-    rw (region, stuck, events) (entry_says (decimal entry.node) (what_words entry.what) entry.node entry.what (number_again (2 ^ 16) entry.node fits.0 wide) (what_again entry.what prints fits.1))
-guess_again (lines.Region name bytes) prints fits = rw (name_again name fits.0, bytes_again bytes fits.1) refl
-guess_again (lines.StuckSection node name holder) prints fits =
-    let word : bytes_eq (name_text name) (codes "round") ≡ false = name_is_no_word name fits.1 in
-    rw (number_again (2 ^ 16) node fits.0 (omega (arith, fits.0)), word, name_again name fits.1, number_again (2 ^ 16) holder fits.2 (omega (arith, fits.2))) refl
-guess_again (lines.StuckRound node round absent) prints fits =
-    rw (number_again (2 ^ 16) node fits.0 (omega (arith, fits.0)), number_again (2 ^ 64) round fits.1 (omega (arith, fits.1)), number_again (2 ^ 16) absent fits.2 (omega (arith, fits.2))) refl
-guess_again (lines.Counts events messages) prints fits =
-    rw (number_again (2 ^ 64) events fits.0 (omega (arith, fits.0)), number_again (2 ^ 64) messages fits.1 (omega (arith, fits.1))) refl
-
-pub line_again : (line : Line) (bytes : List ℕ) → IsLine line bytes → line_of bytes ≡ Some line
-unfolding line_of
-line_again line bytes is =
+pub line_parts : (line : Line) (bytes : List ℕ) → IsLine line bytes → texts.parts 32 bytes ≡ first_word line ∷ other_words line
+line_parts line bytes is =
     let words : bytes ≡ first_word line ++ spaced (other_words line) = append_cancel_right bytes (first_word line ++ spaced (other_words line)) (codes "\n") (is.text ∙ text_is line) in
-    ap (λ (b : List ℕ). line_by (reading.parts 32 b)) words
-    ∙ ap line_by (parts_spaced (first_word line) (other_words line) (first_plain line is.fits) (others_plain line is.fits))
-    ∙ guess_again line is.printable is.fits
-
--- no bytes are two lines
-pub line_unique : (a b : Line) (bytes : List ℕ) → IsLine a bytes → IsLine b bytes → a ≡ b
-line_unique a b bytes is_a is_b = same_Some a b (sym (line_again a bytes is_a) ∙ line_again b bytes is_b)
+    ap (texts.parts 32) words ∙ parts_spaced (first_word line) (other_words line) (first_plain line is.fits) (others_plain line is.fits)

@@ -1,5 +1,5 @@
 -- The words that are written have no space and no line feed, so the spaces between them part them again.
-use Rattle.std.proofs.Common.{◌≡◌, ℕ, zero, suc, ◌+◌, ◌/◌, ◌%◌, ◌^◌, ◌<◌, ◌≤◌, Bool, true, false, cond, eqb, ltb, ◌&&◌, List, [], ◌∷◌, ◌++◌, length, get_or, refl, ap, ◌∙◌, arith, ℤ, pos, negsuc, eq-eqb}
+use Rattle.std.proofs.Common.{◌≡◌, ℕ, zero, suc, ◌+◌, ◌/◌, ◌%◌, ◌^◌, ◌<◌, ◌≤◌, Bool, true, false, cond, eqb, ltb, ◌&&◌, List, [], ◌∷◌, ◌++◌, length, get_or, refl, ap, ◌∙◌, arith, ℤ, pos, negsuc, eq-eqb, append_assoc}
 use Rattle.std.specs.Prelude.{decimal, codes, FitsSigned}
 use Rattle.std.specs.Fmt.{signed_decimal}
 use Rattle.std.specs.Int.{w64, w128}
@@ -11,7 +11,7 @@ use Rattle.std.proofs.lemmas.List.{append-nil}
 use Rattle.hex.specs.Hex.{IsBytes, encode_lower, encode_with, lower_digits}
 use Rattle.crl_model.specs.declared.name.Name.{Name}
 use Rattle.crl_account.specs.Text.{name_text, spaced}
-use Rattle.crl_account.specs.Reading.{parts}
+use Rattle.crl_account.specs.Parts.{parts}
 use Rattle.crl_account.specs.Account.{FitsName}
 
 -- each byte is above the space
@@ -69,7 +69,7 @@ plain_decimal n wide = decimal_by_steps_wide (λ m ds. plain ds ≡ true) one mo
   more m ds large front = plain-append ds ((48 + m % 10) ∷ []) front (digit (m % 10) (omega arith))
 
 -- digits have no colon
-pub decimal_avoids : (n : ℕ) → n < 10 ^ 64 → avoids 58 (decimal n) ≡ true
+decimal_avoids : (n : ℕ) → n < 10 ^ 64 → avoids 58 (decimal n) ≡ true
 decimal_avoids n wide = decimal_by_steps_wide (λ m ds. avoids 58 ds ≡ true) one more n wide where
   digit : (d : ℕ) → d < 10 → avoids 58 ((48 + d) ∷ []) ≡ true
   digit d small = let e : eqb (48 + d) 58 ≡ false = ne_eqb (48 + d) 58 (omega arith) in rw e refl
@@ -121,13 +121,20 @@ parts_word byte (b ∷ bs) rest p = go (eqb b byte) (parts_word byte bs rest) p 
   go true more p = absurd cc
   go false more p = rw (more p) refl
 
-pub parts_one : (byte : ℕ) (word : List ℕ) → avoids byte word ≡ true → parts byte word ≡ word ∷ []
+parts_one : (byte : ℕ) (word : List ℕ) → avoids byte word ≡ true → parts byte word ≡ word ∷ []
 parts_one byte [] p = refl
 parts_one byte (b ∷ bs) p = go (eqb b byte) (parts_one byte bs) p where
   go : (test : Bool) → (avoids byte bs ≡ true → parts byte bs ≡ bs ∷ []) → cond test false (avoids byte bs) ≡ true
       → cond test ([] ∷ parts byte bs) (onto_first b (parts byte bs)) ≡ (b ∷ bs) ∷ []
   go true more p = absurd cc
   go false more p = rw (more p) refl
+
+-- the numbers of a name
+pub name_parts : (name : Name) → FitsName name → parts 58 (name_text name) ≡ decimal name.home ∷ decimal name.serial ∷ []
+name_parts name fits =
+    ap (parts 58) (append_assoc (decimal name.home) (codes ":") (decimal name.serial))
+    ∙ parts_word 58 (decimal name.home) (decimal name.serial) (decimal_avoids name.home (omega (arith, fits.0)))
+    ∙ ap (λ (ps : List (List ℕ)). decimal name.home ∷ ps) (parts_one 58 (decimal name.serial) (decimal_avoids name.serial (omega (arith, fits.1))))
 
 -- the words of a line
 pub parts_spaced : (first : List ℕ) (words : List (List ℕ)) → plain first ≡ true → all_plain words ≡ true → parts 32 (first ++ spaced words) ≡ first ∷ words

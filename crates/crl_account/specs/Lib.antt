@@ -1,9 +1,4 @@
 pub mod Text
-pub mod Words
-pub mod Reading
-pub mod Guess
+pub mod Parts
 pub mod Account
-pub mod Step
-pub mod Unread
-pub mod Reader
 pub mod Reports

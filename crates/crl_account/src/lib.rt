@@ -1,22 +1,16 @@
 //! The text of accounts: what nodes did, one line an entry. `specs/Text.antt` says what is written, and
-//! `specs/Account.antt` what is read: the lines that would be written, and nothing else.
+//! `specs/Account.antt` what an account is: the lines that would be written, and nothing else.
 #![tactic(auto)]
 
-mod fault;
-mod field;
 mod fit;
-mod guess;
 mod line;
 mod piece;
-mod read;
-mod reader;
 mod report;
 mod sound;
 mod words;
 mod write;
 
-pub use fault::AccountFault;
-pub use reader::{Reader, read_account};
+pub use line::{Line, Stage, is_line, stage_of};
 pub use report::print_report;
 pub use sound::is_printable;
 pub use words::{call_word, refusal_word};

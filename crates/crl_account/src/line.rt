@@ -1,16 +1,18 @@
-//! The lines of an account.
-ghost use Rattle.std.specs.Prelude.{◌≡◌};
+//! The lines of an account, and whether a text is one of them.
+ghost use Rattle.std.specs.Prelude.{◌≡◌, ◌++◌, ◌↔◌, codes, IsTrue, IfOk, OnOk};
 ghost use Rattle.crl_account.specs.Account as account;
-ghost use Rattle.crl_account.specs.Step as step;
+ghost use Rattle.crl_account.specs.Account.{line_text, IsLine};
 
-use crl_model::NodeNo;
+use crate::sound::is_line_printable;
+use crate::write::{push_counts, push_entry, push_region, push_stuck_round, push_stuck_section};
 use crl_model::bytes::Bytes;
 use crl_model::entry::Entry;
 use crl_model::name::Name;
+use crl_model::{NodeNo, OutOfMemory};
 
 /// A line of an account.
 #[derive(Debug, Drop)]
-pub(crate) enum Line {
+pub enum Line {
     /// What a node did, or was told.
     Entry(Entry),
     /// What a region has at the end.
@@ -37,9 +39,9 @@ pub(crate) enum Line {
     },
 }
 
-/// Where a line stands in an account.
+/// Where a line stands in an account: the kinds of lines come in this order.
 #[derive(Clone, Copy, Debug, PartialEq, Eq)]
-pub(crate) enum Stage {
+pub enum Stage {
     Entries,
     Regions,
     Stuck,
@@ -47,7 +49,7 @@ pub(crate) enum Stage {
 }
 
 /// Where the line stands.
-pub(crate) fn stage_of(line: &Line) -> Stage
+pub fn stage_of(line: &Line) -> Stage
     ensures { result ≡ account.stage_of line.now }
 {
     match line {
@@ -58,16 +60,46 @@ pub(crate) fn stage_of(line: &Line) -> Stage
     }
 }
 
-/// Whether a line of the stage `next` may stand behind the lines up to the stage `last`.
-pub(crate) fn follows(next: Stage, last: Stage) -> bool
-    ensures { result ≡ step.follows next last }
+/// The text of the line.
+fn push_line(line: &Line, out: &mut Vec<u8>) -> Result<(), OutOfMemory>
+    ensures { OnOk result (out.new.items ≡ out.old.items ++ line_text line.now) }
 {
-    match next {
-        Stage::Entries => matches!(last, Stage::Entries),
-        Stage::Regions => matches!(last, Stage::Entries | Stage::Regions),
-        Stage::Stuck | Stage::Counts => matches!(
-            last,
-            Stage::Entries | Stage::Regions | Stage::Stuck
-        ),
+    match line {
+        Line::Entry(entry) => push_entry(entry, out),
+        Line::Region { name, bytes } => push_region(*name, bytes.as_slice(), out),
+        Line::StuckSection { node, name, holder } => {
+            push_stuck_section(*node, *name, *holder, out)
+        }
+        Line::StuckRound {
+            node,
+            round,
+            absent,
+        } => push_stuck_round(*node, *round, *absent, out),
+        Line::Counts { events, messages } => push_counts(*events, *messages, out),
     }
+}
+
+/// Whether the text and a line feed are what was written.
+fn is_ended(text: &[u8], written: &[u8]) -> bool
+    ensures { IsTrue result ↔ (text.now ++ codes "\n" ≡ written.now) }
+{
+    match written.split_last() {
+        Some((last, front)) => *last == b'\n' && front == text,
+        None => false,
+    }
+}
+
+/// Whether the text, which lacks its line feed, is just what is written for this line, and the line can be read again
+/// from it. The line is written to `scratch`, in the place of what is there.
+///
+/// # Errors
+///
+/// `OutOfMemory`.
+pub fn is_line(line: &Line, text: &[u8], scratch: &mut Vec<u8>) -> Result<bool, OutOfMemory>
+    ensures { IfOk result (λ is. IsTrue is ↔ IsLine line.now text.now) }
+{
+    let printable = is_line_printable(line);
+    scratch.clear();
+    push_line(line, scratch)?;
+    Ok(printable && is_ended(text, scratch.as_slice()))
 }

@@ -3,11 +3,11 @@ use Rattle.std.proofs.Common.{◌≡◌, ℕ, ◌≤◌, List, length, Ok, Err, 
 use Rattle.std.specs.Prelude.{Result, OnOk}
 use Rattle.crl_model.specs.declared.entry.Entry.{Entry}
 use Rattle.crl_machine.specs.SingleMachine.{State}
-use Rattle.crl_account.specs.declared.fault.AccountFault.{AccountFault}
-use Rattle.crl_account.specs.declared.fault.AccountFault.TheVariants as account_faults
 use Rattle.crl_account.specs.Account.{lines_of, IsAccount, IsFirstBad}
-use Rattle.crl_account.specs.Unread.{Unread}
-use Rattle.crl_account.specs.Reader.{HasGiven, IsWhole, Gave}
+use Rattle.crl_account_reader.specs.declared.fault.AccountFault.{AccountFault}
+use Rattle.crl_account_reader.specs.declared.fault.AccountFault.TheVariants as account_faults
+use Rattle.crl_account_reader.specs.Unread.{Unread}
+use Rattle.crl_account_reader.specs.Reader.{HasGiven, IsWhole, Gave}
 use Rattle.crl_check.specs.declared.fault.CheckFault.{CheckFault}
 use Rattle.crl_check.specs.declared.fault.CheckFault.TheVariants as faults
 use Rattle.crl_check.specs.declared.judge.Judge.{Judge}

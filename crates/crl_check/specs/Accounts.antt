@@ -2,7 +2,7 @@
 use Rattle.std.specs.Prelude.{ℕ, ◌<◌, List, length, Result, Ok, Err}
 use Rattle.crl_model.specs.declared.entry.Entry.{Entry}
 use Rattle.crl_machine.specs.SingleMachine.{State, IsHistory}
-use Rattle.crl_account.specs.Reader.{IsWhole, IsBroken}
+use Rattle.crl_account_reader.specs.Reader.{IsWhole, IsBroken}
 use Rattle.crl_check.specs.declared.fault.CheckFault.{CheckFault}
 use Rattle.crl_check.specs.declared.fault.CheckFault.TheVariants as faults
 use Rattle.crl_check.specs.Histories.{IsFirstIllegal}

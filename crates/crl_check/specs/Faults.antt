@@ -1,6 +1,6 @@
 -- A fault of reading as one of judging.
-use Rattle.crl_account.specs.declared.fault.AccountFault.{AccountFault}
-use Rattle.crl_account.specs.declared.fault.AccountFault.TheVariants as account_faults
+use Rattle.crl_account_reader.specs.declared.fault.AccountFault.{AccountFault}
+use Rattle.crl_account_reader.specs.declared.fault.AccountFault.TheVariants as account_faults
 use Rattle.crl_check.specs.declared.fault.CheckFault.{CheckFault}
 use Rattle.crl_check.specs.declared.fault.CheckFault.TheVariants as faults
 

@@ -1,7 +1,7 @@
 //! Why a history isn't taken.
 ghost use Rattle.std.specs.Prelude.{◌≡◌};
 
-use crl_account::AccountFault;
+use crl_account_reader::AccountFault;
 use crl_model::OutOfMemory;
 use thiserror::Error;
 

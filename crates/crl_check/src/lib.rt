@@ -14,7 +14,7 @@ mod fault;
 mod judge;
 
 use crate::judge::Judge;
-use crl_account::Reader;
+use crl_account_reader::Reader;
 use crl_model::entry::Entry;
 use crl_model::{NODE_LIMIT, NodeNo};
 pub use fault::CheckFault;

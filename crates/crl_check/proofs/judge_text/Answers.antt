@@ -2,7 +2,7 @@ use Rattle.std.proofs.Common.{◌≡◌, ◌≤◌, ◌+◌, ◌++◌, ◌∷◌
 use Rattle.std.proofs.lemmas.Result.{err_from_is_err_and}
 use Rattle.crl_machine.specs.Seen.{state}
 use Rattle.crl_machine.specs.SingleMachine.{start}
-use Rattle.crl_account.proofs.Laws.{given_fits}
+use Rattle.crl_account_reader.proofs.Laws.{given_fits}
 use Rattle.crl_check.proofs.Prefixes.{found_within}
 use Rattle.crl_check.proofs.Texts.{says_fault, says_whole}
 use Rattle.crl_check.proofs.judge_text.Goals as goal

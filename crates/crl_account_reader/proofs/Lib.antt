@@ -1,0 +1,7 @@
+mod Parts
+mod Digits
+mod Again
+mod Lines
+mod Stages
+mod Readers
+pub mod Laws
