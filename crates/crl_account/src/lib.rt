@@ -2,6 +2,7 @@
 //! `specs/Account.antt` what an account is: the lines that would be written, and nothing else.
 #![tactic(auto)]
 
+mod entry;
 mod fit;
 mod line;
 mod piece;

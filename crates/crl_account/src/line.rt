@@ -3,8 +3,9 @@ ghost use Rattle.std.specs.Prelude.{◌≡◌, ◌++◌, ◌↔◌, codes, IsTru
 ghost use Rattle.crl_account.specs.Account as account;
 ghost use Rattle.crl_account.specs.Account.{line_text, IsLine};
 
+use crate::entry::push_entry;
 use crate::sound::is_line_printable;
-use crate::write::{push_counts, push_entry, push_region, push_stuck_round, push_stuck_section};
+use crate::write::{push_counts, push_region, push_stuck_round, push_stuck_section};
 use crl_model::bytes::Bytes;
 use crl_model::entry::Entry;
 use crl_model::name::Name;
