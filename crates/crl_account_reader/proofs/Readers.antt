@@ -3,11 +3,11 @@ use Rattle.std.proofs.Common.{◌≡◌, ℕ, ◌+◌, ◌<◌, ◌≤◌, List,
 use Rattle.std.specs.Prelude.{option_to_list}
 use Rattle.std.proofs.lemmas.List.{nil_from_length, length-append, append-nil}
 use Rattle.crl_model.specs.declared.entry.Entry.{Entry}
-use Rattle.crl_account_reader.specs.declared.fault.AccountFault.{AccountFault}
-use Rattle.crl_account_reader.specs.declared.fault.AccountFault.TheVariants as faults
 use Rattle.crl_account.specs.declared.line.Stage.{Stage}
 use Rattle.crl_account.specs.declared.line.Stage.TheVariants as stages
 use Rattle.crl_account.specs.Account.{lines_of, stage_of, IsAccount, IsFirstBad}
+use Rattle.crl_account_reader.specs.declared.fault.AccountFault.{AccountFault}
+use Rattle.crl_account_reader.specs.declared.fault.AccountFault.TheVariants as faults
 use Rattle.crl_account_reader.specs.Step.{entries_in, Took, IsRefused}
 use Rattle.crl_account_reader.specs.Unread.{Unread}
 use Rattle.crl_account_reader.specs.Reader.{IsRead, HasGiven, IsWhole, IsBroken, Gave, GaveLine}

@@ -13,11 +13,11 @@ use Rattle.crl_model.specs.declared.entry.Place.{Place}
 use Rattle.crl_model.specs.declared.entry.Place.TheVariants as places
 use Rattle.crl_account.specs.declared.line.Line.{Line}
 use Rattle.crl_account.specs.declared.line.Line.TheVariants as lines
+use Rattle.crl_account.specs.Text.{is_of_round}
+use Rattle.crl_account.specs.Parts as texts
 use Rattle.crl_account_reader.specs.declared.words.Verb.{Verb}
 use Rattle.crl_account_reader.specs.declared.words.Verb.TheVariants as verbs
-use Rattle.crl_account.specs.Text.{is_of_round}
 use Rattle.crl_account_reader.specs.Words.{verb_of, kind_of, refusal_of}
-use Rattle.crl_account_reader.specs.Reading as reading
 use Rattle.crl_account_reader.specs.Reading.{◌>>=◌, nothing, only, two, three, number_of, value_of, name_of, bytes_of}
 
 -- one word or two or three that stand for these
@@ -175,4 +175,4 @@ line_by (word ∷ words) =
     else entry_by word words
 
 unfoldable pub line_of : List ℕ → Option Line
-line_of text = line_by (reading.parts 32 text)
+line_of text = line_by (texts.parts 32 text)

@@ -1,11 +1,11 @@
 -- Reading an account entry by entry: what a reader has before it, and what it has given.
 use Rattle.std.specs.Prelude.{◌≡◌, ℕ, ◌+◌, ◌≤◌, List, [], ◌∷◌, ◌++◌, length, Option, Some, None, Result, Ok, Err, option_to_list}
 use Rattle.crl_model.specs.declared.entry.Entry.{Entry}
-use Rattle.crl_account_reader.specs.declared.fault.AccountFault.{AccountFault}
-use Rattle.crl_account_reader.specs.declared.fault.AccountFault.TheVariants as faults
 use Rattle.crl_account.specs.declared.line.Stage.{Stage}
 use Rattle.crl_account.specs.declared.line.Stage.TheVariants as stages
 use Rattle.crl_account.specs.Account.{lines_of, IsAccount, AreRegions, AreStuck, IsFirstBad}
+use Rattle.crl_account_reader.specs.declared.fault.AccountFault.{AccountFault}
+use Rattle.crl_account_reader.specs.declared.fault.AccountFault.TheVariants as faults
 use Rattle.crl_account_reader.specs.Unread.{Unread}
 
 -- what may stand behind lines up to this stage, with these entries in it

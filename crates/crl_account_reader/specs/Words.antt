@@ -5,9 +5,9 @@ use Rattle.crl_model.specs.declared.call.CallKind.{CallKind}
 use Rattle.crl_model.specs.declared.call.CallKind.TheVariants as kinds
 use Rattle.crl_model.specs.declared.call.Refusal.{Refusal}
 use Rattle.crl_model.specs.declared.call.Refusal.TheVariants as refusals
+use Rattle.crl_account.specs.Text.{call_word, refusal_word}
 use Rattle.crl_account_reader.specs.declared.words.Verb.{Verb}
 use Rattle.crl_account_reader.specs.declared.words.Verb.TheVariants as verbs
-use Rattle.crl_account.specs.Text.{call_word, refusal_word}
 
 abbrev pub verb_word : Verb → List ℕ
 verb_word verbs.StartRead = codes "startread"
