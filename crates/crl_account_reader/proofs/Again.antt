@@ -1,7 +1,5 @@
--- What is written is guessed again: a field, what an entry says, and a line.
-use Rattle.std.proofs.Common.{◌≡◌, ℕ, ◌^◌, ◌<◌, true, ◌&&◌, List, [], ◌∷◌, ◌++◌, Option, Some, None, refl, ap, ◌∙◌, arith, append_assoc}
-use Rattle.std.specs.Prelude.{decimal, codes}
-use Rattle.std.specs.Fmt.{signed_decimal}
+-- What is written is guessed again: a field, and what an entry says.
+use Rattle.std.proofs.Common.{◌≡◌, ℕ, ◌^◌, ◌<◌, List, [], ◌∷◌, Option, Some, None, refl, arith}
 use Rattle.hex.specs.Hex.{IsBytes, encode_lower}
 use Rattle.hex.proofs.HexLemmas.{decode_of-encode_lower}
 use Rattle.crl_model.specs.declared.name.Name.{Name}
@@ -21,7 +19,7 @@ use Rattle.crl_account.specs.Text.{name_text, call_word, refusal_word, place_tex
 use Rattle.crl_account.specs.Account.{FitsName, FitsPlace, FitsPart, FitsFold, FitsWhat}
 use Rattle.crl_account.proofs.Laws.{name_parts}
 use Rattle.crl_account_reader.specs.Words.{verb_of, kind_of, refusal_of}
-use Rattle.crl_account_reader.specs.Reading.{◌>>=◌, number_of, value_of, name_of, bytes_of}
+use Rattle.crl_account_reader.specs.Reading.{◌>>=◌, name_of, bytes_of}
 use Rattle.crl_account_reader.specs.Guess.{only_name, only_bytes, only_value, name_and_size, name_and_bytes, name_and_two, part_by, part_of, fold_by, came_by, place_of, refused_of, what_by}
 use Rattle.crl_account_reader.proofs.Digits.{number_again, value_again64, value_again128}
 
