@@ -13,18 +13,28 @@ use crl_model::activity::Answer;
 use crl_model::bytes::Bytes;
 use crl_model::call::Call;
 use crl_model::choice::Choice;
-use crl_world::{EndFault, World};
+use crl_world::{CallFault, EndFault, World};
 use std::alloc::Global;
 
 /// More events than there are here.
-const LIMIT: u64 = 1_000_000;
+pub const LIMIT: u64 = 1_000_000;
 
-/// A new world of so many nodes.
-#[tactic(auto, using(crate::proofs::Reaching::reached_first))]
-pub fn new_world<N: Member>(alloc: Global, nodes: NodeNo) -> Option<World<N>>
+/// A new world of so many nodes, each with room for so many names in its cache. It is tried again where memory is wanting.
+pub fn new_world<N: Member>(alloc: Global, nodes: NodeNo, capacity: u16) -> Option<World<N>>
     ensures { IfSome result (λ w. IsReached (world_seen N.state w)) }
 {
-    match World::new(alloc, nodes, 16) {
+    match try_world(alloc, nodes, capacity) {
+        Some(world) => Some(world),
+        None => try_world(alloc, nodes, capacity),
+    }
+}
+
+/// The same, tried once.
+#[tactic(auto, using(crate::proofs::Reaching::reached_first))]
+fn try_world<N: Member>(alloc: Global, nodes: NodeNo, capacity: u16) -> Option<World<N>>
+    ensures { IfSome result (λ w. IsReached (world_seen N.state w)) }
+{
+    match World::new(alloc, nodes, capacity) {
         Ok(world) => Some(world),
         Err(_) => None,
     }
@@ -48,7 +58,6 @@ fn is_made(call: &Call) -> bool
 }
 
 /// The node makes the call, if it is free.
-#[tactic(auto, using(crate::proofs::Reaching::all_safe, crate::proofs::Reaching::call_reached, crate::proofs::Coming::made_enabled))]
 pub fn make<N: Member>(
     world: &mut World<N>,
     i: NodeNo,
@@ -57,10 +66,27 @@ pub fn make<N: Member>(
     requires { IsReached (world_seen N.state world.old) }
     ensures { IsReached (world_seen N.state world.new) }
 {
+    try_call(world, i, call).ok()
+}
+
+/// The same. The call is handed back where memory is wanting.
+#[tactic(auto, using(crate::proofs::Reaching::all_safe, crate::proofs::Reaching::call_reached, crate::proofs::Coming::made_enabled))]
+pub fn try_call<N: Member>(
+    world: &mut World<N>,
+    i: NodeNo,
+    call: Call,
+) -> Result<Answer<Reading, Writing>, Option<Call>>
+    requires { IsReached (world_seen N.state world.old) }
+    ensures { IsReached (world_seen N.state world.new) }
+{
     if i >= world.count() || world.events() > LIMIT || !world.is_free(i) || !is_made(&call) {
-        return None;
+        return Err(None);
     }
-    world.call(i, call).ok()
+    match world.call(i, call) {
+        Ok(answer) => Ok(answer),
+        Err(CallFault::OutOfMemory(back)) => Err(Some(back)),
+        Err(CallFault::Spent(_)) => Err(None),
+    }
 }
 
 /// The node takes the answer for which it waited, if it is there.
@@ -177,7 +203,7 @@ fn carry<N: Member>(world: &mut World<N>, i: NodeNo, place: usize) -> bool
 
 /// The first choice, if there is one.
 #[tactic(auto, using(crate::proofs::Reaching::choice_passes))]
-fn first_choice<N: Member>(world: &World<N>, left: &[bool]) -> Option<Choice>
+pub fn first_choice<N: Member>(world: &World<N>, left: &[bool]) -> Option<Choice>
     ensures { IfSome result (MayPass (world_seen N.state world.now)) }
 {
     if left.len() != world.count() as usize {
@@ -191,7 +217,7 @@ fn first_choice<N: Member>(world: &World<N>, left: &[bool]) -> Option<Choice>
 }
 
 /// The first message is handled or carried, if no node has an answer to take. Whether there was one.
-fn pass_one<N: Member>(world: &mut World<N>, left: &[bool]) -> bool
+pub fn pass_one<N: Member>(world: &mut World<N>, left: &[bool]) -> bool
     requires { IsReached (world_seen N.state world.old) }
     ensures { IsReached (world_seen N.state world.new) }
 {

@@ -3,8 +3,10 @@
 //! The accounts that they expect were worked out by hand, from the rules of the protocol.
 #![tactic(auto)]
 
+pub mod by_hand;
 pub mod driving;
 mod playing;
+pub mod watched;
 
 pub use playing::play;
 
@@ -18,5 +20,7 @@ mod lives;
 mod pieces;
 #[cfg(test)]
 mod readings;
+#[cfg(test)]
+mod refused;
 #[cfg(test)]
 mod scripts;

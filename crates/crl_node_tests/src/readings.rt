@@ -89,7 +89,7 @@ fn write<N: Member>(alloc: Global, world: &mut World<N>, name: Name, byte: u8) -
 fn mapped<N: Member>(alloc: Global, name: Name) -> Option<World<N>>
     ensures { IfSome result (λ w. IsReached (world_seen N.state w)) }
 {
-    let mut world = new_world::<N>(alloc, 2)?;
+    let mut world = new_world::<N>(alloc, 2, 16)?;
     spend(reading_of(make(&mut world, 0, Call::Create { size: 1 })));
     spend(reading_of(make(&mut world, 0, Call::Map { name })));
     spend(reading_of(wait_for(&mut world, 1, Call::Map { name }, &[false, false])));
