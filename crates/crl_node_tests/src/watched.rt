@@ -13,7 +13,7 @@ use crl_wire::Received;
 use std::alloc::Global;
 
 /// What a member shows of a region: its open sections, and of the bytes that it has as the home, and of an exclusive copy,
-/// the number and a sum.
+/// the number and the last eight, where they change here.
 #[derive(Clone, Copy, PartialEq)]
 struct ShownRegion {
     section: Section,
@@ -37,21 +37,21 @@ struct Shown {
     second: ShownRegion,
 }
 
-/// The number of the bytes, and a sum in which each byte's place counts.
-fn sum_of(bytes: Option<&[u8]>) -> (usize, u64) {
+/// The number of the bytes, and the last eight as a number, the highest first.
+fn end_of(bytes: Option<&[u8]>) -> (usize, u64) {
     let bytes = bytes.unwrap_or_default();
-    let mut sum: u64 = 0;
-    for byte in bytes {
-        sum = sum.wrapping_mul(31).wrapping_add(*byte as u64);
+    let mut end: u64 = 0;
+    for byte in &bytes[bytes.len().saturating_sub(8)..] {
+        end = end.wrapping_mul(256).wrapping_add(*byte as u64);
     }
-    (bytes.len(), sum)
+    (bytes.len(), end)
 }
 
 fn region_of<N: Member>(member: &N, name: Name) -> ShownRegion {
     ShownRegion {
         section: member.section(name),
-        home: sum_of(member.home_bytes(name)),
-        copy: sum_of(member.exclusive_bytes(name)),
+        home: end_of(member.home_bytes(name)),
+        copy: end_of(member.exclusive_bytes(name)),
     }
 }
 

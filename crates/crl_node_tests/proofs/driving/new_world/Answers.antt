@@ -1,6 +1,0 @@
-use Rattle.crl_world.specs.Seen.{world_seen}
-use Rattle.crl_node_tests.proofs.Reaching.{reached_first}
-use Rattle.crl_node_tests.proofs.driving.new_world.Goals as goal
-
-pub returns-in-Ok : goal.returns-in-Ok
-returns-in-Ok g c = reached_first c.args.nodes 16 (world_seen g.N.Member.state c.in-Ok.world) c.in-Ok.ensures
