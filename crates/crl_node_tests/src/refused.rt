@@ -11,7 +11,7 @@ use std::alloc::Global;
 use std::test::Fail;
 
 /// Every call and every message. The region `a` goes in two pieces. In turn: node 1 writes it; node 2 reads it, and is upgraded;
-/// the home reads it; node 1 writes it again, and drops it from its full cache; both regions are deleted.
+/// the home reads it; node 1 writes it again, and drops it from its full cache; `b` is deleted by node 2, and `a` by its home.
 const SCRIPT: &str = "\
 nodes 3
 cache 1
@@ -92,7 +92,7 @@ max 5
 receive
 ";
 
-/// What is told of it. Here `~` stands for 32,768 bytes of 0.
+/// What is told of it, as the second writing of the rules in `reference` has it too. Here `~` stands for 32,768 bytes of 0.
 const TOLD: &str = "\
 0 create 0:1 32776
 0 create 0:2 8
