@@ -68,6 +68,12 @@ pub record IsSpent (s : Shape) (old new : View) : Type 0 where
   pub grows : GrowsPast (held_by old) s old.front new.front
   pub view : new ≡ after_load new.front old
 
+-- The fault is what events of others brought, and not want of memory.
+abbrev pub IsByOthers : StepFault → Type 0
+IsByOthers OutOfMemory = ⊥
+IsByOthers (Moved saw found) = Unit {0}
+IsByOthers Spent = Unit {0}
+
 -- Why the event was not done, and what the pass has learnt.
 abbrev pub IsUndone : Shape → View → StepFault → View → Type 0
 IsUndone s old OutOfMemory new = new ≡ old

@@ -1,9 +1,9 @@
 //! An event takes the next position of the history.
-ghost use Rattle.std.specs.Prelude.{◌≡◌, ◌<◌, ℕ, MatchResult};
+ghost use Rattle.std.specs.Prelude.{◌≡◌, ◌<◌, ℕ, IfErr, MatchResult};
 ghost use Rattle.crl_turns.specs.Calls.{HasValue};
 ghost use Rattle.crl_cluster.specs.Standing.{MayCome, TouchesNode};
 ghost use Rattle.crl_cluster.specs.Clusters.{view_of, shape_of, node_count, IsOf};
-ghost use Rattle.crl_cluster.specs.Acting.{ComesAt, IsUndone};
+ghost use Rattle.crl_cluster.specs.Acting.{ComesAt, IsByOthers, IsUndone};
 ghost use Rattle.crl_cluster.specs.Faults.{fault_of};
 
 use crate::cluster::{Cluster, Pass};
@@ -54,6 +54,7 @@ impl<N: Member, T: Luggage> Cluster<N, T> {
         ensures told { MatchResult result
             (λ at. ComesAt at (shape_of self.now) (E.event event.now) (view_of pass.old) (view_of pass.new))
             (λ why. IsUndone (shape_of self.now) (view_of pass.old) why (view_of pass.new)) }
+        ensures by_others { IfErr result IsByOthers }
     {
         let mut left = MORE_TRIES;
         loop {

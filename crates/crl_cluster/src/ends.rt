@@ -1,5 +1,5 @@
 //! The ends of sections of a node that is held, each by its guard. They take no memory.
-ghost use Rattle.std.specs.Prelude.{◌≡◌, true, None, MatchResult};
+ghost use Rattle.std.specs.Prelude.{◌≡◌, true, None, IfErr, MatchResult};
 ghost use Rattle.crl_model.specs.declared.call.Call.TheVariants as call;
 ghost use Rattle.crl_model.specs.declared.event.Event.TheVariants as event;
 ghost use Rattle.crl_protocol.specs.Node.{Done};
@@ -7,7 +7,7 @@ ghost use Rattle.crl_protocol.specs.Verdict.{verdict};
 ghost use Rattle.crl_protocol.specs.World.{is_free};
 ghost use Rattle.crl_member.specs.Fitting as fitting;
 ghost use Rattle.crl_cluster.specs.Clusters.{view_of, shape_of, IsOf, IsHeld, IsSameHeld};
-ghost use Rattle.crl_cluster.specs.Acting.{IsDone, IsUndone};
+ghost use Rattle.crl_cluster.specs.Acting.{IsByOthers, IsDone, IsUndone};
 
 use crate::cluster::{Cluster, Pass};
 use crate::events::{EndingRead, EndingWrite};
@@ -41,6 +41,7 @@ impl<N: Member, T: Luggage> Cluster<N, T> {
             let new = view_of pass.new in
             let e = event.Call held.old.number (call.EndRead guard.name) in
             MatchResult result (λ _. IsDone s e old Done new) (λ fault. (fault.back ≡ guard) × IsUndone s old fault.why new) }
+        ensures no_memory { IfErr result (λ fault. IsByOthers fault.why) }
     {
         let event = EndingRead {
             node: held.number,
@@ -80,6 +81,7 @@ impl<N: Member, T: Luggage> Cluster<N, T> {
             let new = view_of pass.new in
             let e = event.Call held.old.number (call.EndWrite guard.name guard.bytes) in
             MatchResult result (λ _. IsDone s e old Done new) (λ fault. (fault.back ≡ guard) × IsUndone s old fault.why new) }
+        ensures no_memory { IfErr result (λ fault. IsByOthers fault.why) }
     {
         let event = EndingWrite {
             node: held.number,

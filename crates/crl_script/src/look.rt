@@ -1,12 +1,12 @@
 //! A first look at a text, for the labels that it creates.
 ghost use Rattle.std.specs.Prelude.{◌+◌, ◌<◌, ◌≤◌, ◌^◌, length};
 
-use crate::fault::{LineFault, ScriptWhy};
-use crate::label::{Labels, give};
+use crate::fault::ScriptWhy;
+use crate::label::Labels;
 use crate::line::{next_line, next_word};
 use crate::word::number;
 use crl_model::name::Name;
-use crl_model::{NODE_LIMIT, NodeNo};
+use crl_model::{NODE_LIMIT, NodeNo, OutOfMemory};
 use std::alloc::Global;
 use std::collections::BTreeMap;
 
@@ -22,7 +22,7 @@ struct Look<'a> {
 
 impl<'a> Look<'a> {
     /// Looks at a line, and passes over all but `node I` and `create L SIZE`.
-    fn line(&mut self, line: &'a [u8]) -> Result<(), LineFault>
+    fn line(&mut self, line: &'a [u8]) -> Result<(), OutOfMemory>
         requires { self.old.made + 1 < 2 ^ 32 }
         ensures { self.new.made ≤ self.old.made + 1 }
     {
@@ -34,7 +34,10 @@ impl<'a> Look<'a> {
         };
         if word == b"create".as_slice() {
             self.made += 1;
-            give(&mut self.labels, next, Name::new(self.node, self.made))?;
+            let name = Name::new(self.node, self.made);
+            let Ok(_) = self.labels.insert(next, name) else {
+                return Err(OutOfMemory);
+            };
         } else if word == b"node".as_slice() {
             self.made = 0;
             if let Ok(node) = number(next, NODE_LIMIT as u64, ScriptWhy::BadNumber) {
@@ -46,7 +49,7 @@ impl<'a> Look<'a> {
 }
 
 /// The labels that a text without faults creates, with their names. Of another text it is a guess.
-pub fn first_labels(alloc: Global, text: &[u8]) -> Result<Labels<'_>, LineFault>
+pub fn first_labels(alloc: Global, text: &[u8]) -> Result<Labels<'_>, OutOfMemory>
     requires { length text.now < 2 ^ 32 }
 {
     let mut look = Look {

@@ -51,10 +51,7 @@ fn read_at_once(alloc: Global, text: &[u8]) -> Result<Option<Reading<'_>>, OutOf
     ensures blocks { IfOk result (λ found. IfSome found (λ r. vec_len r.blocks ≤ 64)) }
     ensures statements { IfOk result (λ found. IfSome found (λ r. AllStatements (map (λ b. b.items) r.blocks.items))) }
 {
-    let Ok(labels) = first_labels(alloc, text) else {
-        return Err(OutOfMemory);
-    };
-    let known = Some(labels);
+    let known = Some(first_labels(alloc, text)?);
     match read_with(alloc, &known, text) {
         Ok(reading) if are_known(&known, &reading.labels) => Ok(Some(reading)),
         Err(ScriptFault::OutOfMemory) => Err(OutOfMemory),
