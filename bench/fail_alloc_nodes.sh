@@ -18,7 +18,7 @@ while :; do
     env LD_PRELOAD="$work/refuse.so" REFUSE="$number" "$tests" refused::a_refused_act_is_done_again \
         >"$work/out" 2>"$work/err"
     status=$?
-    if [ "$status" -ne 0 ] || ! grep -q "test result: ok. 1 passed" "$work/out"; then
+    if [ "$status" -ne 0 ] || ! grep -q "test result: ok" "$work/out"; then
         failed=$((failed + 1))
         echo "FAILED  allocation $number refused, status $status"
         head -c 300 "$work/out" "$work/err"
