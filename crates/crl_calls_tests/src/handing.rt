@@ -1,4 +1,4 @@
-//! A region goes to and fro between callers: each adds one to its first byte when it is its turn.
+//! A region goes to and fro between callers: each adds one to its first byte when it is its turn. One writes it and reads it.
 ghost use Rattle.crl_calls.specs.Callers.{IsCallerOf};
 
 use crate::callers::Nodes;
@@ -78,41 +78,50 @@ pub fn hand<R: Wait>(
     rgn_unmap(rt, nodes, who, name)
 }
 
-/// The first byte of a read section, which is ended.
-fn read_first<R: Wait>(rt: &R, nodes: &Nodes, who: &mut Caller, name: Name) -> Result<u8, CallFault>
+/// The caller writes the region once: its first byte.
+///
+/// # Errors
+///
+/// The first fault of a call.
+pub fn write_first<R: Wait>(
+    rt: &R,
+    nodes: &Nodes,
+    who: &mut Caller,
+    name: Name,
+    byte: u8,
+) -> Result<(), CallFault>
+    requires caller { IsCallerOf nodes.now who.old }
+    ensures caller { IsCallerOf nodes.now who.new }
+{
+    let mut guard = rgn_start_write(rt, nodes, who, name)?;
+    if let Some(first) = guard.bytes_mut().first_mut() {
+        *first = byte;
+    }
+    ended(rgn_end_write(rt, nodes, who, guard))
+}
+
+/// Whether a read section of the region, which is mapped, shows these bytes.
+///
+/// # Errors
+///
+/// The first fault of a call.
+pub fn shows<R: Wait>(
+    rt: &R,
+    nodes: &Nodes,
+    who: &mut Caller,
+    name: Name,
+    bytes: &[u8],
+) -> Result<bool, CallFault>
     requires caller { IsCallerOf nodes.now who.old }
     ensures caller { IsCallerOf nodes.now who.new }
 {
     let guard = rgn_start_read(rt, nodes, who, name)?;
-    let first = match guard.bytes().first() {
-        Some(first) => *first,
-        None => 0,
-    };
+    let same = guard.bytes() == bytes;
     match rgn_end_read(rt, nodes, who, guard) {
-        Ok(()) => Ok(first),
+        Ok(()) => Ok(same),
         Err(EndFault { guard, why: _ }) => {
             guard.discard();
             Err(CallFault::Spent)
         }
     }
-}
-
-/// The first byte of the region, which the caller maps for it.
-///
-/// # Errors
-///
-/// The first fault of a call.
-pub fn first_byte<R: Wait>(
-    rt: &R,
-    nodes: &Nodes,
-    who: &mut Caller,
-    name: Name,
-) -> Result<u8, CallFault>
-    requires caller { IsCallerOf nodes.now who.old }
-    ensures caller { IsCallerOf nodes.now who.new }
-{
-    rgn_map(rt, nodes, who, name)?;
-    let first = read_first(rt, nodes, who, name)?;
-    rgn_unmap(rt, nodes, who, name)?;
-    Ok(first)
 }

@@ -5,7 +5,7 @@ ghost use Rattle.crl_calls_tests.specs.Callers.{AreCallersOf};
 
 use crate::beside::{begin, collected};
 use crate::callers::{Nodes, last_of, nodes_with};
-use crate::handing::{first_byte, hand};
+use crate::handing::{hand, shows, write_first};
 use crate::meeting::{Heard, meet};
 use crl_calls::{
     CallFault, Caller, rgn_barrier, rgn_bcast_recv, rgn_bcast_send, rgn_create, rgn_delete,
@@ -58,7 +58,23 @@ fn a_region_goes_to_and_fro(rt: HostRuntime) -> Result<(), Fail> {
     let name = rgn_create(&rt, &nodes, &mut home, 1)?;
     let both = hand_both(&rt, &nodes, one, other, name, 100);
     assert!(rt; both == (true, true));
-    assert!(rt; first_byte(&rt, &nodes, &mut home, name) == Ok(200));
+    rgn_map(&rt, &nodes, &mut home, name)?;
+    assert!(rt; shows(&rt, &nodes, &mut home, name, &[200]) == Ok(true));
+    Ok(())
+}
+
+#[test]
+fn one_reads_what_it_wrote(rt: HostRuntime) -> Result<(), Fail> {
+    let (nodes, mut list) = nodes_with(rt.alloc(), 1)?;
+    let mut who = last_of(&nodes, &mut list).expect(&rt, "a caller");
+    let name = rgn_create(&rt, &nodes, &mut who, 4)?;
+    assert!(rt; name == Name::new(0, 1));
+    rgn_map(&rt, &nodes, &mut who, name)?;
+    assert!(rt; shows(&rt, &nodes, &mut who, name, &[0, 0, 0, 0]) == Ok(true));
+    write_first(&rt, &nodes, &mut who, name, 42)?;
+    assert!(rt; shows(&rt, &nodes, &mut who, name, &[42, 0, 0, 0]) == Ok(true));
+    rgn_flush(&rt, &nodes, &mut who, name)?;
+    assert!(rt; shows(&rt, &nodes, &mut who, name, &[42, 0, 0, 0]) == Ok(true));
     Ok(())
 }
 
