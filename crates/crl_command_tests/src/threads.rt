@@ -53,12 +53,14 @@ fn entries_in(account: &str) -> usize {
 #[test]
 fn threads_share_a_counter(rt: HostRuntime) -> Result<(), OutOfMemory> {
     let script = counter_script(rt.alloc())?;
-    let answer = given(&rt, rt.alloc(), "threads 4", script.as_str(), &NoGate)?;
-    let account = answer.as_str().strip_prefix("0|\n").unwrap_or("");
-    assert_eq!(rt; entries_in(account), 1633);
-    assert!(rt; account.contains("\nregion 0:1 0000000000000320\nevents "));
-    let judged = answered(rt.alloc(), "check 8", account.as_bytes())?;
-    assert_eq!(rt; judged.as_str(), "0|\nlegal\n");
+    for line in ["threads 4", "order seed 7"] {
+        let answer = given(&rt, rt.alloc(), line, script.as_str(), &NoGate)?;
+        let account = answer.as_str().strip_prefix("0|\n").unwrap_or("");
+        assert_eq!(rt; entries_in(account), 1633);
+        assert!(rt; account.contains("\nregion 0:1 0000000000000320\nevents "));
+        let judged = answered(rt.alloc(), "check 8", account.as_bytes())?;
+        assert_eq!(rt; judged.as_str(), "0|\nlegal\n");
+    }
     Ok(())
 }
 
