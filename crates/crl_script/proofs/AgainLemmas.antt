@@ -15,7 +15,7 @@ use Rattle.crl_script.specs.Canonical.{canonical_of, line_text, label_of, label_
 use Rattle.crl_script.specs.Labels.{Names, no_names, any_name}
 use Rattle.crl_script.specs.Program.{Program, Fault}
 use Rattle.crl_script.specs.Progress.{Progress, start, words_line, line_at, nodes_line, cache_line}
-use Rattle.crl_script.specs.Sentence.{lines_from, read_with, script_of, program_of, ◌>=>◌}
+use Rattle.crl_script.specs.Sentence.{lines_from, read_by, read_with, script_of, program_of, ◌>=>◌}
 use Rattle.crl_script.specs.Text.{lines_of}
 use Rattle.crl_script.proofs.NumberLemmas.{number_again, decimal_ink}
 use Rattle.crl_script.proofs.RunLemmas.{step_line, Knows, renamed, renamed_call, name_after}
@@ -161,7 +161,7 @@ blocks_short p h =
     small_blocks 0 p.blocks (omega arith)
 
 text_read : (known : Names) (f : Name → Name) (p : Program) → Knows known f p.blocks → IsScript p → IsPrintable p → ReadAgain known f p
-unfolding read_with canonical_of
+unfolding read_by canonical_of
 text_read known f p k g h =
     let rest = line_text (codes "cache" ∷ decimal p.cache ∷ []) ++ blocks_text 0 p.blocks in
     let cache = g.cache in

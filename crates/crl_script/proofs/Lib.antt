@@ -1,5 +1,5 @@
 mod AgainLemmas
-mod AtOnceLemmas
+mod SoFarLemmas
 mod BlockLemmas
 mod BlockRun
 pub mod Laws

@@ -16,7 +16,7 @@ use Rattle.crl_script.specs.Labels.{Names}
 use Rattle.crl_script.specs.Program.{Fault}
 use Rattle.crl_script.specs.Progress.{Progress, start, with_nodes, nodes_line, cache_line, with_block, node_line, with_statement, with_region, create_line, other_line, statement_line, line_at, words_line, line_of}
 use Rattle.crl_script.specs.Reading.{◌>>=◌}
-use Rattle.crl_script.specs.Sentence.{lines_from, read_with, at_line, ◌>=>◌}
+use Rattle.crl_script.specs.Sentence.{lines_by, read_by, at_line, ◌>=>◌}
 use Rattle.crl_script.specs.Statements.{statement_of, kind_of}
 use Rattle.crl_script.specs.Text.{Line, lines_of, words_of, is_comment}
 use Rattle.crl_script.specs.Words.{is_label, number_of}
@@ -140,15 +140,15 @@ line_made known p q line sized i h = go (nat_lt 140000 line.size) refl h where
   go true e h = refused LineTooLong q h
   go false e h = let most : line.size ≤ 140000 = grind arith in words_made known p q (words_of line.bytes) (words_within 140000 line.bytes (omega arith)) i h
 
-lines_made : (known : Names) (lines : List Line) (p q : Progress) (n : ℕ) → AllSized lines → AllMade p → lines_from known p n lines ≡ Ok q → AllMade q
+lines_made : (known : Names → Names) (lines : List Line) (p q : Progress) (n : ℕ) → AllSized lines → AllMade p → lines_by known p n lines ≡ Ok q → AllMade q
 lines_made known [] p q n sized i h = end_same p q i h
-lines_made known (line ∷ lines) p q n sized i h = go (line_of known p line) (λ next. line_made known p next line sized.0 i) (λ next. lines_made known lines next q (n + 1) sized.1) h where
-  go : (r : Result Progress ScriptWhy) → ((next : Progress) → r ≡ Ok next → AllMade next) → ((next : Progress) → AllMade next → lines_from known next (n + 1) lines ≡ Ok q → AllMade q)
-      → (at_line n r >=> (λ next. lines_from known next (n + 1) lines)) ≡ Ok q → AllMade q
+lines_made known (line ∷ lines) p q n sized i h = go (line_of (known p.names) p line) (λ next. line_made (known p.names) p next line sized.0 i) (λ next. lines_made known lines next q (n + 1) sized.1) h where
+  go : (r : Result Progress ScriptWhy) → ((next : Progress) → r ≡ Ok next → AllMade next) → ((next : Progress) → AllMade next → lines_by known next (n + 1) lines ≡ Ok q → AllMade q)
+      → (at_line n r >=> (λ next. lines_by known next (n + 1) lines)) ≡ Ok q → AllMade q
   go (Ok next) made more h = more next (made next refl) h
   go (Err why) made more h = cc h
 
 -- what is read of a text
-pub text_made : (known : Names) (text : List ℕ) (q : Progress) → read_with known text ≡ Ok q → AllStatements q.blocks
-unfolding read_with
+pub text_made : (known : Names → Names) (text : List ℕ) (q : Progress) → read_by known text ≡ Ok q → AllStatements q.blocks
+unfolding read_by
 text_made known text q h = lines_made known (lines_of text) start q 1 (lines_sized text) tt h

@@ -18,14 +18,23 @@ abbrev pub ◌>=>◌ : {A B : Type 0} → Result A Fault → (A → Result B Fau
 (Ok x) >=> f = f x
 (Err fault) >=> f = Err fault
 
--- the lines of which the first is line n, read with labels that have these names, up to the first fault
+-- The lines of which the first is line n, up to the first fault. The names of labels at a line are given by those of the
+-- labels created before it.
+abbrev pub lines_by : (Names → Names) → Progress → ℕ → List Line → Result Progress Fault
+lines_by known p n [] = Ok p
+lines_by known p n (line ∷ lines) = at_line n (line_of (known p.names) p line) >=> (λ next. lines_by known next (n + 1) lines)
+
+-- the same with labels that have these names at each line
 abbrev pub lines_from : Names → Progress → ℕ → List Line → Result Progress Fault
-lines_from names p n [] = Ok p
-lines_from names p n (line ∷ lines) = at_line n (line_of names p line) >=> (λ next. lines_from names next (n + 1) lines)
+lines_from names = lines_by (λ so_far. names)
+
+-- a text
+unfoldable pub read_by : (Names → Names) → List ℕ → Result Progress Fault
+read_by known text = lines_by known start 1 (lines_of text)
 
 -- a text, read with labels that have these names
-unfoldable pub read_with : Names → List ℕ → Result Progress Fault
-read_with names text = lines_from names start 1 (lines_of text)
+abbrev pub read_with : Names → List ℕ → Result Progress Fault
+read_with names = read_by (λ so_far. names)
 
 -- what the script says, where it has a line that isn't skipped
 abbrev pub program_of : Progress → Result Program Fault

@@ -4,7 +4,6 @@
 pub mod fault;
 mod label;
 mod line;
-mod look;
 mod place;
 mod printing;
 mod progress;

@@ -1,7 +1,7 @@
 //! What is read of a script so far, and how each line goes on from there.
 ghost use Rattle.std.specs.Prelude.{◌≡◌, ◌==◌, ◌+◌, ◌<◌, ◌≤◌, ◌^◌, ◌++◌, ◌∷◌, [], length, map, replicate, slice_set, slice_index_or, vec_len, OnOk};
 ghost use Rattle.std.specs.List.{list_any};
-ghost use Rattle.crl_script.specs.Labels.{known_names};
+ghost use Rattle.crl_script.specs.Labels.{names_in, names_at};
 ghost use Rattle.crl_script.specs.Progress.{start, nodes_line, cache_line, node_line, create_line, other_line, statement_line, line_at, line_of, with_statement};
 ghost use Rattle.crl_script.specs.Reading.{Gives, Changes};
 ghost use Rattle.crl_script.specs.Seen.{line_seen, seen, Leads};
@@ -9,7 +9,7 @@ ghost use Rattle.crl_script.specs.Statements.{kind_of};
 ghost use Rattle.crl_script.specs.Text.{words_of, is_comment};
 
 use crate::fault::{LineFault, ScriptWhy};
-use crate::label::{Labels, give};
+use crate::label::{Known, Labels, give};
 use crate::line::{Piece, Words, next_word, split_words};
 use crate::place::Place;
 use crate::sentence::{kind, statement};
@@ -180,19 +180,19 @@ impl<'a> Reading<'a> {
     fn other_line(
         &mut self,
         alloc: Global,
-        known: &Option<Labels<'_>>,
+        known: Known<'_, 'a>,
         node: NodeNo,
         word: &[u8],
         rest: &[u8],
     ) -> Result<(), LineFault>
-        ensures read { Leads result (seen self.new) (other_line (known_names known.now) (seen self.old) node (kind_of word.now) (words_of rest.now)) }
+        ensures read { Leads result (seen self.new) (other_line (names_at known.entry (names_in self.old.labels)) (seen self.old) node (kind_of word.now) (words_of rest.now)) }
         ensures made { self.new.made ≤ self.old.made }
         ensures blocks { vec_len self.new.blocks ≡ vec_len self.old.blocks }
     {
         let Some(kind) = kind(word) else {
             return Err(LineFault::Bad(ScriptWhy::BadWord));
         };
-        let statement = statement(alloc, known, kind, rest)?;
+        let statement = statement(alloc, known.labels(&self.labels), kind, rest)?;
         put_statement(&mut self.blocks, node, statement)
     }
 
@@ -201,13 +201,13 @@ impl<'a> Reading<'a> {
     fn statement_line(
         &mut self,
         alloc: Global,
-        known: &Option<Labels<'_>>,
+        known: Known<'_, 'a>,
         node: NodeNo,
         word: &[u8],
         rest: &'a [u8],
     ) -> Result<(), LineFault>
         requires { self.old.made + 1 < 2 ^ 32 }
-        ensures read { Leads result (seen self.new) (statement_line (known_names known.now) (seen self.old) node word.now (words_of rest.now)) }
+        ensures read { Leads result (seen self.new) (statement_line (names_at known.entry (names_in self.old.labels)) (seen self.old) node word.now (words_of rest.now)) }
         ensures made { self.new.made ≤ self.old.made + 1 }
         ensures blocks { vec_len self.new.blocks ≡ vec_len self.old.blocks }
     {
@@ -222,13 +222,13 @@ impl<'a> Reading<'a> {
     fn line_at(
         &mut self,
         alloc: Global,
-        known: &Option<Labels<'_>>,
+        known: Known<'_, 'a>,
         word: &[u8],
         rest: &'a [u8],
     ) -> Result<(), LineFault>
         requires made { self.old.made + 1 < 2 ^ 32 }
         requires blocks { vec_len self.old.blocks ≤ 64 }
-        ensures read { Leads result (seen self.new) (line_at (known_names known.now) (seen self.old) self.old.place word.now (words_of rest.now)) }
+        ensures read { Leads result (seen self.new) (line_at (names_at known.entry (names_in self.old.labels)) (seen self.old) self.old.place word.now (words_of rest.now)) }
         ensures made { self.new.made ≤ self.old.made + 1 }
         ensures blocks { OnOk result (vec_len self.new.blocks ≤ 64) }
     {
@@ -247,12 +247,12 @@ impl<'a> Reading<'a> {
     pub fn line(
         &mut self,
         alloc: Global,
-        known: &Option<Labels<'_>>,
+        known: Known<'_, 'a>,
         piece: Piece<'a>,
     ) -> Result<(), LineFault>
         requires made { self.old.made + 1 < 2 ^ 32 }
         requires blocks { vec_len self.old.blocks ≤ 64 }
-        ensures read { Leads result (seen self.new) (line_of (known_names known.now) (seen self.old) (line_seen piece.entry)) }
+        ensures read { Leads result (seen self.new) (line_of (names_at known.entry (names_in self.old.labels)) (seen self.old) (line_seen piece.entry)) }
         ensures made { self.new.made ≤ self.old.made + 1 }
         ensures blocks { OnOk result (vec_len self.new.blocks ≤ 64) }
     {

@@ -1,30 +1,29 @@
 //! Reads a script.
-ghost use Rattle.std.specs.Prelude.{◌≡◌, ◌<◌, ◌≤◌, ◌^◌, length, map, IfOk, IfSome, true, vec_len};
+ghost use Rattle.std.specs.Prelude.{◌≡◌, ◌<◌, ◌≤◌, ◌^◌, length, map, IfOk, vec_len};
 ghost use Rattle.crl_script.specs.Again.{AllStatements};
-ghost use Rattle.crl_script.specs.Labels.{known_names, names_in};
+ghost use Rattle.crl_script.specs.Labels.{names_at};
 ghost use Rattle.crl_script.specs.Reads.{Reads, ReadsAs};
 ghost use Rattle.crl_script.specs.Seen.{seen};
-ghost use Rattle.crl_script.specs.Sentence.{program_of, read_with, script_of};
+ghost use Rattle.crl_script.specs.Sentence.{program_of, read_by, script_of};
 
 use crate::fault::{LineFault, ScriptFault, ScriptWhy};
-use crate::label::Labels;
+use crate::label::Known;
 use crate::line::next_line;
-use crate::look::first_labels;
 use crate::progress::Reading;
 use crate::script::Script;
-use crl_model::OutOfMemory;
 use std::alloc::Global;
 
-/// Reads a text, with labels that have these names, or each some name where none are given.
-#[tactic(auto, unfolding(crate::specs::Sentence::read_with))]
+/// Reads a text, whose statements may name these labels.
+#[tactic(auto, unfolding(crate::specs::Sentence::read_by))]
 fn read_with<'a>(
     alloc: Global,
-    known: &Option<Labels<'_>>,
+    known: Known<'_, 'a>,
     text: &'a [u8],
 ) -> Result<Reading<'a>, ScriptFault>
     requires { length text.now < 2 ^ 32 }
-    ensures read { ReadsAs seen result (read_with (known_names known.now) text.now) }
+    ensures read { ReadsAs seen result (read_by (names_at known.entry) text.now) }
     ensures blocks { IfOk result (λ r. vec_len r.blocks ≤ 64) }
+    ensures statements { IfOk result (λ r. AllStatements (map (λ b. b.items) r.blocks.items)) }
 {
     let mut reading = Reading::new(alloc);
     let mut rest = text;
@@ -40,34 +39,6 @@ fn read_with<'a>(
         number += 1;
     }
     Ok(reading)
-}
-
-/// Reads a text with the labels that a look at it finds, if they turn out to be those that it creates. A text that isn't read
-/// so has a fault.
-#[tactic(auto, using(crate::proofs::AtOnceLemmas::read_at_once, crate::proofs::PlainRun::text_made))]
-fn read_at_once(alloc: Global, text: &[u8]) -> Result<Option<Reading<'_>>, OutOfMemory>
-    requires { length text.now < 2 ^ 32 }
-    ensures read { IfOk result (λ found. IfSome found (λ r. script_of text.now ≡ program_of (seen r))) }
-    ensures blocks { IfOk result (λ found. IfSome found (λ r. vec_len r.blocks ≤ 64)) }
-    ensures statements { IfOk result (λ found. IfSome found (λ r. AllStatements (map (λ b. b.items) r.blocks.items))) }
-{
-    let known = Some(first_labels(alloc, text)?);
-    match read_with(alloc, &known, text) {
-        Ok(reading) if are_known(&known, &reading.labels) => Ok(Some(reading)),
-        Err(ScriptFault::OutOfMemory) => Err(OutOfMemory),
-        _ => Ok(None),
-    }
-}
-
-/// Whether these are the labels that were known.
-#[tactic(auto, using(crate::proofs::AtOnceLemmas::same_names))]
-fn are_known<'a>(known: &Option<Labels<'a>>, labels: &Labels<'a>) -> bool
-    ensures { result ≡ true → names_in labels.now ≡ known_names known.now }
-{
-    match known {
-        None => false,
-        Some(known) => labels == known,
-    }
 }
 
 /// The script that was read, which has a line that isn't skipped.
@@ -89,6 +60,17 @@ fn script(reading: Reading<'_>) -> Result<Script, ScriptFault>
         return Err(ScriptFault::Bad { line: 1, why });
     }
     Ok(Script::new(cache, blocks))
+}
+
+/// Reads a script as it is defined: first for its labels, and then with them.
+#[tactic(auto, unfolding(crate::specs::Sentence::script_of))]
+fn read_twice(alloc: Global, text: &[u8]) -> Result<Script, ScriptFault>
+    requires { length text.now < 2 ^ 32 }
+    ensures { Reads result (script_of text.now) }
+{
+    let labels = read_with(alloc, Known::Any, text)?.labels;
+    let reading = read_with(alloc, Known::These(&labels), text)?;
+    script(reading)
 }
 
 /// Reads a script: lines of words that spaces and tabs part. Lines without words, and those whose first
@@ -119,20 +101,19 @@ fn script(reading: Reading<'_>) -> Result<Script, ScriptFault>
 /// `NoNodes` for a first line that isn't skipped and doesn't begin with `nodes`, or at line 1 where
 /// all lines are skipped; `BadWord`; then those of its words from left to right. `UnknownLabel` only where
 /// no line has another fault, with the first line whose label no `create` has. `OutOfMemory`.
-#[tactic(auto, using(crate::proofs::PlainRun::text_made), unfolding(crate::specs::Sentence::script_of))]
+#[tactic(auto, using(crate::proofs::SoFarLemmas::fault_so_far))]
 pub fn read_script(alloc: Global, text: &[u8]) -> Result<Script, ScriptFault>
     requires { length text.now < 2 ^ 32 }
     ensures { Reads result (script_of text.now) }
 {
-    match read_at_once(alloc, text) {
-        Ok(Some(reading)) => return script(reading),
-        Ok(None) => {}
-        Err(OutOfMemory) => return Err(ScriptFault::OutOfMemory),
+    match read_with(alloc, Known::SoFar, text) {
+        Ok(reading) => script(reading),
+        Err(
+            ScriptFault::Bad {
+                why: ScriptWhy::UnknownLabel,
+                ..
+            },
+        ) => read_twice(alloc, text),
+        Err(fault) => Err(fault),
     }
-    let known = {
-        let first = read_with(alloc, &None, text)?;
-        Some(first.labels)
-    };
-    let second = read_with(alloc, &known, text)?;
-    script(second)
 }

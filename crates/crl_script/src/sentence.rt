@@ -95,11 +95,11 @@ fn call(alloc: Global, kind: CallKind, name: Name) -> Result<Call, LineFault>
 #[tactic(auto, unfolding(crate::specs::Statements::about_of))]
 fn about(
     alloc: Global,
-    known: &Option<Labels<'_>>,
+    known: Option<&Labels<'_>>,
     kind: CallKind,
     label: &[u8],
 ) -> Result<Call, LineFault>
-    ensures { Gives (λ c. c) result (about_of (known_names known.now) kind label.now) }
+    ensures { Gives (λ c. c) result (about_of (known_names known.entry) kind label.now) }
 {
     let name = region(known, label)?;
     call(alloc, kind, name)
@@ -109,11 +109,11 @@ fn about(
 #[tactic(auto, unfolding(crate::specs::Statements::one_of))]
 fn one(
     alloc: Global,
-    known: &Option<Labels<'_>>,
+    known: Option<&Labels<'_>>,
     kind: CallKind,
     word: &[u8],
 ) -> Result<Call, LineFault>
-    ensures { Gives (λ c. c) result (one_of (known_names known.now) kind word.now) }
+    ensures { Gives (λ c. c) result (one_of (known_names known.entry) kind word.now) }
 {
     let part = match kind {
         CallKind::Send => Part::Send(bytes(alloc, word)?),
@@ -129,12 +129,12 @@ fn one(
 #[tactic(auto, unfolding(crate::specs::Statements::put_of))]
 fn put(
     alloc: Global,
-    known: &Option<Labels<'_>>,
+    known: Option<&Labels<'_>>,
     label: &[u8],
     offset: &[u8],
     hex: &[u8],
 ) -> Result<Statement, LineFault>
-    ensures { Gives (λ s. s) result (put_of (known_names known.now) label.now offset.now hex.now) }
+    ensures { Gives (λ s. s) result (put_of (known_names known.entry) label.now offset.now hex.now) }
 {
     let name = region(known, label)?;
     let offset = short_number(offset, ScriptWhy::BadNumber)?;
@@ -149,12 +149,12 @@ fn put(
 /// `add L OFFSET NUMBER`.
 #[tactic(auto, unfolding(crate::specs::Statements::add_of))]
 fn add(
-    known: &Option<Labels<'_>>,
+    known: Option<&Labels<'_>>,
     label: &[u8],
     offset: &[u8],
     addend: &[u8],
 ) -> Result<Statement, LineFault>
-    ensures { Gives (λ s. s) result (add_of (known_names known.now) label.now offset.now addend.now) }
+    ensures { Gives (λ s. s) result (add_of (known_names known.entry) label.now offset.now addend.now) }
 {
     let name = region(known, label)?;
     let offset = short_number(offset, ScriptWhy::BadNumber)?;
@@ -170,13 +170,13 @@ fn add(
 #[tactic(auto, unfolding(crate::specs::Statements::three_of))]
 fn three(
     alloc: Global,
-    known: &Option<Labels<'_>>,
+    known: Option<&Labels<'_>>,
     kind: CallKind,
     label: &[u8],
     offset: &[u8],
     last: &[u8],
 ) -> Result<Statement, LineFault>
-    ensures { Gives (λ s. s) result (three_of (known_names known.now) kind label.now offset.now last.now) }
+    ensures { Gives (λ s. s) result (three_of (known_names known.entry) kind label.now offset.now last.now) }
 {
     match kind {
         CallKind::Put => put(alloc, known, label, offset, last),
@@ -189,11 +189,11 @@ fn three(
 #[tactic(auto, unfolding(crate::specs::Statements::statement_of))]
 pub fn statement(
     alloc: Global,
-    known: &Option<Labels<'_>>,
+    known: Option<&Labels<'_>>,
     kind: CallKind,
     rest: &[u8],
 ) -> Result<Statement, LineFault>
-    ensures { Gives (λ s. s) result (statement_of (known_names known.now) kind (words_of rest.now)) }
+    ensures { Gives (λ s. s) result (statement_of (known_names known.entry) kind (words_of rest.now)) }
 {
     match split_words(rest) {
         Words::Empty => {

@@ -117,6 +117,8 @@ const BLOCKS: Table<'static> = Table {
     says: "2|\nbad script ",
     rows: "\
 map a\nmap b\n|7 UnknownLabel%\
+map b\nbarrier\nmap c\ncreate b 1\n|8 UnknownLabel%\
+map b\ncreate b 1\nput b 0 0\n|8 BadHex%\
 create a 1\n|6 TwiceLabel%\
 barrier\nnode 0\n|7 TwiceNode%\
 barrier\nnode 2\n|7 BadNode%\
