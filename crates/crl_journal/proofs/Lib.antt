@@ -1,3 +1,5 @@
 mod Growth
+mod Popping
+mod Queues
 pub mod Laws
 mod Telling

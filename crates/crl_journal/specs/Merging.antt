@@ -1,8 +1,9 @@
 -- The records of all nodes, merged by position.
-use Rattle.std.specs.Prelude.{ℕ, nat_lt, if◌then◌else◌, List, [], ◌∷◌, ◌++◌, map}
-use Rattle.std.specs.Borrow.{Bor}
+use Rattle.std.specs.Prelude.{◌≡◌, ℕ, zero, suc, nat_lt, nat_le, if◌then◌else◌, List, [], ◌∷◌, ◌++◌, map, slice_index_or, slice_set, Option, Some, None}
+use Rattle.std.specs.declared.collections.VecDeque.{VecDeque}
 use Rattle.crl_model.specs.declared.journal.Recorded.{Recorded}
 use Rattle.crl_model.specs.declared.entry.Entry.{Entry}
+use Rattle.crl_journal.specs.declared.merging.Front.{Front}
 
 -- the records before the first one whose position is at least p, and those from it on
 abbrev pub first_before : ℕ → List Recorded → List Recorded
@@ -29,6 +30,21 @@ entries_of xs = map (λ (x : Recorded). x.entry) xs
 abbrev pub merged_account : List (List Recorded) → List Entry
 merged_account xss = entries_of (merge_into [] xss)
 
--- what references refer to
-abbrev pub all_now : {X : Type 0} → List (Bor X) → List X
-all_now xs = map (λ x. x.now) xs
+abbrev pub all_items : {A : Type 0} → List (VecDeque Recorded A) → List (List Recorded)
+all_items queues = map (λ q. q.items) queues
+
+-- the one that comes sooner: what was found before, or the first of these records
+abbrev pub next_by : Option Front → ℕ → List Recorded → Option Front
+next_by next i [] = next
+next_by None i (x ∷ xs) = Some (record { journal = i; position = x.position })
+next_by (Some f) i (x ∷ xs) = if nat_le f.position x.position then Some f else Some (record { journal = i; position = x.position })
+
+-- which of the first so many lists has the record that comes next
+abbrev pub next_below : ℕ → List (List Recorded) → Option Front
+next_below zero xss = None
+next_below (suc i) xss = next_by (next_below i xss) i (slice_index_or xss i [])
+
+-- the first record of a list was taken out
+pub record IsPopped (i : ℕ) (xss : List (List Recorded)) (x : Recorded) (yss : List (List Recorded)) : Type 0 where
+  pub head : slice_index_or xss i [] ≡ x ∷ slice_index_or yss i []
+  pub rest : yss ≡ slice_set xss i (slice_index_or yss i [])

@@ -92,6 +92,13 @@ impl Journal {
         self.records.as_slice()
     }
 
+    /// The records; the notes are let go.
+    pub fn into_records(self) -> Vec<Recorded>
+        ensures { result.items ≡ self.records }
+    {
+        self.records
+    }
+
     /// The notes.
     pub fn notes(&self) -> &[Note]
         ensures { result.now ≡ self.now.notes }

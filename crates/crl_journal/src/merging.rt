@@ -1,103 +1,81 @@
 //! The records of all nodes, merged by position.
-ghost use Rattle.std.specs.Prelude.{◌≡◌, ◌++◌, ◌≤◌, [], List, drop, length, IfOk};
-ghost use Rattle.crl_journal.specs.Merging.{first_before, rest_from, merge, merge_into, merged_account, entries_of, all_now};
+ghost use Rattle.std.specs.Prelude.{◌≡◌, ◌<◌, List, [], length, slice_index_or, IfOk};
+ghost use Rattle.std.specs.Option.{option_map};
+ghost use Rattle.crl_journal.specs.Merging.{merged_account, all_items, next_by, next_below, IsPopped};
 ghost use Rattle.crl_journal.specs.Told.{EventEntries, entries_told, AreRecordsOf};
 
 use crl_model::OutOfMemory;
 use crl_model::entry::Entry;
 use crl_model::journal::Recorded;
 use std::alloc::Global;
+use std::collections::VecDeque;
+
+/// The number of a journal, and the position of its first record.
+#[derive(Clone, Copy, Drop)]
+struct Front {
+    journal: usize,
+    position: u64,
+}
 
 /// The entries of all nodes by position. Those of one position stand in their order at their node; each
-/// node's records are given in one list. The entries are copied once, at the end.
+/// node's records are given in one queue. They are taken out of the queues, and not copied.
 ///
 /// # Errors
 ///
 /// `OutOfMemory`.
-pub fn account(alloc: Global, journals: &[&[Recorded]]) -> Result<Vec<Entry>, OutOfMemory>
-    ensures merged { IfOk result (λ account. account.items ≡ merged_account (all_now journals.now)) }
-    // If the lists are what a run recorded, the account is what the run told.
-    ensures told { IfOk result (λ account. (run : List EventEntries) → AreRecordsOf run (all_now journals.now) → account.items ≡ entries_told run) }
-{
-    let merged = merge_all(alloc, journals)?;
-    copy_entries(alloc, &merged)
-}
-
-/// All lists, merged.
-fn merge_all<'a>(
+pub fn account(
     alloc: Global,
-    journals: &[&'a [Recorded]],
-) -> Result<Vec<&'a Recorded>, OutOfMemory>
-    ensures { IfOk result (λ merged. all_now merged.items ≡ merge_into [] (all_now journals.now)) }
+    journals: &mut [VecDeque<Recorded>],
+) -> Result<Vec<Entry>, OutOfMemory>
+    ensures merged { IfOk result (λ account. account.items ≡ merged_account (all_items journals.old)) }
+    // If the queues are what a run recorded, the account is what the run told.
+    ensures told { IfOk result (λ account. (run : List EventEntries) → AreRecordsOf run (all_items journals.old) → account.items ≡ entries_told run) }
 {
-    let mut merged = Vec::new(alloc);
-    for journal in journals {
-        merged = merge_two(alloc, &merged, journal)?;
-    }
-    Ok(merged)
-}
-
-/// The entries of the records.
-fn copy_entries(alloc: Global, records: &[&Recorded]) -> Result<Vec<Entry>, OutOfMemory>
-    ensures { IfOk result (λ entries. entries.items ≡ entries_of (all_now records.now)) }
-{
-    let mut entries = Vec::with_capacity(alloc, records.len())?;
-    for record in records {
-        entries.push(record.entry.copy(alloc)?)?;
+    let mut entries = Vec::new(alloc);
+    while let Some(i) = next_journal(journals) {
+        let Recorded { position: _, entry } = pop(journals, i);
+        entries.push(entry)?;
     }
     Ok(entries)
 }
 
-/// Both lists, merged; if positions are equal, `left` goes first.
-fn merge_two<'a>(
-    alloc: Global,
-    left: &[&'a Recorded],
-    right: &'a [Recorded],
-) -> Result<Vec<&'a Recorded>, OutOfMemory>
-    ensures { IfOk result (λ merged. all_now merged.items ≡ merge (all_now left.now) right.now) }
+/// The number of the journal whose first record comes next, if one is left.
+fn next_journal(journals: &[VecDeque<Recorded>]) -> Option<usize>
+    ensures { result ≡ option_map (λ f. f.journal) (next_below (length journals.now) (all_items journals.now)) }
 {
-    let mut merged = Vec::new(alloc);
-    let mut next = 0;
-    for record in left {
-        next = push_before(&mut merged, right, next, record.position)?;
-        merged.push(*record)?;
+    let mut next = None;
+    for i in 0..journals.len() {
+        next = sooner(next, i, &journals[i]);
     }
-    push_rest(&mut merged, right, next)?;
-    Ok(merged)
+    match next {
+        Some(front) => Some(front.journal),
+        None => None,
+    }
 }
 
-/// Pushes those records from the place `from` on that stand before the first one whose position is at
-/// least `limit`. Answers the place of that one.
-fn push_before<'a>(
-    merged: &mut Vec<&'a Recorded>,
-    records: &'a [Recorded],
-    from: usize,
-    limit: u64,
-) -> Result<usize, OutOfMemory>
-    requires { from ≤ length records.now }
-    ensures within { IfOk result (λ next. next ≤ length records.now) }
-    ensures pushed { IfOk result (λ next. all_now merged.new.items ≡ all_now merged.old.items ++ first_before limit (drop from records.now)) }
-    ensures rest { IfOk result (λ next. drop next records.now ≡ rest_from limit (drop from records.now)) }
+/// The one that comes sooner: what was found before, or the first of this journal's records.
+fn sooner(next: Option<Front>, i: usize, records: &VecDeque<Recorded>) -> Option<Front>
+    ensures { result ≡ next_by next i records.now.items }
 {
-    let mut next = from;
-    while next < records.len() && records[next].position < limit {
-        merged.push(&records[next])?;
-        next += 1;
+    let Some(first) = records.front() else {
+        return next;
+    };
+    match next {
+        Some(front) if front.position <= first.position => next,
+        _ => Some(Front {
+            journal: i,
+            position: first.position,
+        }),
     }
-    Ok(next)
 }
 
-/// Pushes the records from the place `from` on.
-fn push_rest<'a>(
-    merged: &mut Vec<&'a Recorded>,
-    records: &'a [Recorded],
-    from: usize,
-) -> Result<(), OutOfMemory>
-    requires { from ≤ length records.now }
-    ensures { IfOk result (λ _. all_now merged.new.items ≡ all_now merged.old.items ++ drop from records.now) }
+/// The first record of the journal is taken out.
+fn pop(journals: &mut [VecDeque<Recorded>], i: usize) -> Recorded
+    requires { (i < length journals.old) × (0 < length (slice_index_or (all_items journals.old) i [])) }
+    ensures { IsPopped i (all_items journals.old) result (all_items journals.new) }
 {
-    for next in from..records.len() {
-        merged.push(&records[next])?;
+    match journals[i].pop_front() {
+        Some(record) => record,
+        None => unreachable!(),
     }
-    Ok(())
 }

@@ -5,8 +5,10 @@ use crate::{Journal, account};
 use crl_model::OutOfMemory;
 use crl_model::entry::{Entry, What};
 use crl_model::event::Event;
+use crl_model::journal::Recorded;
 use crl_model::name::Name;
 use std::alloc::Global;
+use std::collections::VecDeque;
 
 /// An entry that says that a region with this serial was unmapped.
 fn unmapped(serial: u32) -> Entry {
@@ -36,6 +38,15 @@ fn journal(alloc: Global, records: &[(u64, u32)]) -> Result<Journal, OutOfMemory
     Ok(journal)
 }
 
+/// The records of three journals.
+fn queues(alloc: Global, journals: [Journal; 3]) -> Result<Vec<VecDeque<Recorded>>, OutOfMemory> {
+    let mut queues = Vec::with_capacity(alloc, 3)?;
+    for journal in journals {
+        queues.push(VecDeque::from_vec(journal.into_records()))?;
+    }
+    Ok(queues)
+}
+
 #[test]
 fn three_journals_are_merged(rt: HostRuntime) -> Result<(), OutOfMemory> {
     let alloc = rt.alloc();
@@ -43,7 +54,8 @@ fn three_journals_are_merged(rt: HostRuntime) -> Result<(), OutOfMemory> {
     let two = journal(alloc, &[])?;
     let three = journal(alloc, &[(0, 10), (3, 13), (3, 14), (3, 15)])?;
     assert_eq!(rt; one.notes().len(), 3);
-    let account = account(alloc, &[one.records(), two.records(), three.records()])?;
+    let mut queues = queues(alloc, [one, two, three])?;
+    let account = account(alloc, queues.as_mut_slice())?;
     let mut due = 10;
     for entry in &account {
         assert_eq!(rt; serial_of(entry), due);

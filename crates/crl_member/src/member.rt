@@ -284,6 +284,10 @@ pub trait Member: Sized + Drop {
     fn records(&self) -> &[Recorded]
         ensures { result.now ≡ (state self.now).records };
 
+    /// The same; the node is let go.
+    fn into_records(self) -> Vec<Recorded>
+        ensures { result.items ≡ (state self).records };
+
     /// The number of messages that it sent.
     fn posted(&self) -> u128
         ensures { result ≡ (state self.now).posted };

@@ -137,6 +137,10 @@ impl Member for Node {
         self.desk.journal.records()
     }
 
+    fn into_records(self) -> Vec<Recorded> {
+        self.desk.journal.into_records()
+    }
+
     fn posted(&self) -> u128 {
         self.desk.posted
     }

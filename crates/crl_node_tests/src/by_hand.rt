@@ -288,11 +288,12 @@ pub fn play_by_hand<N: Member>(alloc: Global, script: &Script) -> Option<World<N
 }
 
 /// What is told of the world: its entries, and its regions.
-pub fn tell<N: Member>(alloc: Global, world: &World<N>) -> Result<Vec<u8>, OutOfMemory> {
+pub fn tell<N: Member>(alloc: Global, world: World<N>) -> Result<Vec<u8>, OutOfMemory> {
     let mut text = Vec::new(alloc);
+    let regions = world.regions(alloc)?;
     let entries = world.account(alloc)?;
     write_account(entries.as_slice(), &mut text)?;
-    for region in world.regions(alloc)? {
+    for region in regions {
         write_region(region.name, region.bytes.as_slice(), &mut text)?;
     }
     Ok(text)

@@ -218,6 +218,10 @@ impl<N: Member> Member for Watched<N> {
         self.member.records()
     }
 
+    fn into_records(self) -> Vec<Recorded> {
+        self.member.into_records()
+    }
+
     fn posted(&self) -> u128 {
         self.member.posted()
     }

@@ -38,7 +38,7 @@ pub(crate) struct Printed {
 fn play<N: Member>(
     alloc: Global,
     blocks: &[Vec<Statement>],
-    world: &mut World<N>,
+    world: World<N>,
     players: &mut [Player],
     order: &mut Order,
 ) -> Result<Printed, OutOfMemory>
@@ -46,11 +46,12 @@ fn play<N: Member>(
     requires statements { AreStatements (map (λ b. b.items) blocks.now) }
     requires short { AreShort (map (λ b. b.items) blocks.now) }
     requires few { statements_in (length players.old) (map (λ b. b.items) blocks.now) ≤ 2 ^ 40 }
-    requires begun { IsAtSomeTurn (map (λ b. b.items) blocks.now) (world_seen N.state world.old) players.old }
-    ensures { IfOk result (IsPrintedFrom (map (λ b. b.items) blocks.now) (words_to_come order.old) (world_seen N.state world.old) players.old) }
+    requires begun { IsAtSomeTurn (map (λ b. b.items) blocks.now) (world_seen N.state world) players.old }
+    ensures { IfOk result (IsPrintedFrom (map (λ b. b.items) blocks.now) (words_to_come order.old) (world_seen N.state world) players.old) }
 {
-    take_turns(alloc, blocks, world, players, order)?;
-    let stuck = is_stuck(blocks, world, players);
+    let mut world = world;
+    take_turns(alloc, blocks, &mut world, players, order)?;
+    let stuck = is_stuck(blocks, &world, players);
     let report = report_of(alloc, blocks, world, players, stuck)?;
     Ok(Printed { stuck, report })
 }
@@ -88,16 +89,9 @@ pub(crate) fn finish_by<N: Member>(
         (capacity : ℕ) (words : ℕ → ℕ) (k : ℕ) → IsAt capacity all words k (world_seen N.state world) players.items
         → MatchResult result (IsReportOf n capacity all (words_then k words rest) false) (IsFaultOf n capacity all (words_then k words rest)) }
 {
-    let mut world = world;
     let mut players = players;
     let mut order = order;
-    match play(
-        alloc,
-        blocks,
-        &mut world,
-        players.as_mut_slice(),
-        &mut order,
-    ) {
+    match play(alloc, blocks, world, players.as_mut_slice(), &mut order) {
         Ok(printed) => printed_as(printed),
         Err(_) => Err(RunFault::OutOfMemory),
     }

@@ -130,7 +130,7 @@ fn blocked_if<N: Member>(
     Ok(Vec::new(alloc))
 }
 
-/// The report of a run that is over.
+/// The report of a run that is over. The nodes are let go.
 ///
 /// # Errors
 ///
@@ -138,23 +138,25 @@ fn blocked_if<N: Member>(
 pub(crate) fn report_of<N: Member>(
     alloc: Global,
     blocks: &[Vec<Statement>],
-    world: &World<N>,
+    world: World<N>,
     players: &[Player],
     stuck: bool,
 ) -> Result<Report, OutOfMemory>
-    requires nodes { (length blocks.now ≡ length players.now) × (length world.now.nodes ≡ length players.now) }
-    requires stuck { stuck ≡ ends.is_stuck (running_seen (map (λ b. b.items) blocks.now) (world_seen N.state world.now) players.now) }
-    requires messages { messages_sent (world_seen N.state world.now) < 2 ^ 64 }
-    ensures { IfOk result (λ printed. PrintsWhatIs (map (λ b. b.items) blocks.now) (world_seen N.state world.now) players.now printed) }
+    requires nodes { (length blocks.now ≡ length players.now) × (length world.nodes ≡ length players.now) }
+    requires stuck { stuck ≡ ends.is_stuck (running_seen (map (λ b. b.items) blocks.now) (world_seen N.state world) players.now) }
+    requires messages { messages_sent (world_seen N.state world) < 2 ^ 64 }
+    ensures { IfOk result (λ printed. PrintsWhatIs (map (λ b. b.items) blocks.now) (world_seen N.state world) players.now printed) }
 {
+    let regions = regions_unless(alloc, &world, stuck)?;
+    let blocked = blocked_if(alloc, blocks, &world, players, stuck)?;
+    let events = world.events();
+    let messages = world.messages() as u64;
     let entries = world.account(alloc)?;
-    let regions = regions_unless(alloc, world, stuck)?;
-    let blocked = blocked_if(alloc, blocks, world, players, stuck)?;
     Ok(Report {
         entries,
         regions,
         blocked,
-        events: world.events(),
-        messages: world.messages() as u64,
+        events,
+        messages,
     })
 }

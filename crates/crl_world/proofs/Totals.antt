@@ -1,15 +1,14 @@
 -- What is read of the nodes one after another.
-use Rattle.std.proofs.Common.{◌≡◌, ℕ, zero, suc, ◌+◌, ◌-◌, ◌<◌, if◌then◌else◌, Bool, false, List, [], ◌∷◌, ◌++◌, length, drop, refl, ap, ap₂, sym, ◌∙◌, arith, Option, Some}
-use Rattle.std.proofs.lemmas.List.{map-append, append_assoc}
-use Rattle.std.specs.Borrow.{Bor}
+use Rattle.std.proofs.Common.{◌≡◌, ℕ, zero, suc, ◌+◌, ◌-◌, ◌<◌, if◌then◌else◌, Bool, false, List, [], ◌∷◌, ◌++◌, length, map, drop, get_or, refl, ap, ap₂, sym, ◌∙◌, arith, Option, Some}
+use Rattle.std.proofs.lemmas.List.{append_assoc, get_or_default}
 use Rattle.crl_model.specs.declared.journal.Recorded.{Recorded}
 use Rattle.crl_model.specs.declared.name.Name.{Name}
-use Rattle.crl_protocol.specs.Node.{Node}
+use Rattle.crl_protocol.specs.Node.{Node, new_node}
 use Rattle.crl_protocol.specs.World.{World, messages_sent_from}
 use Rattle.crl_protocol.specs.Ends.{least_node_from, exclusive_bytes, copy_of, first_some, bytes_from, final_bytes, region_line, regions_of, regions_from, FinalRegion}
 use Rattle.crl_protocol.specs.Home.{Home}
-use Rattle.crl_journal.specs.Merging.{all_now}
 use Rattle.crl_world.specs.Records.{records_from}
+use Rattle.crl_world.specs.Seen.{node_in}
 
 one_less : (i n : ℕ) → i < n → n - i ≡ suc (n - (i + 1))
 one_less i n lt = omega arith
@@ -23,17 +22,16 @@ sent_more nodes i n sum here total lt is at =
     let whole : messages_sent_from i (n - i) nodes ≡ (nodes i).posted + messages_sent_from (i + 1) (n - (i + 1)) nodes = ap (λ k. messages_sent_from i k nodes) (one_less i n lt) in
     omega (arith, whole)
 
-records_push : (nodes : ℕ → Node) (p k : ℕ) → records_from p k nodes ++ (nodes (p + k)).records ∷ [] ≡ records_from p (suc k) nodes
-records_push nodes p zero = let same : p + 0 ≡ p = omega arith in ap (λ q. (nodes q).records ∷ []) same
-records_push nodes p (suc k) =
-    let same : p + suc k ≡ (p + 1) + k = omega arith in
-    ap (λ l. (nodes p).records ∷ l) (ap (λ q. records_from (p + 1) k nodes ++ (nodes q).records ∷ []) same ∙ records_push nodes (p + 1) k)
+-- the records of nodes that stand in a list
+records_listed : (nodes : ℕ → Node) (p : ℕ) (list : List Node) → ((j : ℕ) → j < length list → nodes (p + j) ≡ get_or list j (nodes (p + j))) → records_from p (length list) nodes ≡ map (λ (n : Node). n.records) list
+records_listed nodes p [] h = refl
+records_listed nodes p (n ∷ list) h =
+    let same : p + 0 ≡ p = omega arith in
+    let first : nodes p ≡ n = ap nodes (sym same) ∙ h zero (omega arith) in
+    ap₂ (λ (m : Node) (l : List (List Recorded)). m.records ∷ l) first (records_listed nodes (p + 1) list (λ j l. let more : (p + 1) + j ≡ p + suc j = omega arith in rw more (h (suc j) (omega (arith, l)))))
 
-pub records_more : (nodes : ℕ → Node) (xs ys : List (Bor (List Recorded))) (x : Bor (List Recorded)) (i : ℕ) → ys ≡ xs ++ x ∷ [] → all_now xs ≡ records_from 0 i nodes → x.now ≡ (nodes i).records → all_now ys ≡ records_from 0 (i + 1) nodes
-records_more nodes xs ys x i is before one =
-    let here : i ≡ 0 + i = omega arith in
-    let next : suc i ≡ i + 1 = omega arith in
-    ap all_now is ∙ map-append (λ (z : Bor (List Recorded)). z.now) xs (x ∷ []) ∙ ap₂ (λ l r. l ++ r ∷ []) before (one ∙ ap (λ q. (nodes q).records) here) ∙ records_push nodes 0 i ∙ ap (λ k. records_from 0 k nodes) next
+pub records_in : (capacity : ℕ) (list : List Node) → map (λ (n : Node). n.records) list ≡ records_from 0 (length list) (node_in capacity list)
+records_in capacity list = sym (records_listed (node_in capacity list) 0 list (λ j l. let same : 0 + j ≡ j = omega arith in rw same (get_or_default list j (new_node (length list) capacity j) (get_or list j (new_node (length list) capacity j)) l)))
 
 -- the bytes of a region, from one node on
 pub bytes_more : (name : Name) (nodes : ℕ → Node) (i n : ℕ) (o : Option (List ℕ)) → i < n → o ≡ exclusive_bytes (copy_of ((nodes i).remotes name)) → (bytes : List ℕ)

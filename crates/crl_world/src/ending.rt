@@ -1,7 +1,7 @@
 //! What is read of a world at the end: its account, and how many messages there were.
 ghost use Rattle.std.specs.Prelude.{◌≡◌, ◌<◌, ◌^◌, List, IfOk};
 ghost use Rattle.crl_protocol.specs.World.{messages_sent};
-ghost use Rattle.crl_journal.specs.Merging.{merged_account, all_now};
+ghost use Rattle.crl_journal.specs.Merging.{merged_account, all_items};
 ghost use Rattle.crl_journal.specs.Told.{EventEntries, entries_told, AreRecordsOf};
 ghost use Rattle.crl_world.specs.Seen.{world_seen};
 ghost use Rattle.crl_world.specs.Records.{records_by_node};
@@ -13,32 +13,39 @@ use crl_model::OutOfMemory;
 use crl_model::entry::Entry;
 use crl_model::journal::Recorded;
 use std::alloc::Global;
+use std::collections::VecDeque;
 
 impl<N: Member> World<N> {
     /// What each node recorded, by node.
-    fn records(&self, alloc: Global) -> Result<Vec<&[Recorded]>, OutOfMemory>
-        ensures { IfOk result (λ lists. all_now lists.items ≡ records_by_node (world_seen N.state self.now)) }
+    fn into_records(self, alloc: Global) -> Result<Vec<VecDeque<Recorded>>, OutOfMemory>
+        ensures { IfOk result (λ lists. all_items lists.items ≡ records_by_node (world_seen N.state self)) }
     {
-        let mut lists = Vec::with_capacity(alloc, self.nodes.len())?;
-        for i in 0..self.count() {
-            lists.push(self.node(i).records())?;
+        let World {
+            mut nodes,
+            events: _,
+            capacity: _,
+        } = self;
+        let mut lists = Vec::with_capacity(alloc, nodes.len())?;
+        while !nodes.is_empty() {
+            let node = nodes.remove(0);
+            lists.push(VecDeque::from_vec(node.into_records()))?;
         }
         Ok(lists)
     }
 
-    /// The entries of all nodes, by the positions of their events.
+    /// The entries of all nodes, by the positions of their events. The nodes are let go.
     ///
     /// # Errors
     ///
     /// `OutOfMemory`.
-    pub fn account(&self, alloc: Global) -> Result<Vec<Entry>, OutOfMemory>
-        ensures merged { IfOk result (λ entries. entries.items ≡ merged_account (records_by_node (world_seen N.state self.now))) }
+    pub fn account(self, alloc: Global) -> Result<Vec<Entry>, OutOfMemory>
+        ensures merged { IfOk result (λ entries. entries.items ≡ merged_account (records_by_node (world_seen N.state self))) }
         // If that is what a run recorded, they are what the run told.
-        ensures told { let lists = records_by_node (world_seen N.state self.now) in
+        ensures told { let lists = records_by_node (world_seen N.state self) in
             IfOk result (λ entries. (run : List EventEntries) → AreRecordsOf run lists → entries.items ≡ entries_told run) }
     {
-        let lists = self.records(alloc)?;
-        account(alloc, &lists)
+        let mut lists = self.into_records(alloc)?;
+        account(alloc, lists.as_mut_slice())
     }
 
     /// The number of messages that were sent.

@@ -18,7 +18,7 @@ is_stuck-stuck-requires g c =
       nodes = (
         c.requires.nodes.1 ∙ sym ended.0,
         sym (length-map c.take_turns.new.world.nodes g.N.Member.state)
-            ∙ rest_counted (map (λ b. b.items) c.args.blocks.now) (words_to_come c.args.order.now) (world_seen g.N.Member.state c.args.world.now) c.args.players.now (world_seen g.N.Member.state c.take_turns.new.world) c.take_turns.new.players c.requires.statements ended c.requires.begun,
+            ∙ rest_counted (map (λ b. b.items) c.args.blocks.now) (words_to_come c.args.order.now) (world_seen g.N.Member.state c.args.world) c.args.players.now (world_seen g.N.Member.state c.take_turns.new.world) c.take_turns.new.players c.requires.statements ended c.requires.begun,
       );
     }
 
@@ -27,7 +27,7 @@ report_of-requires-clause-nodes g c =
     let ended = c.in_ok-take_turns.ensures in (
       c.requires.nodes.1 ∙ sym ended.0,
       sym (length-map c.take_turns.new.world.nodes g.N.Member.state)
-          ∙ rest_counted (map (λ b. b.items) c.args.blocks.now) (words_to_come c.args.order.now) (world_seen g.N.Member.state c.args.world.now) c.args.players.now (world_seen g.N.Member.state c.take_turns.new.world) c.take_turns.new.players c.requires.statements ended c.requires.begun,
+          ∙ rest_counted (map (λ b. b.items) c.args.blocks.now) (words_to_come c.args.order.now) (world_seen g.N.Member.state c.args.world) c.args.players.now (world_seen g.N.Member.state c.take_turns.new.world) c.take_turns.new.players c.requires.statements ended c.requires.begun,
     )
 
 pub report_of-requires-clause-messages : goal.report_of-requires-clause-messages
@@ -35,9 +35,9 @@ report_of-requires-clause-messages g c =
     let blocks = map (λ b. b.items) c.args.blocks.now in
     let v = world_seen g.N.Member.state c.take_turns.new.world in
     messages_fit (length c.args.players.now) (statements_in (length c.args.players.now) blocks) c.requires.nodes.0 c.requires.few (messages_sent v)
-    (rest_messages blocks (words_to_come c.args.order.now) (world_seen g.N.Member.state c.args.world.now) c.args.players.now v c.take_turns.new.players c.requires.statements c.in_ok-take_turns.ensures c.requires.begun)
+    (rest_messages blocks (words_to_come c.args.order.now) (world_seen g.N.Member.state c.args.world) c.args.players.now v c.take_turns.new.players c.requires.statements c.in_ok-take_turns.ensures c.requires.begun)
 
 pub returns : goal.returns
 returns g c =
-    rest_printed (map (λ b. b.items) c.args.blocks.now) (words_to_come c.args.order.now) (world_seen g.N.Member.state c.args.world.now) c.args.players.now (world_seen g.N.Member.state c.take_turns.new.world) c.take_turns.new.players
+    rest_printed (map (λ b. b.items) c.args.blocks.now) (words_to_come c.args.order.now) (world_seen g.N.Member.state c.args.world) c.args.players.now (world_seen g.N.Member.state c.take_turns.new.world) c.take_turns.new.players
     c.requires.statements c.in_ok-take_turns.ensures (record { stuck = c.is_stuck-stuck.result; report = c.in_ok-report.report }) c.is_stuck-stuck.ensures c.in_ok-report.ensures
