@@ -5,7 +5,7 @@ ghost use Rattle.crl_protocol.specs.Parcels.{load_of, pieces_of};
 ghost use Rattle.crl_pieces.specs.Pieces as pieces;
 ghost use Rattle.crl_pieces.specs.declared.TheConstants.{PIECE_LEN as PIECE};
 ghost use Rattle.crl_outbox.specs.Covers.{message_with};
-ghost use Rattle.crl_outbox.specs.Stacks.{IsStack};
+ghost use Rattle.crl_outbox.specs.Stacks.{AreSheets};
 
 use crate::cover::Cover;
 use crate::paper::{Paper, Sheets};
@@ -122,22 +122,32 @@ impl Mailbox {
         ensures places { length self.new.list + self.new.room ≡ length self.old.list + self.old.room }
     {
         let number = sheets.pieces();
-        self.post_on(cover, bytes, sheets.size, number, sheets.sheets);
+        let Sheets { size, others, last } = sheets;
+        self.post_on(cover, bytes, size, number, others, last);
     }
 
-    fn post_on(&mut self, cover: Cover, bytes: &[u8], size: u32, number: u32, sheets: Vec<Paper>)
-        requires sheets { (size ≡ length bytes.now) × (number ≡ pieces.count size) × IsStack size number sheets.items }
+    fn post_on(
+        &mut self,
+        cover: Cover,
+        bytes: &[u8],
+        size: u32,
+        number: u32,
+        others: Vec<Paper>,
+        last: Paper,
+    )
+        requires sheets { (size ≡ length bytes.now) × (number ≡ pieces.count size) × AreSheets size others.items last }
         requires room { number ≤ self.old.room }
         ensures list { self.new.list ≡ self.old.list ++ pieces_of (message_with cover bytes.now) }
         ensures room { self.new.room + number ≡ self.old.room }
         ensures places { length self.new.list + self.new.room ≡ length self.old.list + self.old.room }
     {
-        let mut sheets = sheets;
+        let mut others = others;
         let mut rest = bytes;
-        for index in 0..number {
-            let sheet = sheets.pop().unwrap();
+        for index in 0..number - 1 {
+            let sheet = others.pop().unwrap();
             rest = self.post_piece(cover, rest, number, index, sheet);
         }
+        let _ = self.post_piece(cover, rest, number, number - 1, last);
     }
 
     /// Posts the first piece of these bytes, and answers the bytes behind it.

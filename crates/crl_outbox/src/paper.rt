@@ -59,11 +59,13 @@ impl Paper {
     }
 }
 
-/// Paper for the pieces of so many bytes, a sheet for each. A contract sees it as the number of bytes.
+/// Paper for the pieces of so many bytes, a sheet for each. A contract sees it as the number of bytes. Bytes of one piece,
+/// which are most, have no list of sheets.
 #[derive(Drop)]
 pub struct Sheets {
     pub(crate) size: u32,
-    pub(crate) sheets: Vec<Paper>,
+    pub(crate) others: Vec<Paper>,
+    pub(crate) last: Paper,
 }
 
 impl Model for Sheets {
@@ -74,7 +76,7 @@ impl Model for Sheets {
 
     ghost view = { λ s. s.size };
 
-    ghost invariant = { λ s. AreSheets s.size s.sheets.items };
+    ghost invariant = { λ s. AreSheets s.size s.others.items s.last };
 }
 
 /// So many sheets for pieces of bytes of this size.
@@ -98,8 +100,9 @@ impl Sheets {
     pub fn new(alloc: Global, size: u32) -> Result<Sheets, OutOfMemory>
         ensures { IfOk result (λ sheets. sheets ≡ size) }
     {
-        let sheets = stack(alloc, size, count(size))?;
-        Ok(Sheets { size, sheets })
+        let others = stack(alloc, size, count(size) - 1)?;
+        let last = Paper::new(alloc, size.min(PIECE_LEN) as usize)?;
+        Ok(Sheets { size, others, last })
     }
 
     /// The number of pieces.
