@@ -1,6 +1,9 @@
 //! Copies become exclusive, and become shared again; and names are dropped from a full cache.
 
 use crate::scripts::{Case, assert_gives};
+use crl_cache::Cache;
+use crl_model::mapping::Cached;
+use crl_model::name::Name;
 use std::test::Fail;
 
 // In the order of the nodes.
@@ -251,5 +254,26 @@ events 38 messages 10
     for case in &cases {
         assert_gives(&rt, rt.alloc(), case)?;
     }
+    Ok(())
+}
+
+/// A region of node 0.
+fn region(serial: u32) -> Cached {
+    Cached {
+        name: Name::new(0, serial),
+        size: 8,
+    }
+}
+
+// A cache with room for one name, and one with room for none.
+#[test]
+fn a_cache_keeps_one_name(rt: HostRuntime) -> Result<(), Fail> {
+    let mut cache = Cache::new(rt.alloc(), 1)?;
+    assert!(rt; cache.keep(region(1)) == None);
+    assert!(rt; cache.keep(region(2)) == Some(Name::new(0, 1)));
+    assert!(rt; cache.take_back(Name::new(0, 1)) == None);
+    assert!(rt; cache.take_back(Name::new(0, 2)) == Some(8));
+    let mut none = Cache::new(rt.alloc(), 0)?;
+    assert!(rt; none.keep(region(1)) == Some(Name::new(0, 1)));
     Ok(())
 }
