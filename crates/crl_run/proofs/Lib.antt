@@ -11,6 +11,7 @@ mod Lasting
 pub mod Laws
 mod Likeness
 mod Playing
+mod Remaining
 mod ReportSums
 mod Returned
 mod Scripts

@@ -15,7 +15,7 @@ use Rattle.crl_world.specs.Choosing.{choices_by, left_in, has_some}
 use Rattle.crl_world.proofs.Laws.{choices_of_run}
 use Rattle.crl_run.specs.PlayerState.{PlayerState}
 use Rattle.crl_run.specs.Playing.{IsPossible, CanChoose, SomeCanChoose, HasChosen, StandsFor}
-use Rattle.crl_run.specs.Turning.{SayWhatIsLeft, IsTurn, SomeTurn, TurnIsTaken, HasGiven}
+use Rattle.crl_run.specs.Turning.{SayWhatIsLeft, IsNextOf, IsTurn, SomeTurn, TurnIsTaken}
 use Rattle.crl_run.proofs.Playing.{counted}
 use Rattle.crl_order.specs.declared.order.Order.{Order}
 use Rattle.crl_order.specs.Words.{words_to_come}
@@ -73,10 +73,6 @@ some_left : (l : List Statement) → not (is_empty l) ≡ has_some l
 some_left [] = refl
 some_left (s ∷ l) = refl
 
-none_there : {A : Type 0} (xs : List A) → 0 ≡ length xs → xs ≡ []
-none_there [] e = refl
-none_there (x ∷ xs) e = absurd (omega arith)
-
 module _ (capacity : ℕ) (blocks : List (List Statement)) (r : Running) (w : World) (players : List PlayerState) (t : IsTurn capacity blocks r w players) (left : List Bool) (says : SayWhatIsLeft blocks players left) where
   same_choices : choices_by (left_in left) w ≡ choices r
   same_choices = ap (λ (x : World). choices_by (left_in left) x) t.stands.world ∙ choices_of_run r (left_in left)
@@ -92,22 +88,20 @@ module _ (capacity : ℕ) (blocks : List (List Statement)) (r : Running) (w : Wo
     possible = at_get (IsPossible r) (choices r) k c (choices_all r) (ap (λ cs. slice_get cs k) (sym same_choices) ∙ e);
   }
 
-  taken : (word k count : ℕ) (c : Choice) → count ≡ length (choices_by (left_in left) w) → k ≡ word % count → slice_get (choices_by (left_in left) w) k ≡ Some c → turn word r ≡ takes_choice c r
-  taken word k count c many is e =
-      turn_takes word r (choices r) c (ap (λ cs. slice_get cs (word % length cs)) (sym same_choices) ∙ ap (λ n. slice_get (choices_by (left_in left) w) (word % n)) (sym many) ∙ ap (λ n. slice_get (choices_by (left_in left) w) n) (sym is) ∙ e)
+  taken : (word : ℕ) (c : Choice) → slice_get (choices_by (left_in left) w) (word % length (choices_by (left_in left) w)) ≡ Some c → turn word r ≡ takes_choice c r
+  taken word c e = turn_takes word r (choices r) c (ap (λ cs. slice_get cs (word % length cs)) (sym same_choices) ∙ e)
 
 module _ (blocks : List (List Statement)) (w : World) (players : List PlayerState) (left : List Bool) (says : SayWhatIsLeft blocks players left) where
   pub turn_counted : SomeTurn blocks w players → length left ≡ w.count
   turn_counted (capacity, r, t) = says.many ∙ sym (counted capacity blocks r w players t.stands t.way)
 
-  pub turn_can : SomeTurn blocks w players → (k : ℕ) (c : Choice) → slice_get (choices_by (left_in left) w) k ≡ Some c → SomeCanChoose blocks w players c
-  turn_can (capacity, r, t) k c e = (capacity, r, can_choose capacity blocks r w players t left says k c e)
+  pub turn_can : (order order' : Order) (c : Choice) → IsNextOf (choices_by (left_in left) w) order order' c → SomeTurn blocks w players → SomeCanChoose blocks w players c
+  turn_can order order' c next (capacity, r, t) = (capacity, r, can_choose capacity blocks r w players t left says _ c next.found)
 
-  pub turn_over : (order : Order) → 0 ≡ length (choices_by (left_in left) w) → TurnIsTaken blocks w players order false w players order
-  turn_over order none capacity r t = (sym (same_choices capacity blocks r w players t left says) ∙ none_there _ none, refl, refl)
+  pub turn_over : (order order' : Order) → choices_by (left_in left) w ≡ [] → TurnIsTaken blocks w players order false w players order'
+  turn_over order order' none capacity r t = (sym (same_choices capacity blocks r w players t left says) ∙ none, refl, refl)
 
-  pub turn_done : (order order' : Order) (v : World) (then : List PlayerState) (k count : ℕ) (c : Choice) → count ≡ length (choices_by (left_in left) w) → k ≡ words_to_come order 1 % count → slice_get (choices_by (left_in left) w) k ≡ Some c
-      → HasGiven order order' → HasChosen blocks w players c v then → TurnIsTaken blocks w players order true v then order'
-  turn_done order order' v then k count c many is e given chosen capacity r t =
-      let done = chosen capacity r (can_choose capacity blocks r w players t left says k c e) in
-      (subst (λ x. StandsFor capacity blocks x v then) (sym (taken capacity blocks r w players t left says (words_to_come order 1) k count c many is e)) done.0, done.1, given)
+  pub turn_done : (order order' : Order) (v : World) (then : List PlayerState) (c : Choice) → IsNextOf (choices_by (left_in left) w) order order' c → HasChosen blocks w players c v then → TurnIsTaken blocks w players order true v then order'
+  turn_done order order' v then c next chosen capacity r t =
+      let done = chosen capacity r (can_choose capacity blocks r w players t left says _ c next.found) in
+      (subst (λ x. StandsFor capacity blocks x v then) (sym (taken capacity blocks r w players t left says (words_to_come order 1) c next.found)) done.0, done.1, next.given)

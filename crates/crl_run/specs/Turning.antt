@@ -1,5 +1,8 @@
 -- A turn of a run.
-use Rattle.std.specs.Prelude.{◌≡◌, ℕ, suc, ◌+◌, ◌<◌, Bool, true, false, not, List, [], length, drop, slice_index_or}
+use Rattle.std.specs.Prelude.{◌≡◌, ℕ, suc, ◌+◌, ◌<◌, ◌%◌, Bool, true, false, not, List, [], length, drop, slice_get, slice_index_or}
+use Rattle.std.specs.declared.option.Option.TheVariants.{Some}
+use Rattle.crl_model.specs.declared.choice.Choice.{Choice}
+use Rattle.crl_model.specs.declared.choice.Choice.TheVariants as choice
 use Rattle.crl_model.specs.declared.statement.Statement.{Statement}
 use Rattle.crl_protocol.specs.Home.{is_empty}
 use Rattle.crl_protocol.specs.World.{World}
@@ -32,6 +35,18 @@ SomeTurn blocks w players = (capacity : ℕ) × (r : Running) × IsTurn capacity
 -- the order gave its next word
 abbrev pub HasGiven : Order → Order → Type 0
 HasGiven old new = (p : ℕ) → words_to_come new (suc p) ≡ words_to_come old (suc (suc p))
+
+-- the choice is the one of these that the order's next word chooses
+pub record IsNextOf (choices : List Choice) (old new : Order) (c : Choice) : Type 0 where
+  pub found : slice_get choices (words_to_come old 1 % length choices) ≡ Some c
+  pub given : HasGiven old new
+
+-- the node of a choice
+abbrev pub node_of : Choice → ℕ
+node_of (choice.Statement i) = i
+node_of (choice.Collect i) = i
+node_of (choice.Handle i place) = i
+node_of (choice.Carry i place) = i
 
 -- They stand for the run after the turn of the next word; or no choice is left, and nothing is changed.
 abbrev pub AfterTurn : ℕ → List (List Statement) → Running → World → List PlayerState → Order → Bool → World → List PlayerState → Order → Type 0

@@ -1,44 +1,84 @@
 //! A turn of a run, and all of its turns.
-ghost use Rattle.std.specs.Prelude.{◌≡◌, ◌<◌, ◌≤◌, ◌^◌, length, map, IfOk, OnOk};
+ghost use Rattle.std.specs.Prelude.{◌≡◌, ◌<◌, ◌≤◌, ◌^◌, [], length, map, drop, not, IfOk, OnOk, MatchOption};
 ghost use Rattle.crl_deeds.specs.Laws.{AreStatements};
 ghost use Rattle.crl_order.specs.Words.{words_to_come};
+ghost use Rattle.crl_protocol.specs.Chosen.{block_of};
+ghost use Rattle.crl_protocol.specs.Home.{is_empty};
 ghost use Rattle.crl_stuck.specs.Ends.{statements_in, most_turns};
+ghost use Rattle.crl_world.specs.Choosing.{choices_by, left_in};
 ghost use Rattle.crl_world.specs.Seen.{world_seen};
-ghost use Rattle.crl_run.specs.Playing.{AreShort};
-ghost use Rattle.crl_run.specs.Turning.{SayWhatIsLeft, SomeTurn, TurnIsTaken, RunIsOver};
+ghost use Rattle.crl_run.specs.Playing.{AreShort, player_of};
+ghost use Rattle.crl_run.specs.Turning.{SayWhatIsLeft, IsNextOf, node_of, SomeTurn, TurnIsTaken, RunIsOver};
 ghost use Rattle.crl_run.specs.Finishing.{IsAtSomeTurn};
 
 use crate::choosing::take_choice;
 use crate::player::Player;
 use crl_member::Member;
-use crl_model::OutOfMemory;
+use crl_model::choice::Choice;
 use crl_model::statement::Statement;
+use crl_model::{NodeNo, OutOfMemory};
 use crl_order::Order;
 use crl_world::World;
 use std::alloc::Global;
 
-/// The list then says which nodes have a statement left, whatever was in it.
+/// Whether node `i` has a statement left.
+fn has_left(blocks: &[Vec<Statement>], players: &[Player], i: usize) -> bool
+    requires nodes { length blocks.now ≡ length players.now }
+    requires node { i < length players.now }
+    ensures { result ≡ not (is_empty (drop (player_of players.now i).place (block_of (map (λ b. b.items) blocks.now) i))) }
+{
+    !players[i].is_done(blocks[i].as_slice())
+}
+
+/// Which nodes have a statement left.
 ///
 /// # Errors
 ///
 /// `OutOfMemory`.
-fn say_what_is_left(
+fn what_is_left(
+    alloc: Global,
     blocks: &[Vec<Statement>],
     players: &[Player],
-    left: &mut Vec<bool>,
-) -> Result<(), OutOfMemory>
+) -> Result<Vec<bool>, OutOfMemory>
     requires nodes { length blocks.now ≡ length players.now }
-    ensures { OnOk result (SayWhatIsLeft (map (λ b. b.items) blocks.now) players.now left.new.items) }
+    ensures { IfOk result (λ left. SayWhatIsLeft (map (λ b. b.items) blocks.now) players.now left.items) }
 {
-    left.clear();
+    let mut left = Vec::with_capacity(alloc, players.len())?;
     for i in 0..players.len() {
-        left.push(!players[i].is_done(blocks[i].as_slice()))?;
+        left.push(has_left(blocks, players, i))?;
     }
-    Ok(())
+    Ok(left)
+}
+
+/// The choice that the next word of the order chooses, if there is one.
+fn next_choice<N: Member>(world: &World<N>, left: &[bool], order: &mut Order) -> Option<Choice>
+    requires { length left.now ≡ length world.now.nodes }
+    ensures { let choices = choices_by (left_in left.now) (world_seen N.state world.now) in
+        MatchOption result (choices ≡ []) (IsNextOf choices order.old order.new) }
+{
+    if let Order::First = order {
+        return world.first_choice(left);
+    }
+    let counts = world.counts(left);
+    if counts.all == 0 {
+        return None;
+    }
+    let place = order.next(counts.all);
+    Some(world.choice(left, &counts, place))
+}
+
+/// The node of a choice.
+fn node_of(choice: Choice) -> NodeNo
+    ensures { result ≡ node_of choice }
+{
+    match choice {
+        Choice::Statement(i) | Choice::Collect(i) => i,
+        Choice::Handle(i, _) | Choice::Carry(i, _) => i,
+    }
 }
 
 /// One turn: the choice is taken at the place that the order's next word gives. Or there is no choice left. The list
-/// `left` is room for what is asked of each node.
+/// `left` says which nodes have a statement left.
 ///
 /// # Errors
 ///
@@ -55,17 +95,18 @@ fn take_turn<N: Member>(
     requires short { AreShort (map (λ b. b.items) blocks.now) }
     requires few { world.old.events < 2 ^ 62 }
     requires some { SomeTurn (map (λ b. b.items) blocks.now) (world_seen N.state world.old) players.old }
-    ensures { let w = world_seen N.state world.old in
+    requires left { SayWhatIsLeft (map (λ b. b.items) blocks.now) players.old left.old.items }
+    ensures turn { let w = world_seen N.state world.old in
         let v = world_seen N.state world.new in
         IfOk result (λ more. TurnIsTaken (map (λ b. b.items) blocks.now) w players.old order.old more v players.new order.new) }
+    ensures left { OnOk result (SayWhatIsLeft (map (λ b. b.items) blocks.now) players.new left.new.items) }
 {
-    say_what_is_left(blocks, players, left)?;
-    let counts = world.counts(left.as_slice());
-    if counts.all == 0 {
+    let Some(choice) = next_choice(world, left.as_slice(), order) else {
         return Ok(false);
-    }
-    let choice = world.choice(left.as_slice(), &counts, order.next(counts.all));
+    };
     take_choice(alloc, blocks, world, players, choice)?;
+    let i = node_of(choice) as usize;
+    left[i] = has_left(blocks, players, i);
     Ok(true)
 }
 
@@ -93,7 +134,7 @@ pub(crate) fn take_turns<N: Member>(
         let v = world_seen N.state world.new in
         OnOk result (RunIsOver (map (λ b. b.items) blocks.now) (words_to_come order.old) w players.old v players.new) }
 {
-    let mut left = Vec::with_capacity(alloc, players.len())?;
+    let mut left = what_is_left(alloc, blocks, players)?;
     for _ in 0..TURN_LIMIT {
         if !take_turn(alloc, blocks, world, players, order, &mut left)? {
             return Ok(());

@@ -1,5 +1,5 @@
 //! The choices of a turn. They take a few steps for each node, and no memory.
-ghost use Rattle.std.specs.Prelude.{◌≡◌, ◌<◌, ◌≤◌, ◌*◌, ◌^◌, length, Some, slice_get};
+ghost use Rattle.std.specs.Prelude.{◌≡◌, ◌+◌, ◌<◌, ◌≤◌, ◌*◌, ◌^◌, [], length, Some, slice_get, MatchOption, MatchResult};
 ghost use Rattle.crl_world.specs.Seen.{world_seen};
 ghost use Rattle.crl_world.specs.Choosing.{choices_in, row_of, choices_by, left_in, AreCounts};
 
@@ -68,21 +68,33 @@ impl<N: Member> World<N> {
         }
     }
 
-    /// The choice at this place of these rows.
-    fn find_in(&self, rows: Rows, left: &[bool], k: u128) -> Choice
+    /// The choice at this place of these rows, or how far behind their end the place is.
+    fn find_in(&self, rows: Rows, left: &[bool], k: u128) -> Result<Choice, u128>
         requires nodes { length left.now ≡ length self.now.nodes }
-        requires there { k < length (row_of rows (left_in left.now) (world_seen N.state self.now)) }
-        ensures { slice_get (row_of rows (left_in left.now) (world_seen N.state self.now)) k ≡ Some result }
+        ensures { let row = row_of rows (left_in left.now) (world_seen N.state self.now) in
+            MatchResult result (λ choice. slice_get row k ≡ Some choice) (λ rest. k ≡ length row + rest) }
     {
         let mut rest = k;
         for i in 0..self.count() {
             let here = self.count_at(rows, left, i);
             if rest < here as u128 {
-                return self.choice_at(rows, left, i, rest as usize);
+                return Ok(self.choice_at(rows, left, i, rest as usize));
             }
             rest -= here as u128;
         }
-        unreachable!()
+        Err(rest)
+    }
+
+    /// The choice at this place of these rows, which is there.
+    fn found_in(&self, rows: Rows, left: &[bool], k: u128) -> Choice
+        requires nodes { length left.now ≡ length self.now.nodes }
+        requires there { k < length (row_of rows (left_in left.now) (world_seen N.state self.now)) }
+        ensures { slice_get (row_of rows (left_in left.now) (world_seen N.state self.now)) k ≡ Some result }
+    {
+        match self.find_in(rows, left, k) {
+            Ok(choice) => choice,
+            Err(_) => unreachable!(),
+        }
     }
 
     /// The choice at this place, from 0.
@@ -93,11 +105,26 @@ impl<N: Member> World<N> {
         ensures { slice_get (choices_by (left_in left.now) (world_seen N.state self.now)) k ≡ Some result }
     {
         if k < counts.nexts {
-            self.find_in(Rows::Nexts, left, k)
+            self.found_in(Rows::Nexts, left, k)
         } else if k < counts.with_inboxes {
-            self.find_in(Rows::Inboxes, left, k - counts.nexts)
+            self.found_in(Rows::Inboxes, left, k - counts.nexts)
         } else {
-            self.find_in(Rows::Outboxes, left, k - counts.with_inboxes)
+            self.found_in(Rows::Outboxes, left, k - counts.with_inboxes)
         }
+    }
+
+    /// The first choice, if there is one. Where a node can go on by itself, no box is looked at.
+    pub fn first_choice(&self, left: &[bool]) -> Option<Choice>
+        requires { length left.now ≡ length self.now.nodes }
+        ensures { let choices = choices_by (left_in left.now) (world_seen N.state self.now) in
+            MatchOption result (choices ≡ []) (λ choice. slice_get choices 0 ≡ Some choice) }
+    {
+        if let Ok(choice) = self.find_in(Rows::Nexts, left, 0) {
+            return Some(choice);
+        }
+        if let Ok(choice) = self.find_in(Rows::Inboxes, left, 0) {
+            return Some(choice);
+        }
+        self.find_in(Rows::Outboxes, left, 0).ok()
     }
 }

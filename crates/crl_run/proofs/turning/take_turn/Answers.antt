@@ -1,39 +1,61 @@
-use Rattle.std.proofs.Common.{◌≡◌, ◌∙◌, ap, sym, subst, length, Some, List, Bool}
-use Rattle.std.specs.Prelude.{slice_get}
+use Rattle.std.proofs.Common.{◌≡◌, ◌∙◌, ◌<◌, ap, sym, subst, length, set, List, [], Bool}
+use Rattle.std.specs.Prelude.{vec_len}
 use Rattle.std.proofs.lemmas.List.{length-map}
 use Rattle.crl_world.specs.Seen.{world_seen}
 use Rattle.crl_world.specs.Choosing.{choices_by, left_in}
+use Rattle.crl_run.specs.Turning.{IsNextOf, node_of}
+use Rattle.crl_run.proofs.Remaining.{node_there, many_stay, left_then}
 use Rattle.crl_run.proofs.TurnSteps.{turn_counted, turn_can, turn_over, turn_done}
 use Rattle.crl_run.proofs.turning.take_turn.Goals as goal
 
-pub counts-counts-requires : goal.counts-counts-requires
-counts-counts-requires g c =
+pub next_choice-requires : goal.next_choice-requires
+next_choice-requires g c =
     ap (λ (l : List Bool). length l) c.as_slice.ensures.value
-    ∙ turn_counted _ (world_seen g.N.Member.state c.args.world.now) c.args.players.now c.say_what_is_left.new.left.items c.in_ok-say_what_is_left.ensures c.requires.some
+    ∙ turn_counted _ (world_seen g.N.Member.state c.args.world.now) c.args.players.now c.args.left.now.items c.requires.left c.requires.some
     ∙ length-map c.args.world.now.nodes g.N.Member.state
 
-pub choice-choice-requires-clause-nodes : goal.choice-choice-requires-clause-nodes
-choice-choice-requires-clause-nodes g c =
-    ap (λ (l : List Bool). length l) c.as_slice-2.ensures.value
-    ∙ turn_counted _ (world_seen g.N.Member.state c.args.world.now) c.args.players.now c.say_what_is_left.new.left.items c.in_ok-say_what_is_left.ensures c.requires.some
-    ∙ length-map c.args.world.now.nodes g.N.Member.state
-
-pub returns-then-counts-eq0 : goal.returns-then-counts-eq0
-returns-then-counts-eq0 g c =
+pub returns-in_default-clause-turn : goal.returns-in_default-clause-turn
+returns-in_default-clause-turn g c =
     let w = world_seen g.N.Member.state c.args.world.now in
-    turn_over _ w c.args.players.now c.say_what_is_left.new.left.items c.in_ok-say_what_is_left.ensures c.args.order.now
-    (sym c.if-counts-eq0.true ∙ c.counts-counts.ensures.all ∙ ap (λ l. length (choices_by (left_in l) w)) c.as_slice.ensures.value)
+    turn_over _ w c.args.players.now c.args.left.now.items c.requires.left c.args.order.now c.next_choice.new.order
+    (subst (λ l. choices_by (left_in l) w ≡ []) c.as_slice.ensures.value (c.in_default.ensures))
 
 pub take_choice-requires-clause-can : goal.take_choice-requires-clause-can
 take_choice-requires-clause-can g c =
     let w = world_seen g.N.Member.state c.args.world.now in
-    turn_can _ w c.args.players.now c.say_what_is_left.new.left.items c.in_ok-say_what_is_left.ensures c.requires.some c.next.result c.choice-choice.result
-    (subst (λ l. slice_get (choices_by (left_in l) w) c.next.result ≡ Some c.choice-choice.result) c.as_slice-2.ensures.value c.choice-choice.ensures)
+    turn_can _ w c.args.players.now c.args.left.now.items c.requires.left c.args.order.now c.next_choice.new.order c.in-Some.choice
+    (subst (λ l. IsNextOf (choices_by (left_in l) w) c.args.order.now c.next_choice.new.order c.in-Some.choice) c.as_slice.ensures.value c.in-Some.ensures) c.requires.some
 
-pub returns : goal.returns
-returns g c =
+pub has_left-requires-clause-node : goal.has_left-requires-clause-node
+has_left-requires-clause-node g c =
     let w = world_seen g.N.Member.state c.args.world.now in
-    turn_done _ w c.args.players.now c.say_what_is_left.new.left.items c.in_ok-say_what_is_left.ensures c.args.order.now c.next.new.self (world_seen g.N.Member.state c.take_choice.new.world) c.take_choice.new.players c.next.result c.counts-counts.result.all c.choice-choice.result
-    (c.counts-counts.ensures.all ∙ ap (λ l. length (choices_by (left_in l) w)) c.as_slice.ensures.value) c.next.ensures.place
-    (subst (λ l. slice_get (choices_by (left_in l) w) c.next.result ≡ Some c.choice-choice.result) c.as_slice-2.ensures.value c.choice-choice.ensures)
-    c.next.ensures.rest c.in_ok-take_choice.ensures
+    let v = world_seen g.N.Member.state c.take_choice.new.world in
+    let can = turn_can _ w c.args.players.now c.args.left.now.items c.requires.left c.args.order.now c.next_choice.new.order c.in-Some.choice
+        (subst (λ l. IsNextOf (choices_by (left_in l) w) c.args.order.now c.next_choice.new.order c.in-Some.choice) c.as_slice.ensures.value c.in-Some.ensures) c.requires.some in
+    subst (λ n. n < length c.take_choice.new.players) (sym c.node_of-i.ensures)
+    (subst (λ n. node_of c.in-Some.choice < n) (sym (many_stay _ w v c.args.players.now c.take_choice.new.players c.in-Some.choice c.in_ok-take_choice.ensures can)) (node_there _ w c.args.players.now c.in-Some.choice can))
+
+pub index_mut-requires : goal.index_mut-requires
+index_mut-requires g c =
+    let w = world_seen g.N.Member.state c.args.world.now in
+    let can = turn_can _ w c.args.players.now c.args.left.now.items c.requires.left c.args.order.now c.next_choice.new.order c.in-Some.choice
+        (subst (λ l. IsNextOf (choices_by (left_in l) w) c.args.order.now c.next_choice.new.order c.in-Some.choice) c.as_slice.ensures.value c.in-Some.ensures) c.requires.some in
+    let long = ap (λ (l : List Bool). length l) c.as_slice.ensures.value in
+    subst (λ n. n < vec_len c.args.left.now) (sym c.node_of-i.ensures)
+    (subst (λ n. node_of c.in-Some.choice < n) (sym c.requires.left.many ∙ sym long ∙ c.as_slice.ensures.len) (node_there _ w c.args.players.now c.in-Some.choice can))
+
+pub returns-clause-turn : goal.returns-clause-turn
+returns-clause-turn g c =
+    let w = world_seen g.N.Member.state c.args.world.now in
+    turn_done _ w c.args.players.now c.args.left.now.items c.requires.left c.args.order.now c.next_choice.new.order (world_seen g.N.Member.state c.take_choice.new.world) c.take_choice.new.players c.in-Some.choice
+    (subst (λ l. IsNextOf (choices_by (left_in l) w) c.args.order.now c.next_choice.new.order c.in-Some.choice) c.as_slice.ensures.value c.in-Some.ensures)
+    c.in_ok-take_choice.ensures
+
+pub returns-clause-left : goal.returns-clause-left
+returns-clause-left g c =
+    let w = world_seen g.N.Member.state c.args.world.now in
+    let v = world_seen g.N.Member.state c.take_choice.new.world in
+    let can = turn_can _ w c.args.players.now c.args.left.now.items c.requires.left c.args.order.now c.next_choice.new.order c.in-Some.choice
+        (subst (λ l. IsNextOf (choices_by (left_in l) w) c.args.order.now c.next_choice.new.order c.in-Some.choice) c.as_slice.ensures.value c.in-Some.ensures) c.requires.some in
+    let then = left_then _ w v c.args.players.now c.take_choice.new.players c.in-Some.choice c.in_ok-take_choice.ensures can c.args.left.now.items c.requires.left in
+    rw (c.has_left.ensures, c.node_of-i.ensures) then
