@@ -43,7 +43,8 @@ impl<N: Member, T: Luggage> Cluster<N, T> {
             MatchResult result (λ answer. IsDone s (event.Call held.old.number call) old answer new)
             (λ fault. (fault.back ≡ call) × IsUndone s old fault.why new) }
     {
-        let Ok(kit) = held.behind.node.ready_call(&call) else {
+        let refusal = held.behind.node.verdict(&call);
+        let Ok(kit) = held.behind.node.ready_call(&call, refusal) else {
             return Err(NotDone {
                 why: StepFault::OutOfMemory,
                 back: call,

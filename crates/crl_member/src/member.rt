@@ -111,15 +111,20 @@ pub trait Member: Sized + Drop {
     fn fits_writing(&self, guard: &Writing) -> bool
         ensures { result ≡ fitting.fits_writing (state self.now) guard.now };
 
-    /// Makes ready what the call takes.
+    /// Makes ready what the call takes, on which this is the node's verdict.
     ///
     /// # Errors
     ///
     /// `OutOfMemory`.
-    fn ready_call(&mut self, call: &Call) -> Result<Self::CallKit, OutOfMemory>
+    fn ready_call(
+        &mut self,
+        call: &Call,
+        refusal: Option<Refusal>,
+    ) -> Result<Self::CallKit, OutOfMemory>
         requires safe { IsSafe (state self.old) }
         requires free { world.is_free (state self.old).activity ≡ true }
         requires may { MayCall (state self.old) call.now }
+        requires judged { refusal ≡ verdict.verdict (state self.old) call.now }
         ensures state { state self.new ≡ state self.old }
         ensures ready { IfOk result (λ kit. can_call call.now kit self.new) };
 
@@ -132,19 +137,25 @@ pub trait Member: Sized + Drop {
         requires ready { can_call call kit self.old }
         ensures { CallIsDone at call (state self.old) (state self.new) result };
 
-    /// Makes the call. The end of a section that is allowed goes by its guard.
+    /// Makes the call, on which this is the node's verdict. The end of a section that is allowed goes by its guard.
     ///
     /// # Errors
     ///
     /// The call, if memory is wanting.
-    fn call(&mut self, at: u64, call: Call) -> Result<Answer<Reading, Writing>, Call>
+    fn call_judged(
+        &mut self,
+        at: u64,
+        call: Call,
+        refusal: Option<Refusal>,
+    ) -> Result<Answer<Reading, Writing>, Call>
         requires safe { IsSafe (state self.old) }
         requires position { at < 2 ^ 62 }
         requires free { world.is_free (state self.old).activity ≡ true }
         requires may { MayCall (state self.old) call }
+        requires judged { refusal ≡ verdict.verdict (state self.old) call }
         ensures { MatchResult result (CallIsDone at call (state self.old) (state self.new)) (λ back. CallIsBack call back (state self.old) (state self.new)) }
     {
-        match self.ready_call(&call) {
+        match self.ready_call(&call, refusal) {
             Ok(kit) => Ok(self.make_call(at, call, kit)),
             Err(_) => Err(call),
         }

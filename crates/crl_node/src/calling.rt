@@ -18,22 +18,26 @@ use crl_guard::{Reading, Writing};
 use crl_model::OutOfMemory;
 use crl_model::activity::Answer;
 use crl_model::bytes::Bytes;
-use crl_model::call::Call;
+use crl_model::call::{Call, Refusal};
 use crl_model::event::Event;
-use crl_verdict::verdict;
 
-/// Makes ready what the call takes.
+/// Makes ready what the call takes, on which this is the node's verdict.
 ///
 /// # Errors
 ///
 /// `OutOfMemory`.
-pub(crate) fn ready_call(desk: &mut Desk, call: &Call) -> Result<CallKit, OutOfMemory>
+pub(crate) fn ready_call(
+    desk: &mut Desk,
+    call: &Call,
+    refusal: Option<Refusal>,
+) -> Result<CallKit, OutOfMemory>
     requires node { IsNode desk.old }
+    requires judged { refusal ≡ verdict.verdict (state desk.old) call.now }
     ensures state { state desk.new ≡ state desk.old }
     ensures kit { IfOk result (λ kit. IsCallReady call.now kit desk.new) }
     ensures node { IsNode desk.new }
 {
-    match verdict(desk, call) {
+    match refusal {
         Some(why) => {
             crl_naming::ready_refuse(desk, call)?;
             Ok(CallKit::Refused(why))

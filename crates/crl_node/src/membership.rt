@@ -89,8 +89,12 @@ impl Member for Node {
         guard.node() == self.desk.me && self.desk.sections.fits_writing(guard)
     }
 
-    fn ready_call(&mut self, call: &Call) -> Result<CallKit, OutOfMemory> {
-        ready_call(&mut self.desk, call)
+    fn ready_call(
+        &mut self,
+        call: &Call,
+        refusal: Option<Refusal>,
+    ) -> Result<CallKit, OutOfMemory> {
+        ready_call(&mut self.desk, call, refusal)
     }
 
     fn make_call(&mut self, at: u64, call: Call, kit: CallKit) -> Answer<Reading, Writing> {

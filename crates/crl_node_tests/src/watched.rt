@@ -150,12 +150,16 @@ impl<N: Member> Member for Watched<N> {
         self.member.fits_writing(guard)
     }
 
-    fn ready_call(&mut self, call: &Call) -> Result<N::CallKit, OutOfMemory> {
+    fn ready_call(
+        &mut self,
+        call: &Call,
+        refusal: Option<Refusal>,
+    ) -> Result<N::CallKit, OutOfMemory> {
         if !self.is_whole {
             return Err(OutOfMemory);
         }
         let before = shown_by(&self.member);
-        let ready = self.member.ready_call(call);
+        let ready = self.member.ready_call(call, refusal);
         self.is_whole = shown_by(&self.member) == before;
         ready
     }

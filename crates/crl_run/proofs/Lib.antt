@@ -7,6 +7,7 @@ mod Events
 mod Fitting
 mod Heard
 mod Holding
+mod Judging
 mod Lasting
 pub mod Laws
 mod Likeness

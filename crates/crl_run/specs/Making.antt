@@ -3,9 +3,11 @@ use Rattle.std.specs.Prelude.{◌≡◌, ℕ, suc, true, false, List, ◌++◌}
 use Rattle.std.specs.declared.option.Option.{Option}
 use Rattle.std.specs.declared.option.Option.TheVariants.{None, Some}
 use Rattle.crl_model.specs.declared.call.Call.{Call}
+use Rattle.crl_model.specs.declared.call.Refusal.{Refusal}
 use Rattle.crl_model.specs.declared.event.Event.{Event}
 use Rattle.crl_model.specs.declared.event.Event.TheVariants as event
 use Rattle.crl_model.specs.declared.statement.Statement.{Statement}
+use Rattle.crl_protocol.specs.Node.{Node}
 use Rattle.crl_protocol.specs.Verdict.{verdict}
 use Rattle.crl_protocol.specs.World.{World, step, is_free, is_enabled}
 use Rattle.crl_talk.specs.Guards.{Given}
@@ -40,6 +42,13 @@ pub record MayBeMade (i : ℕ) (w : World) (a : Act) : Type 0 where
   pub free : is_free (w.nodes i).activity ≡ true
   pub fits : GuardFits i (w.nodes i) a
   pub call : CallOfAct i w a
+
+-- the node's verdict on the call, if what it does is one
+abbrev pub IsJudged : Option Refusal → Node → Act → Type 0
+IsJudged refusal n (act.Call c) = refusal ≡ verdict n c
+IsJudged refusal n (act.EndRead guard) = Unit {0}
+IsJudged refusal n (act.EndWrite guard) = Unit {0}
+IsJudged refusal n act.Inside = Unit {0}
 
 -- It is done, or there was no call.
 abbrev pub IsMade : ℕ → Option Call → World → World → ℕ → List Given → PlayerState → Type 0

@@ -9,7 +9,7 @@ ghost use Rattle.crl_world.specs.Seen.{world_seen, NodesAreSafe};
 ghost use Rattle.crl_world.specs.Stepping.{reading_fits, writing_fits, end_of_reading, end_of_writing, MayEnd, GoesElsewhere};
 ghost use Rattle.crl_run.specs.Acting.{IsShort};
 ghost use Rattle.crl_run.specs.Actors.{asked_call, call_made};
-ghost use Rattle.crl_run.specs.Making.{IsKeptFrom, CallMayCome, MayBeMade, IsMade, MayTake, HasTaken};
+ghost use Rattle.crl_run.specs.Making.{IsKeptFrom, CallMayCome, MayBeMade, IsJudged, IsMade, MayTake, HasTaken};
 
 use crate::act::Act;
 use crate::guards::{Reading, Writing};
@@ -98,7 +98,8 @@ pub(crate) fn carry_message<N: Member>(
     }
 }
 
-/// The node makes the call, and its player keeps the guard of the answer, if it is answered at once.
+/// The node makes the call, on which this is its verdict, and its player keeps the guard of the answer, if it is answered
+/// at once.
 ///
 /// # Errors
 ///
@@ -108,16 +109,18 @@ fn make_call<N: Member>(
     player: &mut Player,
     i: NodeNo,
     call: Call,
+    refusal: Option<Refusal>,
 ) -> Result<(), OutOfMemory>
     requires node { i < length world.old.nodes }
     requires safe { NodesAreSafe (world_seen N.state world.old) }
     requires few { world.old.events < 2 ^ 62 }
     requires may { CallMayCome i (world_seen N.state world.old) call }
+    requires judged { refusal ≡ verdict.verdict ((world_seen N.state world.old).nodes i) call }
     ensures { let w = world_seen N.state world.old in
         OnOk result (IsKeptFrom (event.Call i call) w (world_seen N.state world.new) player.old.place player.old.guards player.new) }
 {
     player.reserve()?;
-    match world.call(i, call) {
+    match world.call_judged(i, call, refusal) {
         Ok(answer) => {
             player.keep(answer);
             Ok(())
@@ -169,7 +172,8 @@ fn end_writing<N: Member>(world: &mut World<N>, guard: Writing)
     }
 }
 
-/// What the node does for a statement is done: a call that it makes, or the end of a section by its guard.
+/// What the node does for a statement, on whose call this is its verdict, is done: a call that it makes, or the end of a
+/// section by its guard.
 ///
 /// # Errors
 ///
@@ -179,16 +183,18 @@ fn make_act<N: Member>(
     player: &mut Player,
     i: NodeNo,
     act: Act,
+    refusal: Option<Refusal>,
 ) -> Result<(), OutOfMemory>
     requires node { i < length world.old.nodes }
     requires safe { NodesAreSafe (world_seen N.state world.old) }
     requires few { world.old.events < 2 ^ 62 }
     requires may { MayBeMade i (world_seen N.state world.old) act }
+    requires judged { IsJudged refusal ((world_seen N.state world.old).nodes i) act }
     ensures { let w = world_seen N.state world.old in
         OnOk result (IsMade i (call_made act) w (world_seen N.state world.new) player.old.place player.old.guards player.new) }
 {
     match act {
-        Act::Call(call) => make_call(world, player, i, call),
+        Act::Call(call) => make_call(world, player, i, call, refusal),
         Act::EndRead(guard) => {
             end_reading(world, guard);
             Ok(())
@@ -254,5 +260,5 @@ pub(crate) fn take_statement<N: Member>(
 {
     let refusal = verdict_on(world, i, statement);
     let act = player.act(alloc, statement, refusal)?;
-    make_act(world, player, i, act)
+    make_act(world, player, i, act, refusal)
 }

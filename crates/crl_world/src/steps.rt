@@ -15,7 +15,7 @@ use crl_guard::{Reading, Writing};
 use crl_member::Member;
 use crl_model::NodeNo;
 use crl_model::activity::Answer;
-use crl_model::call::Call;
+use crl_model::call::{Call, Refusal};
 
 /// The largest number of events of a world, 2^62.
 pub const EVENT_LIMIT: u64 = 0x4000_0000_0000_0000;
@@ -35,11 +35,35 @@ impl<N: Member> World<N> {
             let v = world_seen N.state self.new in
             MatchResult result (StepIsDone (event.Call i call) w v) (CallIsUndone call w v) }
     {
+        let refusal = self.verdict(i, &call);
+        self.call_judged(i, call, refusal)
+    }
+
+    /// The same where the node was asked for its verdict on the call, which is this.
+    ///
+    /// # Errors
+    ///
+    /// `Spent` where there were 2^62 events, and else `OutOfMemory`. The call is handed back.
+    pub fn call_judged(
+        &mut self,
+        i: NodeNo,
+        call: Call,
+        refusal: Option<Refusal>,
+    ) -> Result<Answer<Reading, Writing>, CallFault>
+        requires node { i < length self.old.nodes }
+        requires safe { NodesAreSafe (world_seen N.state self.old) }
+        requires enabled { is_enabled (event.Call i call) (world_seen N.state self.old) ≡ true }
+        requires unguarded { goes_by_guard call (verdict.verdict ((world_seen N.state self.old).nodes i) call) ≡ false }
+        requires judged { refusal ≡ verdict.verdict ((world_seen N.state self.old).nodes i) call }
+        ensures { let w = world_seen N.state self.old in
+            let v = world_seen N.state self.new in
+            MatchResult result (StepIsDone (event.Call i call) w v) (CallIsUndone call w v) }
+    {
         if self.events == EVENT_LIMIT {
             return Err(CallFault::Spent(call));
         }
         let at = self.events;
-        match self.nodes[i as usize].call(at, call) {
+        match self.nodes[i as usize].call_judged(at, call, refusal) {
             Ok(answer) => {
                 self.events = at + 1;
                 Ok(answer)
