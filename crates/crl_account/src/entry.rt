@@ -4,7 +4,7 @@ ghost use Rattle.hex.specs.Hex.{encode_lower};
 ghost use Rattle.crl_account.specs.Text as text;
 ghost use Rattle.crl_account.specs.Text.{name_text, place_text, spaced, part_words, fold_words, what_words, entry_text};
 
-use crate::piece::{push_number, space_bytes, space_name, space_number, space_place, space_word};
+use crate::piece::{push_small, space_bytes, space_name, space_number, space_place, space_word};
 use crate::words::{call_word, refusal_word};
 use crl_model::OutOfMemory;
 use crl_model::call::{CallKind, Refusal};
@@ -147,7 +147,7 @@ fn space_what(what: &What, out: &mut Vec<u8>) -> Result<(), OutOfMemory>
 pub(crate) fn push_entry(entry: &Entry, out: &mut Vec<u8>) -> Result<(), OutOfMemory>
     ensures { OnOk result (out.new.items ≡ out.old.items ++ entry_text entry.now) }
 {
-    push_number(entry.node, out)?;
+    push_small(entry.node as u32, out)?;
     space_what(&entry.what, out)?;
     out.push(b'\n')?;
     Ok(())

@@ -1,5 +1,5 @@
 //! The pieces of a line, each put at the end of what was written. After an error the text is of no use.
-ghost use Rattle.std.specs.Prelude.{◌≡◌, ◌++◌, ◌∷◌, [], codes, OnOk};
+ghost use Rattle.std.specs.Prelude.{◌≡◌, ◌++◌, ◌∷◌, [], codes, decimal, OnOk};
 ghost use Rattle.hex.specs.Hex.{encode_lower};
 ghost use Rattle.crl_account.specs.Text.{name_text, spaced, place_text};
 
@@ -20,6 +20,17 @@ pub(crate) fn push_number<I: Integer>(number: I, out: &mut Vec<u8>) -> Result<()
     Ok(())
 }
 
+/// The number of a node or of a region in decimal. Most have one digit.
+pub(crate) fn push_small(number: u32, out: &mut Vec<u8>) -> Result<(), OutOfMemory>
+    ensures { OnOk result (out.new.items ≡ out.old.items ++ decimal number) }
+{
+    if number < 10 {
+        out.push(b'0' + number as u8)?;
+        return Ok(());
+    }
+    push_number(number, out)
+}
+
 /// Two digits for each byte.
 #[tactic(auto, unfolding(hex::specs::Hex::encode_with))]
 pub(crate) fn push_bytes(bytes: &[u8], out: &mut Vec<u8>) -> Result<(), OutOfMemory>
@@ -37,10 +48,9 @@ pub(crate) fn push_bytes(bytes: &[u8], out: &mut Vec<u8>) -> Result<(), OutOfMem
 pub(crate) fn push_name(name: Name, out: &mut Vec<u8>) -> Result<(), OutOfMemory>
     ensures { OnOk result (out.new.items ≡ out.old.items ++ name_text name) }
 {
-    push_number(name.home, out)?;
-    out.extend_from_slice(b":")?;
-    push_number(name.serial, out)?;
-    Ok(())
+    push_small(name.home as u32, out)?;
+    out.push(b':')?;
+    push_small(name.serial, out)
 }
 
 /// A word behind a space.
