@@ -1,3 +1,4 @@
 pub mod JournalState
 pub mod Merging
+pub mod RecordsState
 pub mod Told

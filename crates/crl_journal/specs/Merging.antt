@@ -1,8 +1,8 @@
 -- The records of all nodes, merged by position.
 use Rattle.std.specs.Prelude.{◌≡◌, ℕ, zero, suc, nat_lt, nat_le, if◌then◌else◌, List, [], ◌∷◌, ◌++◌, map, slice_index_or, slice_set, Option, Some, None}
-use Rattle.std.specs.declared.collections.VecDeque.{VecDeque}
 use Rattle.crl_model.specs.declared.journal.Recorded.{Recorded}
 use Rattle.crl_model.specs.declared.entry.Entry.{Entry}
+use Rattle.crl_journal.specs.RecordsState.{RecordsState}
 use Rattle.crl_journal.specs.declared.merging.Front.{Front}
 
 -- the records before the first one whose position is at least p, and those from it on
@@ -30,8 +30,8 @@ entries_of xs = map (λ (x : Recorded). x.entry) xs
 abbrev pub merged_account : List (List Recorded) → List Entry
 merged_account xss = entries_of (merge_into [] xss)
 
-abbrev pub all_items : {A : Type 0} → List (VecDeque Recorded A) → List (List Recorded)
-all_items queues = map (λ q. q.items) queues
+abbrev pub all_lists : List RecordsState → List (List Recorded)
+all_lists journals = map (λ (r : RecordsState). r.list) journals
 
 -- the one that comes sooner: what was found before, or the first of these records
 abbrev pub next_by : Option Front → ℕ → List Recorded → Option Front

@@ -1,10 +1,11 @@
 //! The records and the notes of one node.
-ghost use Rattle.std.specs.Prelude.{◌≡◌, ◌+◌, ◌<◌, ◌≤◌, ◌++◌, ◌∷◌, [], OnOk, OnErr};
+ghost use Rattle.std.specs.Prelude.{◌≡◌, ◌+◌, ◌<◌, ◌≤◌, ◌++◌, ◌∷◌, [], length, OnOk};
 
+use crate::records::Records;
 use crl_model::OutOfMemory;
 use crl_model::entry::Entry;
 use crl_model::event::Event;
-use crl_model::journal::{Note, Recorded};
+use crl_model::journal::Note;
 use std::alloc::Global;
 use std::marker::Model;
 
@@ -12,7 +13,7 @@ use std::marker::Model;
 /// sees it as a `JournalState`. Only `reserve` takes memory.
 #[derive(Drop)]
 pub struct Journal {
-    records: Vec<Recorded>,
+    records: Records,
     notes: Vec<Note>,
 }
 
@@ -22,7 +23,7 @@ impl Model for Journal {
 
     ghost Value = { JournalState };
 
-    ghost view = { λ j. record { records = j.records.items; record_room = vec_capacity j.records - vec_len j.records; notes = j.notes.items; note_room = vec_capacity j.notes - vec_len j.notes } };
+    ghost view = { λ j. record { records = j.records.list; record_room = j.records.room; notes = j.notes.items; note_room = vec_capacity j.notes - vec_len j.notes } };
 }
 
 impl Journal {
@@ -31,7 +32,7 @@ impl Journal {
         ensures { (result.records ≡ []) × (result.notes ≡ []) }
     {
         Journal {
-            records: Vec::new(alloc),
+            records: Records::new(alloc),
             notes: Vec::new(alloc),
         }
     }
@@ -55,7 +56,7 @@ impl Journal {
     pub fn record_room(&self) -> usize
         ensures { result ≡ self.now.record_room }
     {
-        self.records.capacity() - self.records.len()
+        self.records.room()
     }
 
     /// The number of notes for which there is room.
@@ -72,7 +73,7 @@ impl Journal {
         ensures room { self.new.record_room + 1 ≡ self.old.record_room }
         ensures notes { (self.new.notes ≡ self.old.notes) × (self.new.note_room ≡ self.old.note_room) }
     {
-        self.records.push_reserved(Recorded { position, entry });
+        self.records.push(position, entry);
     }
 
     /// Writes the event at this position.
@@ -85,16 +86,16 @@ impl Journal {
         self.notes.push_reserved(Note { position, event });
     }
 
-    /// The records.
-    pub fn records(&self) -> &[Recorded]
-        ensures { result.now ≡ self.now.records }
+    /// The number of records.
+    pub fn recorded(&self) -> usize
+        ensures { result ≡ length self.now.records }
     {
-        self.records.as_slice()
+        self.records.len()
     }
 
     /// The records; the notes are let go.
-    pub fn into_records(self) -> Vec<Recorded>
-        ensures { result.items ≡ self.records }
+    pub fn into_records(self) -> Records
+        ensures { result.list ≡ self.records }
     {
         self.records
     }

@@ -4,8 +4,11 @@
 
 mod journal;
 mod merging;
+mod queue;
+mod records;
 #[cfg(test)]
 mod tests;
 
 pub use journal::Journal;
 pub use merging::account;
+pub use records::Records;

@@ -1,14 +1,12 @@
 //! Tests: three journals are written and merged.
 ghost use Rattle.std.specs.Prelude.{◌≡◌, ◌<◌, ◌≤◌, length};
 
-use crate::{Journal, account};
+use crate::{Journal, Records, account};
 use crl_model::OutOfMemory;
 use crl_model::entry::{Entry, What};
 use crl_model::event::Event;
-use crl_model::journal::Recorded;
 use crl_model::name::Name;
 use std::alloc::Global;
-use std::collections::VecDeque;
 
 /// An entry that says that a region with this serial was unmapped.
 fn unmapped(serial: u32) -> Entry {
@@ -39,12 +37,12 @@ fn journal(alloc: Global, records: &[(u64, u32)]) -> Result<Journal, OutOfMemory
 }
 
 /// The records of three journals.
-fn queues(alloc: Global, journals: [Journal; 3]) -> Result<Vec<VecDeque<Recorded>>, OutOfMemory> {
-    let mut queues = Vec::with_capacity(alloc, 3)?;
+fn records(alloc: Global, journals: [Journal; 3]) -> Result<Vec<Records>, OutOfMemory> {
+    let mut records = Vec::with_capacity(alloc, 3)?;
     for journal in journals {
-        queues.push(VecDeque::from_vec(journal.into_records()))?;
+        records.push(journal.into_records())?;
     }
-    Ok(queues)
+    Ok(records)
 }
 
 #[test]
@@ -54,13 +52,25 @@ fn three_journals_are_merged(rt: HostRuntime) -> Result<(), OutOfMemory> {
     let two = journal(alloc, &[])?;
     let three = journal(alloc, &[(0, 10), (3, 13), (3, 14), (3, 15)])?;
     assert_eq!(rt; one.notes().len(), 3);
-    let mut queues = queues(alloc, [one, two, three])?;
-    let account = account(alloc, queues.as_mut_slice())?;
+    let account = account(alloc, records(alloc, [one, two, three])?)?;
     let mut due = 10;
     for entry in &account {
         assert_eq!(rt; serial_of(entry), due);
         due = if due < 100 { due + 1 } else { due };
     }
     assert_eq!(rt; account.len(), 7);
+    Ok(())
+}
+
+#[test]
+fn one_journal_is_handed_on(rt: HostRuntime) -> Result<(), OutOfMemory> {
+    let alloc = rt.alloc();
+    let mut only = Vec::with_capacity(alloc, 1)?;
+    only.push(journal(alloc, &[(1, 10), (1, 11), (4, 12)])?.into_records())?;
+    let account = account(alloc, only)?;
+    assert_eq!(rt; account.len(), 3);
+    assert_eq!(rt; serial_of(&account[0]), 10);
+    assert_eq!(rt; serial_of(&account[1]), 11);
+    assert_eq!(rt; serial_of(&account[2]), 12);
     Ok(())
 }

@@ -16,10 +16,10 @@ ghost use Rattle.crl_member.specs.Members.{CallIsDone, CallIsBack, CollectIsDone
 ghost use Rattle.crl_member.specs.Members.{node_after_read, node_after_write, node_after_handle};
 
 use crl_guard::{Reading, Writing};
+use crl_journal::Records;
 use crl_model::activity::{Answer, Awaited};
 use crl_model::call::{Call, Refusal};
 use crl_model::directory::Section;
-use crl_model::journal::Recorded;
 use crl_model::name::Name;
 use crl_model::{NodeNo, OutOfMemory};
 use crl_wire::Received;
@@ -291,13 +291,13 @@ pub trait Member: Sized + Drop {
         Ok(())
     }
 
-    /// What it recorded, the oldest first.
-    fn records(&self) -> &[Recorded]
-        ensures { result.now ≡ (state self.now).records };
+    /// The number of its records.
+    fn recorded(&self) -> usize
+        ensures { result ≡ length (state self.now).records };
 
-    /// The same; the node is let go.
-    fn into_records(self) -> Vec<Recorded>
-        ensures { result.items ≡ (state self).records };
+    /// What it recorded, the oldest first. The node is let go.
+    fn into_records(self) -> Records
+        ensures { result.list ≡ (state self).records };
 
     /// The number of messages that it sent.
     fn posted(&self) -> u128

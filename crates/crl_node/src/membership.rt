@@ -13,12 +13,12 @@ use crate::node::Node;
 use crate::readying::{make_handle, ready_piece};
 use crate::showing::{addressee_in, table_bytes};
 use crl_guard::{Reading, Writing};
+use crl_journal::Records;
 use crl_member::Member;
 use crl_model::activity::{Answer, Awaited};
 use crl_model::call::{Call, Refusal};
 use crl_model::directory::Section;
 use crl_model::event::Event;
-use crl_model::journal::Recorded;
 use crl_model::name::Name;
 use crl_model::stage::Stage;
 use crl_model::{NodeNo, OutOfMemory};
@@ -137,11 +137,11 @@ impl Member for Node {
         make_carry(&mut self.desk, &mut to.desk, at, place, came);
     }
 
-    fn records(&self) -> &[Recorded] {
-        self.desk.journal.records()
+    fn recorded(&self) -> usize {
+        self.desk.journal.recorded()
     }
 
-    fn into_records(self) -> Vec<Recorded> {
+    fn into_records(self) -> Records {
         self.desk.journal.into_records()
     }
 

@@ -2,11 +2,11 @@
 ghost use Rattle.std.specs.Prelude.{◌≡◌};
 
 use crl_guard::{Reading, Writing};
+use crl_journal::Records;
 use crl_member::Member;
 use crl_model::activity::{Answer, Awaited};
 use crl_model::call::{Call, Refusal};
 use crl_model::directory::Section;
-use crl_model::journal::Recorded;
 use crl_model::name::Name;
 use crl_model::{NodeNo, OutOfMemory};
 use crl_wire::Received;
@@ -63,7 +63,7 @@ fn shown_by<N: Member>(member: &N) -> Shown {
         rounds: member.rounds(),
         inbox: member.inbox_len(),
         outbox: member.outbox_len(),
-        records: member.records().len(),
+        records: member.recorded(),
         posted: member.posted(),
         serials: member.serials(),
         first: region_of(member, Name::new(0, 1)),
@@ -218,11 +218,11 @@ impl<N: Member> Member for Watched<N> {
         self.member.make_carry(&mut to.member, at, place, came);
     }
 
-    fn records(&self) -> &[Recorded] {
-        self.member.records()
+    fn recorded(&self) -> usize {
+        self.member.recorded()
     }
 
-    fn into_records(self) -> Vec<Recorded> {
+    fn into_records(self) -> Records {
         self.member.into_records()
     }
 

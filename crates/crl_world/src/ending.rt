@@ -1,24 +1,22 @@
 //! What is read of a world at the end: its account, and how many messages there were.
 ghost use Rattle.std.specs.Prelude.{◌≡◌, ◌<◌, ◌^◌, List, IfOk};
 ghost use Rattle.crl_protocol.specs.World.{messages_sent};
-ghost use Rattle.crl_journal.specs.Merging.{merged_account, all_items};
+ghost use Rattle.crl_journal.specs.Merging.{merged_account, all_lists};
 ghost use Rattle.crl_journal.specs.Told.{EventEntries, entries_told, AreRecordsOf};
 ghost use Rattle.crl_world.specs.Seen.{world_seen};
 ghost use Rattle.crl_world.specs.Records.{records_by_node};
 
 use crate::world::World;
-use crl_journal::account;
+use crl_journal::{Records, account};
 use crl_member::Member;
 use crl_model::OutOfMemory;
 use crl_model::entry::Entry;
-use crl_model::journal::Recorded;
 use std::alloc::Global;
-use std::collections::VecDeque;
 
 impl<N: Member> World<N> {
     /// What each node recorded, by node.
-    fn into_records(self, alloc: Global) -> Result<Vec<VecDeque<Recorded>>, OutOfMemory>
-        ensures { IfOk result (λ lists. all_items lists.items ≡ records_by_node (world_seen N.state self)) }
+    fn into_records(self, alloc: Global) -> Result<Vec<Records>, OutOfMemory>
+        ensures { IfOk result (λ lists. all_lists lists.items ≡ records_by_node (world_seen N.state self)) }
     {
         let World {
             mut nodes,
@@ -28,7 +26,7 @@ impl<N: Member> World<N> {
         let mut lists = Vec::with_capacity(alloc, nodes.len())?;
         while !nodes.is_empty() {
             let node = nodes.remove(0);
-            lists.push(VecDeque::from_vec(node.into_records()))?;
+            lists.push(node.into_records())?;
         }
         Ok(lists)
     }
@@ -44,8 +42,8 @@ impl<N: Member> World<N> {
         ensures told { let lists = records_by_node (world_seen N.state self) in
             IfOk result (λ entries. (run : List EventEntries) → AreRecordsOf run lists → entries.items ≡ entries_told run) }
     {
-        let mut lists = self.into_records(alloc)?;
-        account(alloc, lists.as_mut_slice())
+        let lists = self.into_records(alloc)?;
+        account(alloc, lists)
     }
 
     /// The number of messages that were sent.
