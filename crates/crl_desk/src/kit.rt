@@ -1,14 +1,13 @@
 //! What a section takes that may open.
 ghost use Rattle.std.specs.Prelude.{◌≡◌, ◌+◌, IfOk, OnOk, None};
 ghost use Rattle.crl_model.specs.declared.directory.Section.TheVariants.{Closed};
-ghost use Rattle.crl_protocol.specs.Sections.{count_of, section_at};
+ghost use Rattle.crl_protocol.specs.Sections.{section_at};
 ghost use Rattle.crl_table.specs.Tables.{table_of, HasPlace};
 ghost use Rattle.crl_desk.specs.Desks.{state, size_at, HasRoom};
 ghost use Rattle.crl_desk.specs.Kits.{IsSectionReady, HasPapers};
 
 use crate::desk::Desk;
 use crl_model::OutOfMemory;
-use crl_model::directory::Section;
 use crl_model::name::Name;
 use crl_outbox::{Paper, Sheets};
 use crl_pieces::parts::count;
@@ -85,16 +84,6 @@ impl Desk {
         requires { section_at name (state self.now).sections ≡ Closed }
         ensures { table_of self.now.sections.rows name ≡ None }
     {
-        let _section = self.sections.section(name);
-    }
-
-    /// How many read sections of the region are open here.
-    pub fn reads(&self, name: Name) -> u32
-        ensures { result ≡ count_of (section_at name (state self.now).sections) }
-    {
-        match self.sections.section(name) {
-            Section::Reading(count) => count,
-            Section::Closed | Section::Writing => 0,
-        }
+        self.sections.note(name);
     }
 }

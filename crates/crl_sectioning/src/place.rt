@@ -34,6 +34,5 @@ pub(crate) fn place_of(desk: &Desk, name: Name) -> Place
 pub(crate) fn note_sections(desk: &Desk, name: Name)
     ensures { AreKnown name (state desk.now).sections }
 {
-    let _section = desk.sections.section(name);
-    let _reads = desk.reads(name);
+    desk.sections.note(name);
 }

@@ -1,3 +1,4 @@
 mod Begins
 mod Ends
+mod Known
 mod Rows

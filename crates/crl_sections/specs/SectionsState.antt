@@ -11,7 +11,7 @@ use Rattle.crl_model.specs.Names.{at_name}
 use Rattle.crl_table.specs.Tables.{table_of, has_place, weight}
 use Rattle.crl_protocol.specs.Home.{is_reading}
 use Rattle.crl_protocol.specs.Sections.{Sections, OpenSection, count_of}
-use Rattle.crl_sections.specs.OpenSections.{guards_of, shows_to, is_written_by}
+use Rattle.crl_sections.specs.OpenSections.{guards_in, guards_of, shows_to, is_written_by}
 
 -- the names that have a place, each with its open sections or none; and the last number given
 pub record SectionsState : Type 0 where
@@ -30,6 +30,16 @@ pub record HasSections (name : Name) (r : Option OpenSection) (old new : Section
   pub last : new.last ≡ old.last
   pub rows : table_of new.rows ≡ at_name (table_of old.rows) name r
   pub places : has_place new.rows ≡ has_place old.rows
+
+-- if there is a row, a section of it is open, and the number of its read sections fits a word
+abbrev pub IsOpenRow : Option OpenSection → Type 0
+IsOpenRow None = Unit {0}
+IsOpenRow (Some r) = (0 < guards_in r.section) × (count_of r.section < 2 ^ 32)
+
+-- so many guards are out, and each row has an open section
+pub record AreCounted (out : ℕ) (rows : List (Name × Option OpenSection)) : Type 0 where
+  pub counted : out ≡ weight guards_of rows
+  pub known : (name : Name) → IsOpenRow (table_of rows name)
 
 -- there is no row of a region of which no section is open
 abbrev pub IsAbsentIfClosed : Section → Option OpenSection → Type 0

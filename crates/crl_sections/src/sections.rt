@@ -3,7 +3,7 @@ ghost use Rattle.std.specs.Prelude.{◌≡◌, ◌+◌, ◌<◌, ◌≤◌, ◌^
 ghost use Rattle.crl_model.specs.Names.{at_name};
 ghost use Rattle.crl_table.specs.Tables.{table_of, has_place, HasPlace, weight, weight_of};
 ghost use Rattle.crl_protocol.specs.Home.{is_reading};
-ghost use Rattle.crl_protocol.specs.Sections.{no_sections, section_begins, section_ends, section_at, bytes_at, is_writing};
+ghost use Rattle.crl_protocol.specs.Sections.{no_sections, section_begins, section_ends, section_at, bytes_at, count_of, is_writing};
 ghost use Rattle.crl_sections.specs.OpenSections.{guards_of};
 ghost use Rattle.crl_sections.specs.SectionsState.{sections_of, guards, HasSections, IsAbsentIfClosed, CanBegin, fits_reading, fits_writing};
 
@@ -28,16 +28,13 @@ pub struct Sections {
 }
 
 impl Model for Sections {
-    ghost use Rattle.std.specs.Prelude.{◌≡◌};
-    ghost use Rattle.crl_table.specs.Tables.{weight};
-    ghost use Rattle.crl_sections.specs.OpenSections.{guards_of};
-    ghost use Rattle.crl_sections.specs.SectionsState.{SectionsState};
+    ghost use Rattle.crl_sections.specs.SectionsState.{SectionsState, AreCounted};
 
     ghost Value = { SectionsState };
 
     ghost view = { λ s. record { rows = s.table; last = s.last } };
 
-    ghost invariant = { λ s. s.out ≡ weight guards_of s.table };
+    ghost invariant = { λ s. AreCounted s.out s.table };
 }
 
 impl Sections {
@@ -79,6 +76,15 @@ impl Sections {
             Some(open) => open.section(),
             None => Section::Closed,
         }
+    }
+
+    /// Nothing is kept of a region of which no section is open, and the number of its read sections fits a word.
+    /// This does nothing.
+    pub fn note(&self, name: Name)
+        ensures absent { IsAbsentIfClosed (section_at name (sections_of self.now)) (table_of self.now.rows name) }
+        ensures count { count_of (section_at name (sections_of self.now)) < 2 ^ 32 }
+    {
+        let _ = &self.table;
     }
 
     /// The last number that a section was given, or 0.
