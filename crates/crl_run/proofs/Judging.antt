@@ -1,5 +1,5 @@
 -- The call that a node makes for a statement is the one on which it was asked for its verdict.
-use Rattle.std.proofs.Common.{◌≡◌, ◌∙◌, sym, ap, refl, true, false, Option, Some, None, List, subst}
+use Rattle.std.proofs.Common.{◌≡◌, ◌∙◌, sym, refl, true, false, Option, Some, None, List, subst}
 use Rattle.crl_model.specs.declared.call.Call as calls
 use Rattle.crl_model.specs.declared.call.Call.TheVariants as call
 use Rattle.crl_model.specs.declared.call.Refusal.{Refusal}

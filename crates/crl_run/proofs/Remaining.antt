@@ -14,7 +14,7 @@ use Rattle.crl_protocol.specs.Verdict.{verdict}
 use Rattle.crl_protocol.specs.World.{World}
 use Rattle.crl_protocol.specs.Chosen.{Actor, Running, block_of, is_change, is_allowed, after_change, makes_call, takes_statement, takes_choice, goes_on, with_actor}
 use Rattle.crl_run.specs.PlayerState.{PlayerState}
-use Rattle.crl_run.specs.Playing.{player_of, IsPossible, CanChoose, SomeCanChoose, HasChosen}
+use Rattle.crl_run.specs.Playing.{player_of, IsPossible, SomeCanChoose, HasChosen}
 use Rattle.crl_run.specs.Turning.{SayWhatIsLeft, node_of}
 use Rattle.crl_run.proofs.Playing.{collect_node, handle_node, carry_node, counted}
 

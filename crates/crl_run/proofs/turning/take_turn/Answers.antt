@@ -1,4 +1,4 @@
-use Rattle.std.proofs.Common.{◌≡◌, ◌∙◌, ◌<◌, ap, sym, subst, length, set, List, [], Bool}
+use Rattle.std.proofs.Common.{◌≡◌, ◌∙◌, ◌<◌, ap, sym, subst, length, List, [], Bool}
 use Rattle.std.specs.Prelude.{vec_len}
 use Rattle.std.proofs.lemmas.List.{length-map}
 use Rattle.crl_world.specs.Seen.{world_seen}
@@ -31,7 +31,7 @@ has_left-requires-clause-node g c =
     let w = world_seen g.N.Member.state c.args.world.now in
     let v = world_seen g.N.Member.state c.take_choice.new.world in
     let can = turn_can _ w c.args.players.now c.args.left.now.items c.requires.left c.args.order.now c.next_choice.new.order c.in-Some.choice
-        (subst (λ l. IsNextOf (choices_by (left_in l) w) c.args.order.now c.next_choice.new.order c.in-Some.choice) c.as_slice.ensures.value c.in-Some.ensures) c.requires.some in
+    (subst (λ l. IsNextOf (choices_by (left_in l) w) c.args.order.now c.next_choice.new.order c.in-Some.choice) c.as_slice.ensures.value c.in-Some.ensures) c.requires.some in
     subst (λ n. n < length c.take_choice.new.players) (sym c.node_of-i.ensures)
     (subst (λ n. node_of c.in-Some.choice < n) (sym (many_stay _ w v c.args.players.now c.take_choice.new.players c.in-Some.choice c.in_ok-take_choice.ensures can)) (node_there _ w c.args.players.now c.in-Some.choice can))
 
@@ -39,7 +39,7 @@ pub index_mut-requires : goal.index_mut-requires
 index_mut-requires g c =
     let w = world_seen g.N.Member.state c.args.world.now in
     let can = turn_can _ w c.args.players.now c.args.left.now.items c.requires.left c.args.order.now c.next_choice.new.order c.in-Some.choice
-        (subst (λ l. IsNextOf (choices_by (left_in l) w) c.args.order.now c.next_choice.new.order c.in-Some.choice) c.as_slice.ensures.value c.in-Some.ensures) c.requires.some in
+    (subst (λ l. IsNextOf (choices_by (left_in l) w) c.args.order.now c.next_choice.new.order c.in-Some.choice) c.as_slice.ensures.value c.in-Some.ensures) c.requires.some in
     let long = ap (λ (l : List Bool). length l) c.as_slice.ensures.value in
     subst (λ n. n < vec_len c.args.left.now) (sym c.node_of-i.ensures)
     (subst (λ n. node_of c.in-Some.choice < n) (sym c.requires.left.many ∙ sym long ∙ c.as_slice.ensures.len) (node_there _ w c.args.players.now c.in-Some.choice can))
@@ -56,6 +56,6 @@ returns-clause-left g c =
     let w = world_seen g.N.Member.state c.args.world.now in
     let v = world_seen g.N.Member.state c.take_choice.new.world in
     let can = turn_can _ w c.args.players.now c.args.left.now.items c.requires.left c.args.order.now c.next_choice.new.order c.in-Some.choice
-        (subst (λ l. IsNextOf (choices_by (left_in l) w) c.args.order.now c.next_choice.new.order c.in-Some.choice) c.as_slice.ensures.value c.in-Some.ensures) c.requires.some in
+    (subst (λ l. IsNextOf (choices_by (left_in l) w) c.args.order.now c.next_choice.new.order c.in-Some.choice) c.as_slice.ensures.value c.in-Some.ensures) c.requires.some in
     let then = left_then _ w v c.args.players.now c.take_choice.new.players c.in-Some.choice c.in_ok-take_choice.ensures can c.args.left.now.items c.requires.left in
     rw (c.has_left.ensures, c.node_of-i.ensures) then

@@ -26,11 +26,12 @@ returns-then-not-branch g c =
 
 pub loop-preserved : goal.loop-preserved
 loop-preserved g c =
-    let v = world_seen g.N.Member.state c.take_turn.new.world in
-    (turns_more (map (λ b. b.items) c.args.blocks.now) c.args.order.now (world_seen g.N.Member.state c.args.world.now) c.args.players.now c.requires.statements
-    c.loop.counter (world_seen g.N.Member.state c.loop.world) c.loop.players c.loop.order c.loop.invariant.0 v c.take_turn.new.players c.take_turn.new.order c.requires.begun
-    (subst (λ b. TurnIsTaken (map (λ b. b.items) c.args.blocks.now) (world_seen g.N.Member.state c.loop.world) c.loop.players c.loop.order b v c.take_turn.new.players c.take_turn.new.order) c.if-not-branch.false c.in_ok-take_turn.ensures.turn),
-    c.in_ok-take_turn.ensures.left)
+    let v = world_seen g.N.Member.state c.take_turn.new.world in (
+      turns_more (map (λ b. b.items) c.args.blocks.now) c.args.order.now (world_seen g.N.Member.state c.args.world.now) c.args.players.now c.requires.statements
+          c.loop.counter (world_seen g.N.Member.state c.loop.world) c.loop.players c.loop.order c.loop.invariant.0 v c.take_turn.new.players c.take_turn.new.order c.requires.begun
+          (subst (λ b. TurnIsTaken (map (λ b. b.items) c.args.blocks.now) (world_seen g.N.Member.state c.loop.world) c.loop.players c.loop.order b v c.take_turn.new.players c.take_turn.new.order) c.if-not-branch.false c.in_ok-take_turn.ensures.turn),
+      c.in_ok-take_turn.ensures.left,
+    )
 
 pub returns : goal.returns
 returns g c =
