@@ -37,6 +37,7 @@ impl Model for Shown {
 
 impl Shown {
     /// The bytes, written on the first two papers.
+    #[inline(always)]
     pub fn new(bytes: &[u8], guard: Paper, began: Paper, end: Paper) -> Shown
         requires guard { length bytes.now ≤ guard }
         requires began { length bytes.now ≤ began }
@@ -81,6 +82,7 @@ fn start_entry(write: bool, node: NodeNo, name: Name) -> Entry
 }
 
 /// A section of the region opens with these bytes. Answers its guard.
+#[inline(always)]
 pub fn open_section(
     desk: &mut Desk,
     at: u64,

@@ -19,6 +19,7 @@ use crl_outbox::{Mailbox, Sheets};
 
 impl Homes {
     /// The region's table is taken out.
+    #[inline(always)]
     fn take(&mut self, name: Name) -> Option<Home>
         requires there { IsSome (at_serial name.serial self.old.homes) }
         ensures table { result ≡ Some (table_at name self.old.homes) }
@@ -36,6 +37,7 @@ impl Homes {
     }
 
     /// The region's table is put back.
+    #[inline(always)]
     fn put(&mut self, name: Name, home: Home)
         requires place { name.serial - 1 < length self.old.homes }
         requires gone { at (name.serial - 1) self.old.homes ≡ None }
@@ -213,6 +215,7 @@ impl Homes {
 
 /// The table at this place is taken out.
 #[tactic(auto, using(crate::proofs::Putting::there_below, crate::proofs::Putting::at_is_read, crate::proofs::Putting::put_is_set))]
+#[inline(always)]
 fn take_at(regions: &mut Vec<Option<Home>>, place: usize, nodes: NodeNo) -> Option<Home>
     requires there { IsSome (at place regions.old.items) }
     requires copies { HaveNodes nodes regions.old.items }
@@ -227,6 +230,7 @@ fn take_at(regions: &mut Vec<Option<Home>>, place: usize, nodes: NodeNo) -> Opti
 
 /// The table is put back at this place.
 #[tactic(auto, using(crate::proofs::Putting::put_is_set))]
+#[inline(always)]
 fn put_at(regions: &mut Vec<Option<Home>>, place: usize, home: Home, nodes: NodeNo)
     requires place { place < length regions.old.items }
     requires gone { at place regions.old.items ≡ None }

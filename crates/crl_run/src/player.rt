@@ -88,6 +88,7 @@ impl Player {
     }
 
     /// Keeps the guard of the answer, if it gives one. It takes no memory.
+    #[inline(always)]
     pub fn keep(&mut self, answer: Answer<Reading, Writing>)
         requires { 1 ≤ self.old.room }
         ensures place { self.new.place ≡ self.old.place }
@@ -132,6 +133,7 @@ impl Player {
     }
 
     /// Hands out the newest guard of the region, if there is one.
+    #[inline(always)]
     fn take(&mut self, name: Name) -> Option<Held>
         ensures place { self.new.place ≡ self.old.place }
         ensures taken { option_map given result ≡ newest name self.old.guards }
@@ -173,6 +175,7 @@ impl Player {
     /// # Errors
     ///
     /// `OutOfMemory`.
+    #[inline(always)]
     pub fn act(
         &mut self,
         alloc: Global,
@@ -193,6 +196,7 @@ impl Player {
     }
 
     /// The same for a statement that isn't refused.
+    #[inline(always)]
     fn allowed(&mut self, alloc: Global, statement: &Statement) -> Result<Act, OutOfMemory>
         requires { CanAct None statement.now self.old.guards }
         ensures place { self.new.place ≡ self.old.place }
@@ -220,6 +224,7 @@ impl Player {
     }
 
     /// The same for a call that isn't refused.
+    #[inline(always)]
     fn allowed_call(&mut self, alloc: Global, call: &Call) -> Result<Act, OutOfMemory>
         requires { CanAct None (Statement.Call call.now) self.old.guards }
         ensures place { self.new.place ≡ self.old.place }
@@ -233,6 +238,7 @@ impl Player {
     }
 
     /// Holds one guard more.
+    #[inline(always)]
     fn hold(&mut self, held: Held)
         requires { 1 ≤ self.old.room }
         ensures place { self.new.place ≡ self.old.place }

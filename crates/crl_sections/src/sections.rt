@@ -188,6 +188,7 @@ impl Sections {
     }
 
     /// Takes the sections of the name out, if any are open. Its place stays.
+    #[inline(always)]
     fn take(&mut self, name: Name) -> Option<Open>
         ensures row { result ≡ table_of self.old.rows name }
         ensures gone { HasSections name None self.old self.new }
@@ -202,6 +203,7 @@ impl Sections {
     }
 
     /// The sections of the name, which has a place and none open, are these.
+    #[inline(always)]
     fn put(&mut self, name: Name, row: Open)
         requires place { HasPlace name self.old.rows }
         requires absent { table_of self.old.rows name ≡ None }
