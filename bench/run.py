@@ -300,7 +300,7 @@ def bench_check(bench):
     (run,) = bench.measure(creates, [830_000], ("check", "64"))
     bench.within(run, 0.6, 300)
     (run,) = bench.measure(large_creates, [10_000], ("check", "64"))
-    bench.check(run.memory <= 655 * MEBIBYTE, "at most the regions' bytes")
+    bench.check(run.memory <= 10_000 * 65_536, "at most the regions' bytes")
 
 
 def bench_read(bench):

@@ -168,6 +168,18 @@ fn are_gathered(rt: &impl Abort, alloc: Global, bytes: &[u8], order: &[u32]) -> 
 }
 
 #[test]
+fn a_piece_is_there_once_it_came(rt: HostRuntime) -> Result<(), Fail> {
+    let mut gather = Gather::new(rt.alloc(), 32_769)?;
+    assert!(rt; !gather.has(0));
+    assert!(rt; !gather.has(1));
+    let last = gather.add(1, b"\x05");
+    assert!(rt; !last);
+    assert!(rt; !gather.has(0));
+    assert!(rt; gather.has(1));
+    Ok(())
+}
+
+#[test]
 fn pieces_come_in_any_order(rt: HostRuntime) -> Result<(), Fail> {
     let cases: [(usize, &[u32]); 9] = [
         (1, &[0]),
