@@ -8,6 +8,7 @@ use Rattle.crl_model.specs.declared.directory.Section.TheVariants.{Closed, Readi
 use Rattle.crl_model.specs.declared.call.Call.{Call}
 use Rattle.crl_model.specs.declared.entry.What.{What}
 use Rattle.crl_model.specs.declared.event.Event.{Event}
+use Rattle.crl_model.specs.declared.event.Event.TheVariants as event
 use Rattle.crl_model.specs.declared.message.Kind.{Kind}
 use Rattle.crl_model.specs.Names.{name_eq, at_name, at_node}
 use Rattle.crl_protocol.specs.Places.{at, put}
@@ -19,18 +20,14 @@ use Rattle.crl_protocol.specs.Node.{Node, new_node, Outcome, Done, Free, only, i
 use Rattle.crl_protocol.specs.Calls.{creates}
 use Rattle.crl_protocol.specs.World.{World, WorldStep, new_world, note, put_in, commits, step, IsRunFrom, world_after, world_of, messages_sent_from}
 use Rattle.crl_deeds.specs.Deeds.{Cause, EndsCall, a_read, a_write, Serves, ask_comes, copy_returns, copy_lowers, Copies, home_opens, home_waits, side_opens, home_ends, side_ends, home_serves, home_serves_own, grant_comes, Lives, made, used_up, Rounds, comes_away, Notes, ends_nowhere, Deed, copies, lives, rounds, notes}
-use Rattle.crl_deeds.proofs.Laws.{home_put, home_end, home_none, turn_of, each_at}
-use Rattle.crl_deeds.specs.Turns.{rests, Turn, calls, hears, gathers, answers, carriage}
+use Rattle.crl_deeds.proofs.Laws.{home_put, home_end, home_none, turn_of, each_at, turn_events, length_end}
+use Rattle.crl_deeds.specs.Turns.{noted_as, Turn, calls, hears, gathers, answers, carriage}
 use Rattle.crl_bound.specs.Counters.{BoundsEachRun, CountersFew, CountersFit}
 use Rattle.crl_bound.proofs.Runs.{messages_bounded}
 
 -- Serve grants a copy for an ask that leaves the queue.
 abbrev granted : Home → ℕ
 granted h = h.last + length h.queue
-
-length_one : {A : Type 0} (xs : List A) (x : A) → length (xs ++ x ∷ []) ≡ length xs + 1
-length_one [] x = refl
-length_one (y ∷ xs) x = let h = length_one xs x in omega arith
 
 serve_last : (me : ℕ) (h : Home) (queue : List Asked) → granted (serve me h queue).home ≤ h.last + length queue
 serve_last me h [] = omega arith
@@ -47,13 +44,13 @@ starts_last : (me : ℕ) (write : Bool) (h : Home) → granted (home_starts me w
 unfolding home_starts
 starts_last me write h =
     let s = serve_last me h (h.queue ++ own_ask me write ∷ []) in
-    let l = length_one h.queue (own_ask me write) in
+    let l = length_end h.queue (own_ask me write) in
     cond_both (not write && is_reading h.mine) _ _ (λ (x : HomeStep). granted x.home ≤ granted h + 1) (λ w. omega arith)
     (λ w. cond_both (is_empty h.queue && is_servable h (own_ask me write)) _ _ (λ (x : HomeStep). granted x.home ≤ granted h + 1) (λ w. omega arith) (λ w. omega arith))
 
 takes_ask_last : (me : ℕ) (ask : Asked) (h : Home) → granted (home_takes_ask me ask h).home ≤ granted h + 1
 unfolding home_takes_ask
-takes_ask_last me ask h = let s = serve_last me h (h.queue ++ ask ∷ []) in let l = length_one h.queue ask in omega arith
+takes_ask_last me ask h = let s = serve_last me h (h.queue ++ ask ∷ []) in let l = length_end h.queue ask in omega arith
 
 takes_return_last : (me n : ℕ) (bytes : Option (List ℕ)) (h : Home) → granted (home_takes_return me n bytes h).home ≤ granted h + 1
 unfolding home_takes_return
@@ -201,11 +198,11 @@ made_tables events n size f q k e = go (name_eq (next_name n) q) (sym (home_end 
 
 counters_lives : (events : ℕ) (n : Node) (cause : Cause) (o : Outcome) → Lives n cause o → CountersFit events n → CountersFit (events + 1) o.node
 counters_lives events n cause o (made size e) f =
-    let l = length_one n.homes (Some (new_home n.nodes size)) in
+    let l = length_end n.homes (Some (new_home n.nodes size)) in
     record { serials = let r = f.serials in omega arith; rounds = let r = f.rounds in omega arith; gathering = let r = f.gathering in omega arith; sections = let r = f.sections in omega arith; numbers = λ q r y. (let z = f.numbers q r y in omega arith); versions = made_tables events n size f }
 counters_lives events n cause o (used_up size why e x) f =
     let none : Option Home = None in
-    let l = length_one n.homes none in
+    let l = length_end n.homes none in
     record { serials = let r = f.serials in omega arith; rounds = let r = f.rounds in omega arith; gathering = let r = f.gathering in omega arith; sections = let r = f.sections in omega arith; numbers = λ q r y. (let z = f.numbers q r y in omega arith); versions = λ q k y. tables_more events n f q k (sym (home_none n q) ∙ y) }
 counters_lives events n cause o _ f =
     record { serials = let r = f.serials in omega arith; rounds = let r = f.rounds in omega arith; gathering = let r = f.gathering in omega arith; sections = let r = f.sections in omega arith; numbers = λ q r y. (let z = f.numbers q r y in omega arith); versions = tables_more events n f }
@@ -248,31 +245,26 @@ AllFit w = (i : ℕ) → CountersFit w.events (w.nodes i)
 abbrev Later : ℕ → ℕ → Node → Type 0
 Later events i m = CountersFit (events + 1) m
 
-counters_turn : (w : World) (v : WorldStep) → Turn w v → AllFit w → AllFit v.world
-counters_turn w v (calls i e c o few free may d) h = let f = counters_deed w.events (w.nodes i) _ o d (h i) in each_at (Later w.events) w.nodes i (commits w.events e o) (λ j. fits_as w.events (w.nodes j) (w.nodes j) refl refl (h j) refl refl refl) (record { serials = f.serials; rounds = f.rounds; gathering = f.gathering; sections = f.sections; numbers = f.numbers; versions = f.versions })
-counters_turn w v (hears i e p rest parcels part o few took d) h =
+counters_turn : (w : World) (v : WorldStep) {e : Event} → Turn w e v → AllFit w → AllFit v.world
+counters_turn w v (calls i c o few free may d) h = let f = counters_deed w.events (w.nodes i) _ o d (h i) in each_at (Later w.events) w.nodes i (commits w.events (noted_as w i c) o) (λ j. fits_as w.events (w.nodes j) (w.nodes j) refl refl (h j) refl refl refl) (record { serials = f.serials; rounds = f.rounds; gathering = f.gathering; sections = f.sections; numbers = f.numbers; versions = f.versions })
+counters_turn w v (hears i place p rest parcels part o few took d) h =
     let n : Node = record (w.nodes i) { inbox = rest; parcels = parcels } in
     let g = h i in
     let f = counters_deed w.events n _ o d (record { serials = g.serials; rounds = g.rounds; gathering = g.gathering; sections = g.sections; numbers = g.numbers; versions = g.versions }) in
-    each_at (Later w.events) w.nodes i (commits w.events e o) (λ j. fits_as w.events (w.nodes j) (w.nodes j) refl refl (h j) refl refl refl) (record { serials = f.serials; rounds = f.rounds; gathering = f.gathering; sections = f.sections; numbers = f.numbers; versions = f.versions })
-counters_turn w v (gathers i e p rest parcels key few took keyed) h =
-    each_at (Later w.events) w.nodes i (commits w.events e (only (record (w.nodes i) { inbox = rest; parcels = parcels }) Done)) (λ j. fits_as w.events (w.nodes j) (w.nodes j) refl refl (h j) refl refl refl) (fits_as w.events (w.nodes i) _ refl refl (h i) refl refl refl)
-counters_turn w v (answers i e answer few ready) h =
-    each_at (Later w.events) w.nodes i (commits w.events e (record { node = record (w.nodes i) { activity = Free }; answer = answer; entries = []; posts = [] })) (λ j. fits_as w.events (w.nodes j) (w.nodes j) refl refl (h j) refl refl refl) (fits_as w.events (w.nodes i) _ refl refl (h i) refl refl refl)
-counters_turn w v (carriage i e p rest few took) h =
-    let n : Node = note w.events e (record (w.nodes i) { outbox = rest }) in
+    each_at (Later w.events) w.nodes i (commits w.events (event.Handle i place) o) (λ j. fits_as w.events (w.nodes j) (w.nodes j) refl refl (h j) refl refl refl) (record { serials = f.serials; rounds = f.rounds; gathering = f.gathering; sections = f.sections; numbers = f.numbers; versions = f.versions })
+counters_turn w v (gathers i place p rest parcels key few took keyed) h =
+    each_at (Later w.events) w.nodes i (commits w.events (event.Handle i place) (only (record (w.nodes i) { inbox = rest; parcels = parcels }) Done)) (λ j. fits_as w.events (w.nodes j) (w.nodes j) refl refl (h j) refl refl refl) (fits_as w.events (w.nodes i) _ refl refl (h i) refl refl refl)
+counters_turn w v (answers i answer few ready) h =
+    each_at (Later w.events) w.nodes i (commits w.events (event.Collect i) (record { node = record (w.nodes i) { activity = Free }; answer = answer; entries = []; posts = [] })) (λ j. fits_as w.events (w.nodes j) (w.nodes j) refl refl (h j) refl refl refl) (fits_as w.events (w.nodes i) _ refl refl (h i) refl refl refl)
+counters_turn w v (carriage i place p rest few took) h =
+    let n : Node = note w.events (event.Carry i place) (record (w.nodes i) { outbox = rest }) in
     let sent : (j : ℕ) → CountersFit w.events (at_node w.nodes i n j) = each_at (λ j m. CountersFit w.events m) w.nodes i n h (let g = h i in record { serials = g.serials; rounds = g.rounds; gathering = g.gathering; sections = g.sections; numbers = g.numbers; versions = g.versions }) in
     each_at (Later w.events) (at_node w.nodes i n) p.message.addressee (put_in p (at_node w.nodes i n p.message.addressee)) (λ j. fits_as w.events (at_node w.nodes i n j) (at_node w.nodes i n j) refl refl (sent j) refl refl refl)
     (fits_as w.events (at_node w.nodes i n p.message.addressee) _ refl refl (sent p.message.addressee) refl refl refl)
-counters_turn w v rests h = h
 
 counters_run : (es : List Event) (w : World) → IsRunFrom w es → AllFit w → AllFit (world_after w es)
 counters_run [] w r h = h
 counters_run (e ∷ es) w r h = counters_run es (step e w).world r.1 (counters_turn w (step e w) (turn_of w e r.0) h)
-
-turn_events : (w : World) (v : WorldStep) → Turn w v → v.world.events ≤ w.events + 1
-turn_events w v (calls i e c o few free may d) = omega arith
-turn_events w v _ = omega arith
 
 events_run : (es : List Event) (w : World) → IsRunFrom w es → (world_after w es).events ≤ w.events + length es
 events_run [] w r = omega arith

@@ -3,7 +3,6 @@ mod Costs
 mod Counters
 mod Credits
 mod Deeds
-mod Events
 mod Homes
 pub mod Laws
 mod Numbers

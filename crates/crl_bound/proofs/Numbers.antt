@@ -13,13 +13,12 @@ use Rattle.crl_protocol.specs.Handlers.{purges_waiting}
 use Rattle.crl_protocol.specs.Node.{Node, Activity, Free, Waiting, Ready, ForMap, Outcome, Done, only}
 use Rattle.crl_protocol.specs.World.{World, WorldStep, new_world, note, put_in, commits, carries, step, IsRunFrom, world_after, world_of, messages_sent_from}
 use Rattle.crl_deeds.specs.Deeds.{Cause, Calls, Hears, Copies, Lives, Rounds, Notes, Deed, copies, lives, rounds, notes, home_serves_own, grant_comes, home_waits, side_waits, map_asks, map_comes, map_denied, deletes_own, delete_asks, delete_comes, warns, ends_own, comes_away, comes_home, part_last, result_comes, flushes_own}
-use Rattle.crl_deeds.proofs.Laws.{serves_goes, away_load, waits_own, waits_granted, home_bytes, queue_of, asking_of, going_own, deed_frame, all_took, sum_with, sum_new, known_start, known_step}
+use Rattle.crl_deeds.proofs.Laws.{serves_goes, away_load, waits_own, waits_granted, home_bytes, queue_of, asking_of, going_own, deed_frame, all_took, sum_with, sum_new, known_start, known_step, turn_of}
 use Rattle.crl_deeds.specs.Counts.{Known}
 use Rattle.crl_deeds.specs.NodeFacts.{Leaves, ComesIn, Fits}
 use Rattle.crl_deeds.specs.Tokens.{sum_from, sum}
-use Rattle.crl_deeds.specs.Turns.{Came}
 use Rattle.crl_bound.specs.Counters.{BoundsEachRun, count_calls, count_collects, count_handles, count_carries, EventsFew}
-use Rattle.crl_bound.proofs.Events.{Happens, calls, hears, gathers, answers, carriage, happens}
+use Rattle.crl_deeds.specs.Turns.{noted_as, Turn, calls, hears, gathers, answers, carriage, Came}
 use Rattle.crl_bound.proofs.Budgets.{sum_past}
 use Rattle.crl_bound.proofs.Posts.{deed_posted}
 use Rattle.crl_bound.proofs.Runs.{messages_bounded}
@@ -121,11 +120,11 @@ grown w n cause e o d =
     let same = ap (λ (xs : List Piece). length xs) frame.outbox in
     record { outbox = omega arith; posted = ap (λ x. x + length (pieces_in o.posts)) (deed_posted n cause o d); inbox = ap (λ (xs : List Piece). length xs) frame.inbox }
 
-happens_counts : (w : World) (e : Event) (v : WorldStep) → Known w → Happens w e v → (a b c d : ℕ) → Numbers w a b c d
+turn_counts : (w : World) (e : Event) (v : WorldStep) → Known w → Turn w e v → (a b c d : ℕ) → Numbers w a b c d
     → Numbers v.world (a + count_calls (e ∷ [])) (b + count_collects (e ∷ [])) (c + count_handles (e ∷ [])) (d + count_carries (e ∷ []))
-happens_counts w e v x (calls i call noted o few free may deed) a b c d h =
-    let after : Node = commits w.events noted o in
-    let g = grown w (w.nodes i) (Calls call) noted o deed in
+turn_counts w e v x (calls i call o few free may deed) a b c d h =
+    let after : Node = commits w.events (noted_as w i call) o in
+    let g = grown w (w.nodes i) (Calls call) (noted_as w i call) o deed in
     let one = sum_with waits_out w.count i w.nodes after few in
     let two = sum_with sent w.count i w.nodes after few in
     let three = sum_with waits_in w.count i w.nodes after few in
@@ -133,7 +132,7 @@ happens_counts w e v x (calls i call noted o few free may deed) a b c d h =
     let most = at_most after.activity in
     let g1 = g.outbox in let g2 = g.posted in let g3 = g.inbox in let h1 = h.out in let h2 = h.boxed in let h3 = h.waits in
     record { out = omega arith; boxed = omega arith; waits = omega arith }
-happens_counts w e v x (hears i place p rest parcels part o few took deed) a b c d h =
+turn_counts w e v x (hears i place p rest parcels part o few took deed) a b c d h =
     let n : Node = record (w.nodes i) { inbox = rest; parcels = parcels } in
     let t = x.fits i in
     let mine = all_took (ComesIn (w.nodes i).me) took t.inbox in
@@ -149,7 +148,7 @@ happens_counts w e v x (hears i place p rest parcels part o few took deed) a b c
     let four = sum_with is_busy w.count i w.nodes after few in
     let g1 = g.outbox in let g2 = g.posted in let g3 = g.inbox in let h1 = h.out in let h2 = h.boxed in let h3 = h.waits in
     record { out = omega arith; boxed = omega arith; waits = omega arith }
-happens_counts w e v x (gathers i place p rest parcels key few took keyed) a b c d h =
+turn_counts w e v x (gathers i place p rest parcels key few took keyed) a b c d h =
     let n : Node = record (w.nodes i) { inbox = rest; parcels = parcels } in
     let after : Node = commits w.events (event.Handle i place) (only n Done) in
     let less = length_took took in
@@ -160,7 +159,7 @@ happens_counts w e v x (gathers i place p rest parcels key few took keyed) a b c
     let four = sum_with is_busy w.count i w.nodes after few in
     let h1 = h.out in let h2 = h.boxed in let h3 = h.waits in
     record { out = omega arith; boxed = omega arith; waits = omega arith }
-happens_counts w e v x (answers i answer few ready) a b c d h =
+turn_counts w e v x (answers i answer few ready) a b c d h =
     let n = w.nodes i in
     let o : Outcome = record { node = record n { activity = Free }; answer = answer; entries = []; posts = [] } in
     let after : Node = commits w.events (event.Collect i) o in
@@ -172,7 +171,7 @@ happens_counts w e v x (answers i answer few ready) a b c d h =
     let four = sum_with is_busy w.count i w.nodes after few in
     let h1 = h.out in let h2 = h.boxed in let h3 = h.waits in
     record { out = omega arith; boxed = omega arith; waits = omega arith }
-happens_counts w e v x (carriage i place p rest few took) a b c d h = go (cases_lt p.message.addressee w.count)
+turn_counts w e v x (carriage i place p rest few took) a b c d h = go (cases_lt p.message.addressee w.count)
   where
     after : Node
     after = note w.events (event.Carry i place) (record (w.nodes i) { outbox = rest })
@@ -240,7 +239,7 @@ one_carries (event.Carry i place) es = omega arith
 numbers_run : (es : List Event) (w : World) (a b c d : ℕ) → IsRunFrom w es → Known w → Numbers w a b c d → Numbers (world_after w es) (a + count_calls es) (b + count_collects es) (c + count_handles es) (d + count_carries es)
 numbers_run [] w a b c d r x h = let h1 = h.out in let h2 = h.boxed in let h3 = h.waits in record { out = omega arith; boxed = omega arith; waits = omega arith }
 numbers_run (e ∷ es) w a b c d r x h =
-    let n = happens_counts w e (step e w) x (happens w e r.0) a b c d h in
+    let n = turn_counts w e (step e w) x (turn_of w e r.0) a b c d h in
     let m = numbers_run es (step e w).world _ _ _ _ r.1 (known_step w e r.0 x) n in
     let k1 = one_calls e es in let k2 = one_collects e es in let k3 = one_handles e es in let k4 = one_carries e es in
     let m1 = m.out in let m2 = m.boxed in let m3 = m.waits in

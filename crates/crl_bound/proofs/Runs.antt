@@ -19,18 +19,17 @@ use Rattle.crl_protocol.specs.Talk.{created_size, pieces_or_one, created_pieces,
 use Rattle.crl_protocol.specs.World.{World, WorldStep, new_world, note, put_in, steps_node, carries, step, is_enabled, IsRunFrom, world_after, account_from, account, world_of, messages_sent_from}
 use Rattle.crl_deeds.specs.Deeds.{Cause, Calls, Hears, Deed}
 use Rattle.crl_coherence.specs.Pairs.{SectionFits}
-use Rattle.crl_deeds.proofs.Laws.{away_load, deed_frame, all_took, each_at, weigh_took, sum_new, known_start, known_step}
+use Rattle.crl_deeds.proofs.Laws.{away_load, deed_frame, all_took, each_at, weigh_took, sum_new, known_start, known_step, turn_of}
 use Rattle.crl_deeds.specs.Counts.{Known}
 use Rattle.crl_deeds.specs.NodeFacts.{Leaves, ComesIn, Fits}
 use Rattle.crl_deeds.specs.Tokens.{on_piece, sum_from}
-use Rattle.crl_deeds.specs.Turns.{Came}
 use Rattle.crl_bound.specs.Counters.{BoundsEachRun, MessagesFew}
 use Rattle.crl_bound.proofs.Regions.{SidesFit, sides_in_runs}
 use Rattle.crl_bound.proofs.Costs.{token, token_part, token_keyed, count_some}
 use Rattle.crl_bound.proofs.Sides.{IsExclusive}
-use Rattle.crl_bound.proofs.Credits.{name_credit, parts_credit, fixed_credit, sum_names, Distinct, still_moved}
+use Rattle.crl_bound.proofs.Credits.{name_credit, sum_names, still_moved}
 use Rattle.crl_bound.proofs.Deeds.{Facts, Paid, paid_deed, parts_none}
-use Rattle.crl_bound.proofs.Events.{Happens, calls, hears, gathers, answers, carriage, happens}
+use Rattle.crl_deeds.specs.Turns.{noted_as, Turn, calls, hears, gathers, answers, carriage, Came}
 use Rattle.crl_bound.proofs.Budgets.{spends, Budget, budget_outcome, budget_carried}
 use Rattle.crl_bound.proofs.Tables.{table_size, size_at, Tables, first_of, created_append, first_none, table_deed, keeps_tables, tables_outcome}
 
@@ -93,14 +92,14 @@ pub record Pays (P : Name → ℕ) (v : WorldStep) (es : List Entry) (budget : �
 tables_same : (w v : World) (es : List Entry) → ((q : Name) → size_at v q ≡ size_at w q) → Tables w es → Tables v (es ++ [])
 tables_same w v es same h q = same q ∙ h q ∙ sym (first_none (created_size q es)) ∙ sym (created_append q es [])
 
-pub pays : (P : Name → ℕ) (w : World) (es : List Entry) (budget : ℕ) (e : Event) (v : WorldStep) → Happens w e v → Open P w es → Budget P w budget → Pays P v es (budget + bound_at w.count es e)
-pays P w es budget e v (calls i c noted o few free may d) x h =
+pub pays : (P : Name → ℕ) (w : World) (es : List Entry) (budget : ℕ) (e : Event) (v : WorldStep) → Turn w e v → Open P w es → Budget P w budget → Pays P v es (budget + bound_at w.count es e)
+pays P w es budget e v (calls i c o few free may d) x h =
     let f = facts P w es x i few in
     let mes : (k : ℕ) → (w.nodes k).me ≡ k = λ k. (x.known.fits k).me in
     record {
-      budget_after = budget_outcome P w i (w.nodes i) noted o 0 (bound_of w.count es c) budget few mes (deed_frame _ _ _ d) (mes i) (posted_same _ _ o d) (λ names. (let y = names_me P w mes i names in omega arith))
+      budget_after = budget_outcome P w i (w.nodes i) (noted_as w i c) o 0 (bound_of w.count es c) budget few mes (deed_frame _ _ _ d) (mes i) (posted_same _ _ o d) (λ names. (let y = names_me P w mes i names in omega arith))
           (paid_deed P w.count es i (w.nodes i) (Calls c) o d (x.known.fits i) tt free may f) h;
-      tables_after = tables_outcome w es i (w.nodes i) noted o (λ q. refl) (mes i) (table_deed P w.count es i (w.nodes i) (Calls c) o d (x.known.fits i) may f) x.tables;
+      tables_after = tables_outcome w es i (w.nodes i) (noted_as w i c) o (λ q. refl) (mes i) (table_deed P w.count es i (w.nodes i) (Calls c) o d (x.known.fits i) may f) x.tables;
     }
 pays P w es budget e v (hears i place p rest parcels part o few took d) x h =
     let n = hearer w i rest parcels in
@@ -190,7 +189,7 @@ bound_run count capacity (e ∷ rest) front w es all budget f same r h =
     let start = new_world count capacity in
     let v = (step e w).world in
     let x : Open (λ q. created_pieces q all) w es = subst (λ a. Open (λ q. created_pieces q a) w es) same (open_at count capacity front w es (account_from w (e ∷ rest)) f) in
-    let p = pays (λ q. created_pieces q all) w es budget e (step e w) (happens w e r.0) x h in
+    let p = pays (λ q. created_pieces q all) w es budget e (step e w) (turn_of w e r.0) x h in
     let g : Front count capacity (front ++ e ∷ []) v (es ++ (step e w).entries) = record {
       world = world_grows start front e ∙ ap (λ u. (step e u).world) f.world;
       run = run_snoc start front e f.run (subst (λ u. is_enabled e u ≡ true) (sym f.world) r.0);

@@ -39,10 +39,6 @@ use Rattle.crl_calls.proofs.Walking.{last_event, last_around, walk_event, walk_u
 use Rattle.crl_calls.proofs.Telling.{moves_none, moves_walk, moves_then, moves_full, does_now, does_after, answered_at_once}
 use Rattle.crl_calls.proofs.Asked.{caller_on}
 
-pub allowed : (o : Option Refusal) → is_allowed o ≡ true → o ≡ None
-allowed None e = refl
-allowed (Some why) e = cc
-
 -- A node refuses a change of no bytes where it refuses the end of the write section.
 lt_zero : (k : ℕ) → (b : Bool) → nat_lt k 0 ≡ b → b ≡ false
 lt_zero k true e = absurd (omega (arith, ltb-true k 0 e))

@@ -21,12 +21,7 @@ use Rattle.crl_cluster.specs.declared.faults.StepFault.{StepFault}
 use Rattle.crl_cluster.specs.Faults.{fault_of}
 use Rattle.crl_cluster.proofs.Growing.{past, past_twice, holds_as, has_as}
 use Rattle.crl_cluster.proofs.Worlds.{run_of, count_at, touches_as, enabled_as}
-
-pub touches_own : (e : Event) (w : World) → touches e w (node_of e) ≡ true
-touches_own (event.Call i c) w = eq-eqb i i refl
-touches_own (event.Collect i) w = eq-eqb i i refl
-touches_own (event.Handle i place) w = eq-eqb i i refl
-touches_own (event.Carry i place) w = or_left _ _ (eq-eqb i i refl)
+use Rattle.crl_deeds.proofs.Laws.{touches_own}
 
 -- the pass has each node that the event touches
 abbrev pub HasTouched : Shape → View → Event → Type 0

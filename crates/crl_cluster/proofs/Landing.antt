@@ -16,10 +16,10 @@ use Rattle.crl_protocol.specs.Verdict.{verdict}
 use Rattle.crl_protocol.specs.Calls.{node_calls, call_or_refuse, takes_call}
 use Rattle.crl_protocol.specs.World.{World, new_world, step, commits, noted_call, collects, handles_at, carries, put_in, IsRunFrom}
 use Rattle.crl_member.specs.Members.{CallIsDone, CollectIsDone, node_after_handle, after_taken, after_sent, after_put, addressee_of}
-use Rattle.crl_history.proofs.Laws.{world_then}
 use Rattle.crl_turns.specs.declared.turned.Shape.{Shape}
 use Rattle.crl_cluster.specs.Standing.{world_at}
 use Rattle.crl_cluster.proofs.Worlds.{events_at, me_at}
+use Rattle.crl_deeds.proofs.Laws.{world_grows}
 
 at_here : {A : Type 0} (f : ℕ → A) (i : ℕ) (v : A) → at_node f i v i ≡ v
 at_here f i v = ap (λ b. if b then v else f i) (eq-eqb i i refl)
@@ -34,7 +34,7 @@ module _ (s : Shape) (i : ℕ) (before : List Event) (run : IsRunFrom (new_world
   lands_as E e o new there did =
       did ∙ ap₂ (λ (k : ℕ) (m : Node). commits k (E m.me) (o m)) (place ∙ sym (events_at s before run)) is
       ∙ ap (λ k. commits w.events (E k) (o (w.nodes i))) (me_at s before run i)
-      ∙ sym (there ∙ at_here w.nodes i _) ∙ sym (ap (λ (u : World). u.nodes i) (world_then (new_world s.parts s.extra) before e))
+      ∙ sym (there ∙ at_here w.nodes i _) ∙ sym (ap (λ (u : World). u.nodes i) (world_grows (new_world s.parts s.extra) before e))
 
   pub call_lands : (c : Call) (new : Node) (answer : Answer) → CallIsDone at c n new answer → new ≡ (world_at s (before ++ event.Call i c ∷ [])).nodes i
   unfolding step
@@ -44,7 +44,7 @@ module _ (s : Shape) (i : ℕ) (before : List Event) (run : IsRunFrom (new_world
       lands_as_call c new did =
           did ∙ ap₂ (λ (k : ℕ) (m : Node). commits k (event.Call m.me (noted_call (verdict m c) c)) (node_calls c m)) (place ∙ sym (events_at s before run)) is
           ∙ ap (λ k. commits w.events (event.Call k (noted_call (verdict (w.nodes i) c) c)) (node_calls c (w.nodes i))) (me_at s before run i)
-          ∙ sym (at_here w.nodes i _) ∙ sym (ap (λ (u : World). u.nodes i) (world_then (new_world s.parts s.extra) before (event.Call i c)))
+          ∙ sym (at_here w.nodes i _) ∙ sym (ap (λ (u : World). u.nodes i) (world_grows (new_world s.parts s.extra) before (event.Call i c)))
 
   pub call_answers : (c : Call) (new : Node) (answer : Answer) → CallIsDone at c n new answer → answer ≡ (step (event.Call i c) w).answer
   unfolding step
@@ -68,7 +68,7 @@ module _ (s : Shape) (i : ℕ) (before : List Event) (run : IsRunFrom (new_world
       did ∙ ap₂ (λ (k : ℕ) (m : Node). node_after_handle k place_in m) (place ∙ sym (events_at s before run)) is
       ∙ ap (λ k. after_taken w.events (event.Handle k place_in) (take_out place_in (w.nodes i).inbox) (w.nodes i)) (me_at s before run i)
       ∙ sym (handled_here (event.Handle i place_in) (take_out place_in (w.nodes i).inbox) there)
-      ∙ sym (ap (λ (u : World). u.nodes i) (world_then (new_world s.parts s.extra) before (event.Handle i place_in)))
+      ∙ sym (ap (λ (u : World). u.nodes i) (world_grows (new_world s.parts s.extra) before (event.Handle i place_in)))
 
 -- A piece that goes to another node: what is left of its sender, and of its addressee.
 at_else : {A : Type 0} (f : ℕ → A) (i m : ℕ) (v : A) → i ≢ m → at_node f i v m ≡ f m
@@ -101,14 +101,14 @@ module _ (s : Shape) (i j place : ℕ) (before : List Event) (run : IsRunFrom (n
       did ∙ ap₂ (λ (k : ℕ) (x : Node). after_sent k (event.Carry x.me place) (take_out place x.outbox) x) (at_is ∙ sym (events_at s before run)) n_is
       ∙ ap (λ k. after_sent v.events (event.Carry k place) o (v.nodes i)) (me_at s before run i)
       ∙ sym (sent_here i (event.Carry i place) o v there away)
-      ∙ sym (ap (λ (u : World). u.nodes i) (world_then (new_world s.parts s.extra) before (event.Carry i place)))
+      ∙ sym (ap (λ (u : World). u.nodes i) (world_grows (new_world s.parts s.extra) before (event.Carry i place)))
 
   pub carry_puts : (new : Node) → new ≡ after_put (take_out place n.outbox) m → new ≡ (world_at s (before ++ event.Carry i place ∷ [])).nodes j
   unfolding step
   carry_puts new did =
       did ∙ ap₂ (λ (x y : Node). after_put (take_out place x.outbox) y) n_is m_is
       ∙ sym (subst (λ k. (carries i (event.Carry i place) o v).world.nodes k ≡ after_put o (v.nodes k)) to (put_there i (event.Carry i place) o v there away))
-      ∙ sym (ap (λ (u : World). u.nodes j) (world_then (new_world s.parts s.extra) before (event.Carry i place)))
+      ∙ sym (ap (λ (u : World). u.nodes j) (world_grows (new_world s.parts s.extra) before (event.Carry i place)))
 
 -- An end that is allowed is answered with Done.
 end_over : (name : Name) (at_home : Home → HomeStep) (at_other : Remote → RemoteStep) (r : Option Remote) (n : Node) → (ends_over_remote name at_other r n).answer ≡ Done

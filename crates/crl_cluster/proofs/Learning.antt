@@ -14,9 +14,10 @@ use Rattle.crl_cluster.specs.Standing.{world_at, MayCome}
 use Rattle.crl_cluster.specs.Clusters.{GrowsPast, held_by}
 use Rattle.crl_cluster.specs.Acting.{ComesAt, IsMoved, IsUndone}
 use Rattle.crl_cluster.specs.Faults.{fault_of}
-use Rattle.crl_cluster.proofs.Coming.{HasTouched, touches_own}
+use Rattle.crl_cluster.proofs.Coming.{HasTouched}
 use Rattle.crl_cluster.proofs.Growing.{past_twice, holds_as, has_as}
 use Rattle.crl_cluster.proofs.Worlds.{run_of, count_at, touches_as, enabled_as}
+use Rattle.crl_deeds.proofs.Laws.{touches_own}
 
 -- The front has grown past the nodes that the pass holds. A load of the count tells now what it would have told before.
 pub record Learns (s : Shape) (old now : View) : Type 0 where

@@ -34,7 +34,8 @@ use Rattle.crl_cluster.specs.Clusters.{view_of}
 use Rattle.crl_cluster.specs.Acting.{Comes, ComesAt, IsDone}
 use Rattle.crl_cluster.proofs.Growing.{has_as}
 use Rattle.crl_cluster.proofs.Landing.{call_lands, call_answers, collect_lands, collect_answers, handle_lands, carry_sends, carry_puts}
-use Rattle.crl_cluster.proofs.Worlds.{count_at, safe_at, run_of, can_take}
+use Rattle.crl_cluster.proofs.Worlds.{count_at, safe_at, run_of}
+use Rattle.crl_deeds.proofs.Laws.{taken_there}
 
 both : (a b : Bool) → a ≡ true → b ≡ true → (a && b) ≡ true
 both a b x y = ap₂ (λ (p q : Bool). p && q) x y
@@ -153,7 +154,7 @@ module _ (s : Shape) (old new : View) (i : ℕ) (has : HasValue i old) (at : ℕ
   handle_done place there came did =
       let e = event.Handle i place in
       lands e came (handle_lands s i came.comes.before (run_before e came) at came.at_is n (before_is e came) place m
-      (can_take place ((world_at s came.comes.before).nodes i).inbox (subst (λ (k : Node). place < length k.inbox) (before_is e came) there)) did)
+      (taken_there place ((world_at s came.comes.before).nodes i).inbox (subst (λ (k : Node). place < length k.inbox) (before_is e came) there)) did)
 
   -- the end of a section, which is allowed and answered with Done
   pub end_done : (c : Call) → verdict n c ≡ None → (node_calls c n).answer ≡ Done → ComesAt at s (event.Call i c) old new → m ≡ commits at (event.Call n.me (without_bytes c)) (node_calls c n)
@@ -171,7 +172,7 @@ module _ (s : Shape) (front : List Event) (run : IsRunFrom (new_world s.parts s.
   leaves (Some t) e some = let leave = pieces_leave s.parts s.extra front run i place t few e in (leave.addressee, leave.other)
 
   pub some_there : take_out place ((world_at s front).nodes i).outbox ≡ None → ⊥
-  some_there = can_take place ((world_at s front).nodes i).outbox (subst (λ (k : Node). place < length k.outbox) is there)
+  some_there = taken_there place ((world_at s front).nodes i).outbox (subst (λ (k : Node). place < length k.outbox) is there)
 
   pub addressee_away : (addressee_of (take_out place n.outbox) < s.parts) × (addressee_of (take_out place n.outbox) ≢ i)
   addressee_away = subst (λ (k : Node). (addressee_of (take_out place k.outbox) < s.parts) × (addressee_of (take_out place k.outbox) ≢ i)) (sym is)

@@ -9,7 +9,7 @@ use Rattle.crl_protocol.specs.Node.{Node}
 use Rattle.crl_protocol.specs.Verdict.{verdict}
 use Rattle.crl_protocol.specs.World.{World, new_world, world_after, step, is_enabled, is_free, is_ready, is_call, handles_at, carries, IsRunFrom}
 use Rattle.crl_deeds.specs.Laws.{touches, node_of, goes_to}
-use Rattle.crl_deeds.proofs.Laws.{turn_of, turn_count}
+use Rattle.crl_deeds.proofs.Laws.{turn_of, turn_count, taken_there, run_events, run_count}
 use Rattle.crl_safety.specs.Safety.{IsSafe}
 use Rattle.crl_sound.proofs.Laws.{numbers_known, nodes_safe}
 use Rattle.crl_turns.specs.declared.turned.Shape.{Shape}
@@ -20,50 +20,15 @@ runs_from : (w : World) (es : List Event) → ((before : List Event) (e : Event)
 runs_from w [] runs = tt
 runs_from w (e ∷ es) runs = (runs [] e es refl, runs_from (step e w).world es (λ before x after is. runs (e ∷ before) x after (λ k. e ∷ is k)))
 
-count_from : (w : World) (es : List Event) → IsRunFrom w es → (world_after w es).count ≡ w.count
-count_from w [] r = refl
-count_from w (e ∷ es) r = count_from (step e w).world es r.1 ∙ turn_count w (step e w) (turn_of w e r.0)
-
-behind_some : {A : Type 0} (x : A) (o : Option (Taken A)) → behind x o ≡ None → o ≡ None
-behind_some x None e = refl
-behind_some x (Some t) e = cc
-
--- what is at a place below the length can be taken out
-pub can_take : {A : Type 0} (k : ℕ) (xs : List A) → k < length xs → take_out k xs ≡ None → ⊥
-can_take k [] lt e = omega arith
-can_take zero (x ∷ xs) lt e = cc
-can_take (suc k) (x ∷ xs) lt e = can_take k xs (omega arith) (behind_some x (take_out k xs) e)
-
-handle_counts : (i : ℕ) (e : Event) (o : Option (Taken Piece)) (w : World) → (o ≡ None → ⊥) → (handles_at i e o w).world.events ≡ w.events + 1
-handle_counts i e None w there = absurd (there refl)
-handle_counts i e (Some t) w there = refl
-
-carry_counts : (i : ℕ) (e : Event) (o : Option (Taken Piece)) (w : World) → (o ≡ None → ⊥) → (carries i e o w).world.events ≡ w.events + 1
-carry_counts i e None w there = absurd (there refl)
-carry_counts i e (Some t) w there = refl
-
-one_more : (e : Event) (w : World) → is_enabled e w ≡ true → (step e w).world.events ≡ w.events + 1
-unfolding step is_enabled
-one_more (event.Call i c) w may = refl
-one_more (event.Collect i) w may = refl
-one_more (event.Handle i place) w may = handle_counts i (event.Handle i place) (take_out place (w.nodes i).inbox) w (can_take place (w.nodes i).inbox (ltb-true _ _ (and_parts _ _ may).1))
-one_more (event.Carry i place) w may = carry_counts i (event.Carry i place) (take_out place (w.nodes i).outbox) w (can_take place (w.nodes i).outbox (ltb-true _ _ (and_parts _ _ may).1))
-
-events_from : (w : World) (es : List Event) → IsRunFrom w es → (world_after w es).events ≡ w.events + length es
-events_from w [] r = omega arith
-events_from w (e ∷ es) r =
-    let one = one_more e w r.0 in
-    let rest = events_from (step e w).world es r.1 in omega (arith, one, rest)
-
 pub run_of : (s : Shape) (front : List Event) → Runs (MayCome s) front → IsRunFrom (new_world s.parts s.extra) front
 run_of s front runs = runs_from (new_world s.parts s.extra) front runs
 
 module _ (s : Shape) (front : List Event) (run : IsRunFrom (new_world s.parts s.extra) front) where
   pub count_at : (world_at s front).count ≡ s.parts
-  count_at = count_from (new_world s.parts s.extra) front run
+  count_at = run_count (new_world s.parts s.extra) front run
 
   pub events_at : (world_at s front).events ≡ length front
-  events_at = let all = events_from (new_world s.parts s.extra) front run in omega (arith, all)
+  events_at = let all = run_events (new_world s.parts s.extra) front run in omega (arith, all)
 
   pub me_at : (i : ℕ) → ((world_at s front).nodes i).me ≡ i
   me_at i = (numbers_known s.parts s.extra front run i).0

@@ -14,8 +14,7 @@ use Rattle.crl_protocol.specs.Node.{Node, Answer}
 use Rattle.crl_protocol.specs.World.{World, new_world, world_of, world_after, step, is_enabled, handles_at, carries}
 use Rattle.crl_protocol.specs.Talk.{Heard, Called, Collected, hears, hears_of}
 use Rattle.crl_deeds.specs.Laws.{touches, goes_to}
-use Rattle.crl_deeds.proofs.Laws.{append_nil}
-use Rattle.crl_history.proofs.Laws.{world_then}
+use Rattle.crl_deeds.proofs.Laws.{append_nil, world_grows}
 use Rattle.crl_turns.specs.declared.turned.Shape.{Shape}
 
 -- The world after a history. The shape has the number of nodes, and for how many names each node's cache has room.
@@ -73,7 +72,7 @@ unheard (event.Handle j place) w i answer out = refl
 unheard (event.Carry j place) w i answer out = refl
 
 pub node_stays : (s : Shape) (i : ℕ) (front : List Event) (e : Event) → (TouchesNode s front e i → ⊥) → (world_at s (front ++ e ∷ [])).nodes i ≡ (world_at s front).nodes i
-node_stays s i front e apart = ap (λ (w : World). w.nodes i) (world_then (new_world s.parts s.extra) front e) ∙ untouched e (world_at s front) i (is_false _ apart)
+node_stays s i front e apart = ap (λ (w : World). w.nodes i) (world_grows (new_world s.parts s.extra) front e) ∙ untouched e (world_at s front) i (is_false _ apart)
 
 pub heard_stays : (s : Shape) (i : ℕ) (front : List Event) (e : Event) → (TouchesNode s front e i → ⊥) → heard_at s i (front ++ e ∷ []) ≡ heard_at s i front
 heard_stays s i front e apart =

@@ -8,3 +8,4 @@ pub use Rattle.crl_coherence.proofs.OpenBytes.{open_bytes}
 pub use Rattle.crl_coherence.proofs.WritersAlone.{writer_alone}
 pub use Rattle.crl_coherence.proofs.Lists.{at-put_same, at-put_other, same_or, picked_none, picked_some, picks-append, more_none, took_some, took_none, took_nothing, NoTwo, took_all}
 pub use Rattle.crl_coherence.proofs.Statements.{opens_rightly, shows_the_array, copies_once, messages_are_fit, waiting_is_blocked, asks_once, versions_once, exclusive_alone, marks_have_message, head_waits, bytes_of_array}
+pub use Rattle.crl_coherence.proofs.Facts.{grants_one, returns_one}

@@ -26,8 +26,9 @@ use Rattle.crl_run.specs.Fits.{GuardFits}
 use Rattle.crl_run.proofs.Laws as run
 use Rattle.crl_run.proofs.Laws.{SpendsOne, IsUnguarded}
 use Rattle.crl_crew.specs.Standing.{StandsAt}
-use Rattle.crl_crew.proofs.Calls.{change_of, call_for}
+use Rattle.crl_crew.proofs.Calls.{change_of}
 use Rattle.crl_crew.proofs.Places.{stands_as, actor_given, heard_own}
+use Rattle.crl_talk.proofs.Laws.{call_for}
 
 module _ (s : Shape) (i : ℕ) (statements : List Statement) (front : List Event) (r : IsRun s.parts s.extra front) (few : i < s.parts) (p : PlayerState) (st : StandsAt i statements (heard_at s i front) p)
     (free : ((world_at s front).nodes i).activity ≡ Free) (x : Statement) where

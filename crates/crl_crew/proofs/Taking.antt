@@ -29,11 +29,7 @@ use Rattle.crl_crew.specs.Working.{IsScriptOf, WorksAt}
 use Rattle.crl_crew.proofs.Doable.{may_do}
 use Rattle.crl_crew.proofs.Statements as one
 use Rattle.crl_crew.proofs.Views.{only_as}
-
-free_is : (a : Activity) → is_free a ≡ true → a ≡ Free
-free_is Free e = refl
-free_is (Waiting awaited) e = cc
-free_is (Ready answer) e = cc
+use Rattle.crl_deeds.proofs.Laws.{free_is}
 
 -- what holds of all statements holds of the next one
 pub at_place : (P : Statement → Type 0) (xs : List Statement) (place : ℕ) (x : Statement) (rest : List Statement) → All P xs → drop place xs ≡ x ∷ rest → P x

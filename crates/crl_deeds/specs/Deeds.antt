@@ -268,8 +268,8 @@ IsNowhere n name = (home_of n name ≡ None) × (n.remotes name ≡ None)
 abbrev pub Idles : Cause → Node → Type 0
 Idles (Calls (call.Put name offset len)) n = Unit {0}
 Idles (Calls (call.Add name offset)) n = Unit {0}
-Idles (Calls (call.StartRead name)) n = IsNowhere n name
-Idles (Calls (call.StartWrite name)) n = IsNowhere n name
+Idles (Calls (call.StartRead name)) n = CanStart n false name × IsNowhere n name
+Idles (Calls (call.StartWrite name)) n = CanStart n true name × IsNowhere n name
 Idles (Calls _) n = ⊥
 Idles (Hears from (kind.InfoAsk name)) n = ⊥
 Idles (Hears from (kind.InfoIs name t)) n = (purged : Bool) → n.activity ≡ Waiting (ForMap name purged) → ⊥

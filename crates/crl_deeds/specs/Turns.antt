@@ -1,32 +1,37 @@
--- The turns of a world: what an event does, by the deed of its node. And what holds of each node by itself and of each
+-- The turns of a world: what each event does, by the deed of its node. And what holds of each node by itself and of each
 -- message, said of a world.
 use Rattle.std.specs.Prelude.{◌≡◌, ℕ, ◌<◌, true, List, []}
 use Rattle.std.specs.declared.option.Option.TheVariants.{Some}
 use Rattle.std.specs.List.{AllByRecursion}
 use Rattle.crl_model.specs.declared.call.Call.{Call}
 use Rattle.crl_model.specs.declared.event.Event.{Event}
+use Rattle.crl_model.specs.declared.event.Event.TheVariants as event
 use Rattle.crl_model.specs.declared.message.Message.{Message}
 use Rattle.crl_protocol.specs.Parcels.{Piece, with_load, Key, key_of, PartsGathered}
 use Rattle.crl_protocol.specs.Places.{Took}
 use Rattle.crl_protocol.specs.Node.{Node, Recorded, Note, Answer, Done, Free, Ready, Outcome, only}
 use Rattle.crl_protocol.specs.Verdict.{verdict}
-use Rattle.crl_protocol.specs.World.{World, WorldStep, is_call, carries, steps_node, stays}
+use Rattle.crl_protocol.specs.World.{World, WorldStep, is_call, noted_call, carries, steps_node}
 use Rattle.crl_deeds.specs.Deeds.{FreeIf, Cause, Calls, Hears, Deed}
 use Rattle.crl_deeds.specs.NodeFacts.{Leaves, Fits}
 
--- A call of a free node; a piece that comes, which makes a message whole or is only kept; an answer that is taken; and a
--- piece that is carried. Each has the event as it is noted.
-pub data Turn (w : World) : WorldStep → Type 0 where
-  calls : (i : ℕ) (e : Event) (c : Call) (o : Outcome) → i < w.count → (w.nodes i).activity ≡ Free → is_call (w.nodes i) c (verdict (w.nodes i) c) ≡ true → Deed (w.nodes i) (Calls c) o → Turn w (steps_node i e o w)
-  hears : (i : ℕ) (e : Event) (p : Piece) (rest : List Piece) (parcels : PartsGathered) (part : List ℕ) (o : Outcome) → i < w.count → Took p (w.nodes i).inbox rest
-      → Deed (record (w.nodes i) { inbox = rest; parcels = parcels }) (Hears p.message.sender (with_load part p.message.kind)) o → Turn w (steps_node i e o w)
-  gathers : (i : ℕ) (e : Event) (p : Piece) (rest : List Piece) (parcels : PartsGathered) (key : Key) → i < w.count → Took p (w.nodes i).inbox rest → key_of p.message ≡ Some key
-      → Turn w (steps_node i e (only (record (w.nodes i) { inbox = rest; parcels = parcels }) Done) w)
-  answers : (i : ℕ) (e : Event) (answer : Answer) → i < w.count → (w.nodes i).activity ≡ Ready answer
-      → Turn w (steps_node i e (record { node = record (w.nodes i) { activity = Free }; answer = answer; entries = []; posts = [] }) w)
-  carriage : (i : ℕ) (e : Event) (p : Piece) (rest : List Piece) → i < w.count → Took p (w.nodes i).outbox rest
-      → Turn w (carries i e (Some (record { taken = p; rest = rest })) w)
-  rests : Turn w (stays w)
+-- a call of a node, as it is noted: with what it came to
+abbrev pub noted_as : World → ℕ → Call → Event
+noted_as w i c = event.Call i (noted_call (verdict (w.nodes i) c) c)
+
+-- What an event is: a call of a free node; a piece that comes, which makes a message whole or is only kept; an answer that
+-- is taken; or a piece that is carried. A call is noted with what it came to.
+pub data Turn (w : World) : Event → WorldStep → Type 0 where
+  calls : (i : ℕ) (c : Call) (o : Outcome) → i < w.count → (w.nodes i).activity ≡ Free → is_call (w.nodes i) c (verdict (w.nodes i) c) ≡ true → Deed (w.nodes i) (Calls c) o
+      → Turn w (event.Call i c) (steps_node i (noted_as w i c) o w)
+  hears : (i place : ℕ) (p : Piece) (rest : List Piece) (parcels : PartsGathered) (part : List ℕ) (o : Outcome) → i < w.count → Took p (w.nodes i).inbox rest
+      → Deed (record (w.nodes i) { inbox = rest; parcels = parcels }) (Hears p.message.sender (with_load part p.message.kind)) o → Turn w (event.Handle i place) (steps_node i (event.Handle i place) o w)
+  gathers : (i place : ℕ) (p : Piece) (rest : List Piece) (parcels : PartsGathered) (key : Key) → i < w.count → Took p (w.nodes i).inbox rest → key_of p.message ≡ Some key
+      → Turn w (event.Handle i place) (steps_node i (event.Handle i place) (only (record (w.nodes i) { inbox = rest; parcels = parcels }) Done) w)
+  answers : (i : ℕ) (answer : Answer) → i < w.count → (w.nodes i).activity ≡ Ready answer
+      → Turn w (event.Collect i) (steps_node i (event.Collect i) (record { node = record (w.nodes i) { activity = Free }; answer = answer; entries = []; posts = [] }) w)
+  carriage : (i place : ℕ) (p : Piece) (rest : List Piece) → i < w.count → Took p (w.nodes i).outbox rest
+      → Turn w (event.Carry i place) (carries i (event.Carry i place) (Some (record { taken = p; rest = rest })) w)
 
 -- What a deed leaves alone.
 pub record Frame (n m : Node) : Type 0 where

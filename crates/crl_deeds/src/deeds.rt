@@ -30,5 +30,5 @@ pub fn refusals_have_causes()
 
 /// What an event does that may come is a turn of the world.
 pub fn events_are_turns()
-    ensures { (w : World) (e : Event) → is_enabled e w ≡ true → Turn w (step e w) }
+    ensures { (w : World) (e : Event) → is_enabled e w ≡ true → Turn w e (step e w) }
 {}

@@ -51,8 +51,10 @@ pub fn accounts_grow()
 /// What a script and an order choose is a run, with its world and its account. It has at most an event for
 /// each turn.
 pub fn choices_make_runs()
-    ensures events { (count capacity : ℕ) (blocks : List (List Statement)) (words : ℕ → ℕ) (k : ℕ) → HasItsEvents count capacity (chosen count capacity blocks words k) }
-    ensures run { (count capacity : ℕ) (blocks : List (List Statement)) (words : ℕ → ℕ) (k : ℕ) → AreStatements blocks → k ≤ 2 ^ 62 → IsRun count capacity (chosen count capacity blocks words k).events }
+    ensures events { (count capacity : ℕ) (blocks : List (List Statement)) (words : ℕ → ℕ) (k : ℕ) →
+        HasItsEvents count capacity (chosen count capacity blocks words k) }
+    ensures run { (count capacity : ℕ) (blocks : List (List Statement)) (words : ℕ → ℕ) (k : ℕ) →
+        AreStatements blocks → k ≤ 2 ^ 62 → IsRun count capacity (chosen count capacity blocks words k).events }
 {}
 
 /// The runs that follow a script are those that its choices give.

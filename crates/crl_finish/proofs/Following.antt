@@ -5,17 +5,17 @@ use Rattle.crl_model.specs.declared.call.Call.{Call}
 use Rattle.crl_model.specs.declared.event.Event.{Event}
 use Rattle.crl_model.specs.declared.event.Event.TheVariants as event
 use Rattle.crl_model.specs.declared.statement.Statement.{Statement}
-use Rattle.crl_model.specs.declared.statement.Statement.TheVariants as statement
 use Rattle.crl_model.specs.Names.{at_node}
-use Rattle.crl_protocol.specs.Node.{Node, Activity, Answer, Free, Waiting, Ready, Writing, Outcome, is_mine}
+use Rattle.crl_protocol.specs.Node.{Node, Activity, Answer, Free, Waiting, Ready, Outcome, is_mine}
 use Rattle.crl_protocol.specs.Calls.{node_calls}
 use Rattle.crl_protocol.specs.Verdict.{verdict}
 use Rattle.crl_protocol.specs.World.{World, WorldStep, step, is_enabled, is_ready, collects, commits, noted_call, IsRunFrom}
 use Rattle.crl_protocol.specs.Chosen.{Actor, Running, running, block_of, call_of, after_change, takes_guard, goes_on, with_actor}
 use Rattle.crl_deeds.specs.Counts.{Known}
 use Rattle.crl_deeds.specs.Laws.{IsNext, past_statement, next_call, is_inside, is_call_event, Follows, ended, changes, calls, happens}
-use Rattle.crl_deeds.proofs.Laws.{call_deed, known_start, known_step}
-use Rattle.crl_talk.proofs.Laws.{hears_as, with_rest, is_away, Moves, handle_moves, carry_moves, each_moved}
+use Rattle.crl_deeds.specs.Turns.{Turn}
+use Rattle.crl_deeds.proofs.Laws.{call_deed, turn_of, known_start, known_step, given_left, changed_left, with_rest}
+use Rattle.crl_talk.proofs.Laws.{hears_as, is_away, is_move, each_moved}
 use Rattle.crl_finish.specs.Unnested.{Outside, rounds_in, IsUnnested}
 use Rattle.crl_finish.proofs.Effects.{call_effect, hear_effect}
 use Rattle.crl_finish.proofs.Opened.{end_allowed}
@@ -27,21 +27,12 @@ pub record AllAt (totals : ℕ → ℕ) (r : Running) : Type 0 where
   pub known : Known r.world
   pub places : (i : ℕ) → IsAt (r.world.nodes i) (r.actors i).left (totals i)
 
-guarded_left : (answer : Answer) (a : Actor) → (takes_guard answer a).left ≡ a.left
-guarded_left (Writing guard) a = refl
-guarded_left _ a = refl
-
-changed_left : (s : Statement) (a : Actor) → (after_change s a).left ≡ a.left
-changed_left (statement.Call c) a = refl
-changed_left (statement.Put name offset bytes) a = refl
-changed_left (statement.Add name offset number) a = refl
-
 -- where an answer is given, no node has other statements left
-given_left : (actors : ℕ → Actor) (i : ℕ) (answer : Answer) (j : ℕ) → (at_node actors i (takes_guard answer (actors i)) j).left ≡ (actors j).left
-given_left actors i answer j = go (i == j) refl
+left_given : (actors : ℕ → Actor) (i : ℕ) (answer : Answer) (j : ℕ) → (at_node actors i (takes_guard answer (actors i)) j).left ≡ (actors j).left
+left_given actors i answer j = go (i == j) refl
   where
     go : (b : Bool) → (i == j) ≡ b → (if b then takes_guard answer (actors i) else actors j).left ≡ (actors j).left
-    go true same = guarded_left answer (actors i) ∙ ap (λ k. (actors k).left) (eqb-true i j same)
+    go true same = given_left answer (actors i) ∙ ap (λ k. (actors k).left) (eqb-true i j same)
     go false other = refl
 
 -- A call.
@@ -81,7 +72,7 @@ call_all totals r i s left next may h = record { known = known_step r.world (eve
     own = own_call r.world i (r.actors i) s left (totals i) _ _ h.known next.1 (subst (λ ss. IsAt (r.world.nodes i) ss (totals i)) next.0 (h.places i))
 
     places : (j : ℕ) → IsAt (if i == j then after else r.world.nodes j) (at_node past i (takes_guard o.answer (past i)) j).left (totals j)
-    places j = subst (λ ss. IsAt (if i == j then after else r.world.nodes j) ss (totals j)) (sym (given_left past i o.answer j)) (go (i == j) refl)
+    places j = subst (λ ss. IsAt (if i == j then after else r.world.nodes j) ss (totals j)) (sym (left_given past i o.answer j)) (go (i == j) refl)
       where
         go : (b : Bool) → (i == j) ≡ b → IsAt (if b then after else r.world.nodes j) (if b then record (r.actors i) { left = left } else r.actors j).left (totals j)
         go true same = subst (λ k. IsAt after left (totals k)) (eqb-true i j same) own
@@ -91,12 +82,12 @@ call_all totals r i s left next may h = record { known = known_step r.world (eve
 given_all : (totals : ℕ → ℕ) (r : Running) (i : ℕ) (e : Event) → is_enabled e r.world ≡ true → Known r.world → ((j : ℕ) → IsAt ((step e r.world).world.nodes j) (r.actors j).left (totals j)) → AllAt totals (goes_on i e r)
 given_all totals r i e may known h = record {
   known = known_step r.world e may known;
-  places = λ j. subst (λ ss. IsAt ((step e r.world).world.nodes j) ss (totals j)) (sym (given_left r.actors i (step e r.world).answer j)) (h j);
+  places = λ j. subst (λ ss. IsAt ((step e r.world).world.nodes j) ss (totals j)) (sym (left_given r.actors i (step e r.world).answer j)) (h j);
 }
 
-moved_all : (totals : ℕ → ℕ) (r : Running) (s : WorldStep) → Moves r.world s → AllAt totals r → (j : ℕ) → IsAt (s.world.nodes j) (r.actors j).left (totals j)
-moved_all totals r s m h =
-    each_moved (λ j n. IsAt n (r.actors j).left (totals j)) (λ i n inbox outbox parcels records notes posted k. boxes_at n inbox outbox parcels records notes posted (r.actors i).left (totals i) k) r.world s m
+moved_all : (totals : ℕ → ℕ) (r : Running) (s : WorldStep) {e : Event} → Turn r.world e s → is_move e ≡ true → AllAt totals r → (j : ℕ) → IsAt (s.world.nodes j) (r.actors j).left (totals j)
+moved_all totals r s t moves h =
+    each_moved (λ j n. IsAt n (r.actors j).left (totals j)) (λ i n inbox outbox parcels records notes posted k. boxes_at n inbox outbox parcels records notes posted (r.actors i).left (totals i) k) r.world s t moves
     (λ i p rest parcels part o took d k. (let n = r.world.nodes i in
     let there : Node = record n { inbox = rest; parcels = parcels } in
     let fits = with_rest i n p rest parcels took (h.known.fits i) in
@@ -123,8 +114,8 @@ collected totals r i may h j = go (i == j) refl
 happens_all : (totals : ℕ → ℕ) (r : Running) (i : ℕ) (e : Event) → is_call_event e ≡ false → is_enabled e r.world ≡ true → AllAt totals r → AllAt totals (goes_on i e r)
 happens_all totals r i (event.Call k c) quiet may h = cc
 happens_all totals r i (event.Collect k) quiet may h = given_all totals r i (event.Collect k) may h.known (collected totals r k may h)
-happens_all totals r i (event.Handle k place) quiet may h = given_all totals r i (event.Handle k place) may h.known (moved_all totals r _ (handle_moves r.world k place may) h)
-happens_all totals r i (event.Carry k place) quiet may h = given_all totals r i (event.Carry k place) may h.known (moved_all totals r _ (carry_moves r.world k place may) h)
+happens_all totals r i (event.Handle k place) quiet may h = given_all totals r i (event.Handle k place) may h.known (moved_all totals r _ (turn_of r.world (event.Handle k place) may) refl h)
+happens_all totals r i (event.Carry k place) quiet may h = given_all totals r i (event.Carry k place) may h.known (moved_all totals r _ (turn_of r.world (event.Carry k place) may) refl h)
 
 -- A change inside a write section.
 change_all : (totals : ℕ → ℕ) (r : Running) (i : ℕ) (s : Statement) (left : List Statement) → IsNext r i s left → is_inside r i s ≡ true → AllAt totals r

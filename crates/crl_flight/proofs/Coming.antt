@@ -46,7 +46,7 @@ lefts_took : {u : Under} {us others : List Under} → Took u us others → Moves
 lefts_took here = still
 lefts_took {u = u} (there {y = w} {ys = ys} t) = moves_then (moves_behind (left_of w) (lefts_took t)) (moves_round (left_of w) (left_of u) (lefts ys))
 
-all_put : {A : Type 0} (P : A → Type 0) {x : A} {xs ys : List A} → Took x xs ys → P x → AllByRecursion P ys → AllByRecursion P xs
+pub all_put : {A : Type 0} (P : A → Type 0) {x : A} {xs ys : List A} → Took x xs ys → P x → AllByRecursion P ys → AllByRecursion P xs
 all_put P here h k = (h, k)
 all_put P (there t) h k = (k.0, all_put P t h k.1)
 

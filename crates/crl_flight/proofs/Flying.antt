@@ -10,6 +10,7 @@ use Rattle.crl_pieces.proofs.Laws.{parts_fresh, slots_fresh, fresh_came, left_co
 use Rattle.crl_protocol.specs.Parcels.{Piece, load_of, piece_of, pieces_of, pieces_in, Key, PartsGathered}
 use Rattle.crl_flight.specs.Flight.{Moves, still, Under, posted, left_of, lefts, entry_of, is_at, entry_in, IsUnder, IsFlight, messages_of}
 use Rattle.crl_flight.proofs.Orders.{moves_then, moves_behind, moves_before, moves_round, moves_none, OfTwo, in_first, in_second, of_two}
+use Rattle.crl_deeds.proofs.Laws.{all_append}
 
 -- a piece that is left is one of a message
 pub record Found (us : List Under) (p : Piece) (rest : List Piece) : Type 0 where
@@ -68,10 +69,6 @@ all_posted : (ms : List Message) → AllByRecursion IsUnder (map posted ms)
 all_posted [] = tt
 all_posted (m ∷ ms) = (under_posted m, all_posted ms)
 
-all_both : {A : Type 0} (P : A → Type 0) (xs ys : List A) → AllByRecursion P xs → AllByRecursion P ys → AllByRecursion P (xs ++ ys)
-all_both P [] ys h k = k
-all_both P (x ∷ xs) ys h k = (h.0, all_both P xs ys h.1 k)
-
 entry_posted : (i : ℕ) (k : Key) (m : Message) → entry_of (posted m).cells ≡ None
 entry_posted i k m = cond-false (has_come (fresh (cut (load_of m.kind)))) _ _ (fresh_came (cut (load_of m.kind)))
 
@@ -88,7 +85,7 @@ pub posts_fly : (us : List Under) (boxes after : List Piece) (gathered : ℕ →
     → IsFlight (us ++ map posted ms) after gathered
 posts_fly us boxes after gathered ms f m = record {
   boxed = subst (λ l. Moves l after) (sym (lefts_append us (map posted ms) ∙ ap (λ l. lefts us ++ l) (lefts_posted ms))) (moves_then (moves_before (pieces_in ms) f.boxed) m);
-  each = all_both IsUnder us (map posted ms) f.each (all_posted ms);
+  each = all_append IsUnder us (map posted ms) f.each (all_posted ms);
   came = λ i k. f.came i k ∙ entry_more i k us ms;
 }
 

@@ -8,7 +8,6 @@ use Rattle.crl_model.specs.declared.message.Kind.{Kind}
 use Rattle.crl_model.specs.declared.message.Kind.TheVariants as kind
 use Rattle.crl_pieces.specs.Pieces.{Cell, left_from}
 use Rattle.crl_protocol.specs.Parcels.{Piece, piece_of, with_load}
-use Rattle.crl_protocol.specs.Places.{Took, here, there}
 use Rattle.crl_protocol.specs.World.{World, new_world, world_of, pieces_in_boxes, IsRunFrom}
 use Rattle.crl_machine.specs.SingleMachine.{State}
 use Rattle.crl_deeds.specs.Turns.{Parts}
@@ -19,14 +18,13 @@ use Rattle.crl_lifetime.proofs.Laws.{messages_in_runs}
 use Rattle.crl_regions.specs.Addresses.{GoesToOther}
 use Rattle.crl_regions.specs.MailFits.{Tables, FitsTables}
 use Rattle.crl_regions.specs.View.{tables_of}
-use Rattle.crl_regions.proofs.Laws.{pieces_to_others, count_in_run}
+use Rattle.crl_regions.proofs.Laws.{pieces_to_others, count_in_run, all_by_took}
 use Rattle.crl_rounds.specs.Standing.{RoundMailFits, IsRoundMail, machine_of}
-use Rattle.crl_rounds.proofs.Laws.{mail_in_runs}
+use Rattle.crl_rounds.proofs.Laws.{mail_in_runs, all_map}
 use Rattle.std.proofs.lemmas.Bool.{cond_both}
 use Rattle.crl_framed.specs.Framed.{InEachBox, InBoxesOfFew, FitsEnds, FitsHome, HomeIsAnEnd}
 use Rattle.crl_framed.proofs.Regions.{all_moved}
 use Rattle.crl_framed.proofs.Results.{RoundEnds, HasRoundEnds, ends_boxed}
-use Rattle.crl_framed.proofs.Numbers.{all_up}
 use Rattle.crl_framed.proofs.Runs.{Reached, reached}
 
 -- What holds of all messages under way, whatever part of their bytes they have, holds of all pieces in boxes.
@@ -42,11 +40,6 @@ all_lefts Q parts (u ∷ us) h = all_append (λ (p : Piece). Q p.message) (left_
 pub all_boxed : (Q : Message → Type 0) → Parts Q → (w : World) (x : Reached w) → AllByRecursion Q (messages_of x.under) → AllByRecursion (λ (p : Piece). Q p.message) (pieces_in_boxes w)
 all_boxed Q parts w x h = all_moved (λ (p : Piece). Q p.message) x.hold.under_way.boxed (all_lefts Q parts x.under h)
 
--- each element of a list, from what holds of what is taken out of it
-pub each_took : {A : Type 0} (P : A → Type 0) (xs : List A) → ((x : A) (rest : List A) → Took x xs rest → P x) → AllByRecursion P xs
-each_took P [] h = tt
-each_took P (x ∷ xs) h = (h x xs here, each_took P xs (λ y rest t. h y (x ∷ rest) (there t)))
-
 pub both : {A : Type 0} (P Q R : A → Type 0) → ((x : A) → P x → Q x → R x) → (xs : List A) → AllByRecursion P xs → AllByRecursion Q xs → AllByRecursion R xs
 both P Q R f [] p q = tt
 both P Q R f (x ∷ xs) p q = (f x p.0 q.0, both P Q R f xs p.1 q.1)
@@ -55,7 +48,7 @@ pub ends_fit : InBoxesOfFew FitsEnds
 ends_fit count capacity run small r =
     let w = world_of count capacity run in
     let few : w.count ≤ 64 = subst (λ k. k ≤ 64) (sym (count_in_run count capacity run r.enabled)) small in
-    all_up (λ (p : Piece). GoesToOther w.count p.message) (λ (p : Piece). FitsEnds p.message)
+    all_map (λ (p : Piece). GoesToOther w.count p.message) (λ (p : Piece). FitsEnds p.message)
     (λ p g. record { sender = (let s = g.sender in omega arith); addressee = (let s = g.addressee in omega arith); other = g.other }) (pieces_in_boxes w) (pieces_to_others count capacity run r.enabled)
 
 -- The home.
@@ -91,7 +84,7 @@ mail_boxed count capacity run r =
 
 pub talk_boxed : (count capacity : ℕ) (run : List Event) → IsRunFrom (new_world count capacity) run → let w = world_of count capacity run in AllByRecursion (λ (p : Piece). MessageFits w p.message) (pieces_in_boxes w)
 talk_boxed count capacity run r =
-    let w = world_of count capacity run in each_took (λ (p : Piece). MessageFits w p.message) (pieces_in_boxes w) (λ p rest took. messages_in_runs count capacity run p rest r took)
+    let w = world_of count capacity run in all_by_took (λ (p : Piece). MessageFits w p.message) (pieces_in_boxes w) (λ p rest took. messages_in_runs count capacity run p rest r took)
 
 pub homes_fit : InEachBox HomeIsAnEnd
 homes_fit count capacity run r =

@@ -1,5 +1,5 @@
 -- In every run each table is of a region within the limit, under a serial that fits its field.
-use Rattle.std.proofs.Common.{◌≡◌, ℕ, zero, suc, ◌+◌, ◌-◌, ◌≤◌, ◌<◌, ◌==◌, Bool, true, false, ◌&&◌, not, None, Some, Option, List, [], ◌∷◌, ◌++◌, length, if◌then◌else◌, refl, sym, ◌∙◌, subst, arith}
+use Rattle.std.proofs.Common.{◌≡◌, ℕ, zero, suc, ◌+◌, ◌-◌, ◌≤◌, ◌<◌, ◌==◌, Bool, true, false, None, Some, Option, List, [], ◌∷◌, ◌++◌, length, if◌then◌else◌, refl, sym, ◌∙◌, subst, arith}
 use Rattle.std.proofs.lemmas.Bool.{cond_both, eqb-false}
 use Rattle.crl_model.specs.declared.TheConstants.{REGION_LIMIT}
 use Rattle.crl_model.specs.declared.name.Name.{Name}
@@ -8,18 +8,18 @@ use Rattle.crl_model.specs.declared.directory.Asked.{Asked}
 use Rattle.crl_model.specs.declared.directory.Section.TheVariants.{Closed}
 use Rattle.crl_model.specs.declared.entry.What.{What}
 use Rattle.crl_model.specs.declared.event.Event.{Event}
-use Rattle.crl_model.specs.declared.message.Kind.{Kind}
 use Rattle.crl_model.specs.Names.{name_eq}
 use Rattle.crl_protocol.specs.Places.{at, put}
-use Rattle.crl_protocol.specs.Home.{Home, HomeStep, new_home, is_servable, is_empty, is_reading, is_to_lower, own_ask, open_own, grant_next, grant_for, posts_first, opens_own_section, with_marks, recalls_and_yields, serve, home_takes_ask, home_takes_return, home_takes_release, bytes_after, shared_listing, home_starts, home_ends_read, home_ends_write, one_section_less}
-use Rattle.crl_protocol.specs.Remote.{Remote, RemoteStep}
+use Rattle.crl_protocol.specs.Home.{Home, HomeStep, new_home, is_to_lower, home_takes_ask, home_takes_return, home_takes_release, bytes_after, shared_listing, home_ends_read, home_ends_write, one_section_less}
 use Rattle.crl_protocol.specs.Node.{Node, new_node, Outcome, COUNT_LIMIT, serials_used, is_mine, home_of, with_home, next_name}
 use Rattle.crl_protocol.specs.Calls.{creates}
 use Rattle.crl_protocol.specs.World.{new_world, world_of, IsRunFrom}
 use Rattle.crl_deeds.specs.Counts.{Counted, Plain}
-use Rattle.crl_deeds.specs.Deeds.{Cause, EndsCall, a_read, a_write, Serves, ask_comes, copy_returns, copy_lowers, Copies, home_opens, home_waits, home_ends, home_serves, home_serves_own, Lives, made, used_up, Rounds, comes_away, Notes, flushes_own, Deed, copies, lives, rounds, notes}
+use Rattle.crl_deeds.specs.Deeds.{Cause, Copies, home_opens, home_waits, home_ends, home_serves, home_serves_own, Lives, made, used_up, Rounds, comes_away, Notes, flushes_own, Deed, copies, lives, rounds, notes}
 use Rattle.crl_deeds.specs.Turns.{Local, Held}
-use Rattle.crl_deeds.proofs.Laws.{by_name, home_put, home_end, home_none, create_fits, held_run, counted_local, counted_start}
+use Rattle.crl_deeds.proofs.Laws.{by_name, home_put, home_end, home_none, create_fits, held_run, counted_local, counted_start, length_end}
+use Rattle.crl_lifetime.proofs.Laws.{serve_size, starts_size, serves_size, ends_size}
+use Rattle.crl_sound.proofs.Laws.{put_length}
 
 pub record TableInRange (q : Name) (h : Home) : Type 0 where
   pub least : 1 ≤ h.size
@@ -31,16 +31,6 @@ abbrev pub HomesInRange : Node → Type 0
 HomesInRange n = ((q : Name) (h : Home) → home_of n q ≡ Some h → TableInRange q h) × (serials_used n ≤ COUNT_LIMIT)
 
 -- The size stays.
-serve_size : (me : ℕ) (h : Home) (queue : List Asked) → (serve me h queue).home.size ≡ h.size
-serve_size me h [] = refl
-serve_size me h (ask ∷ queue) = go (is_servable h ask) (ask.node == me) (serve_size me (open_own h ask) queue) (serve_size me (grant_next h ask) queue)
-  where
-    go : (servable own : Bool) → (serve me (open_own h ask) queue).home.size ≡ h.size → (serve me (grant_next h ask) queue).home.size ≡ h.size
-        → (if servable then (if own then opens_own_section (serve me (open_own h ask) queue) else posts_first (grant_for h ask) (serve me (grant_next h ask) queue))
-        else record { home = record h { listed = with_marks 0 h.listed ask; queue = ask ∷ queue }; posts = recalls_and_yields 0 h.listed ask; opened = false }).home.size ≡ h.size
-    go true true x y = x
-    go true false x y = y
-    go false own x y = refl
 
 asked_size : (me : ℕ) (ask : Asked) (h : Home) → (home_takes_ask me ask h).home.size ≡ h.size
 unfolding home_takes_ask
@@ -55,12 +45,6 @@ unfolding home_takes_release
 released_size me n version bytes h =
     cond_both (is_to_lower version (at n h.listed)) _ _ (λ (x : HomeStep). x.home.size ≡ h.size) (λ w. serve_size me (record h { bytes = bytes; listed = put n (Some (shared_listing version)) h.listed }) h.queue) (λ w. refl)
 
-started_size : (me : ℕ) (write : Bool) (h : Home) → (home_starts me write h).home.size ≡ h.size
-unfolding home_starts
-started_size me write h =
-    cond_both (not write && is_reading h.mine) _ _ (λ (x : HomeStep). x.home.size ≡ h.size) (λ w. refl)
-    (λ w. cond_both (is_empty h.queue && is_servable h (own_ask me write)) _ _ (λ (x : HomeStep). x.home.size ≡ h.size) (λ w. refl) (λ w. serve_size me h (h.queue ++ own_ask me write ∷ [])))
-
 read_size : (me : ℕ) (h : Home) → (home_ends_read me h).home.size ≡ h.size
 unfolding home_ends_read
 read_size me h = serve_size me (record h { mine = one_section_less h.mine }) h.queue
@@ -69,25 +53,11 @@ write_size : (me : ℕ) (bytes : List ℕ) (h : Home) → (home_ends_write me by
 unfolding home_ends_write
 write_size me bytes h = serve_size me (record h { bytes = bytes; mine = Closed }) h.queue
 
-served_size : (n : Node) (h : Home) (from : ℕ) (k : Kind) (name : Name) (s : HomeStep) → Serves n h from k name s → s.home.size ≡ h.size
-served_size n h from k name s (ask_comes x q write have free) = asked_size n.me (record { node = from; write = write; have = have }) h
-served_size n h from k name s (copy_returns x q version bytes fits) = returned_size n.me from bytes h
-served_size n h from k name s (copy_lowers x q version bytes fits) = released_size n.me from version bytes h
-
-ended_size : (bytes : List ℕ) (n : Node) (c : Call) (name : Name) (w : What) (ends : Home → HomeStep) (lowers : Remote → RemoteStep) (h : Home) → EndsCall bytes n c name w ends lowers → (ends h).home.size ≡ h.size
-ended_size bytes n c name w ends lowers h (a_read q e) = read_size n.me h
-ended_size bytes n c name w ends lowers h (a_write q after e) = write_size n.me after h
-
 -- The list of tables has its length.
 at_below : {A : Type 0} (k : ℕ) (xs : List (Option A)) (v : A) → at k xs ≡ Some v → k < length xs
 at_below k [] v e = cc
 at_below zero (x ∷ xs) v e = omega arith
 at_below (suc k) (x ∷ xs) v e = let l = at_below k xs v e in omega arith
-
-put_length : {A : Type 0} (k : ℕ) (v : Option A) (xs : List (Option A)) → k < length xs → length (put k v xs) ≡ length xs
-put_length k v [] l = absurd (omega arith)
-put_length zero v (x ∷ xs) l = refl
-put_length (suc k) v (x ∷ xs) l = let h = put_length k v xs (omega arith) in omega arith
 
 home_below : (n : Node) (name : Name) (h : Home) → home_of n name ≡ Some h → name.serial - 1 < length n.homes
 home_below n name h e = go (is_mine n name) (name.serial == 0) e
@@ -109,15 +79,11 @@ range_put n name h g is e r = (λ q k x. tables q k (sym (home_put n name h g is
     tables : (q : Name) (k : Home) → (if name_eq name q then Some g else home_of n q) ≡ Some k → TableInRange q k
     tables = by_name name (λ b q. (k : Home) → (if b then Some g else home_of n q) ≡ Some k → TableInRange q k) same_table (λ q other k x. r.0 q k x)
 
-end_length : {A : Type 0} (xs : List A) (x : A) → length (xs ++ x ∷ []) ≡ length xs + 1
-end_length [] x = refl
-end_length (y ∷ xs) x = let h = end_length xs x in omega arith
-
 below_limit : (used : ℕ) → used ≤ COUNT_LIMIT → (used == COUNT_LIMIT) ≡ false → used + 1 ≤ COUNT_LIMIT
 below_limit used l e = let ne = eqb-false used COUNT_LIMIT e in grind arith
 
 range_made : (n : Node) (size : ℕ) → (1 ≤ size) × (size ≤ REGION_LIMIT) × ((serials_used n == COUNT_LIMIT) ≡ false) → HomesInRange n → HomesInRange (creates size n).node
-range_made n size c r = (λ q k x. tables q k (sym (home_end n (creates size n).node (new_home n.nodes size) refl refl q) ∙ x), subst (λ l. l ≤ COUNT_LIMIT) (sym (end_length n.homes (Some (new_home n.nodes size)))) more)
+range_made n size c r = (λ q k x. tables q k (sym (home_end n (creates size n).node (new_home n.nodes size) refl refl q) ∙ x), subst (λ l. l ≤ COUNT_LIMIT) (sym (length_end n.homes (Some (new_home n.nodes size)))) more)
   where
     more : serials_used n + 1 ≤ COUNT_LIMIT
     more = below_limit (serials_used n) r.1 c.2
@@ -130,16 +96,16 @@ range_made n size c r = (λ q k x. tables q k (sym (home_end n (creates size n).
 
 -- The deeds.
 copies_range : (n : Node) (cause : Cause) (o : Outcome) → Copies n cause o → HomesInRange n → HomesInRange o.node
-copies_range n cause o (home_opens c write name h is e v x) r = range_put n name h _ e (started_size n.me write h) r
-copies_range n cause o (home_waits c write name h is e v x) r = range_put n name h _ e (started_size n.me write h) r
-copies_range n cause o (home_ends c name y ends lowers h is e) r = range_put n name h _ e (ended_size _ n c name y ends lowers h is) r
-copies_range n cause o (home_serves from m name h s is e x) r = range_put n name h _ e (served_size n h from m name s is) r
-copies_range n cause o (home_serves_own from m name h s is e x) r = range_put n name h _ e (served_size n h from m name s is) r
+copies_range n cause o (home_opens c write name h is e v x) r = range_put n name h _ e (starts_size n.me write h) r
+copies_range n cause o (home_waits c write name h is e v x) r = range_put n name h _ e (starts_size n.me write h) r
+copies_range n cause o (home_ends c name y ends lowers h is e) r = range_put n name h _ e (ends_size _ n c name y ends lowers h is) r
+copies_range n cause o (home_serves from m name h s is e x) r = range_put n name h _ e (serves_size n h from m name s is) r
+copies_range n cause o (home_serves_own from m name h s is e x) r = range_put n name h _ e (serves_size n h from m name s is) r
 copies_range n cause o _ r = r
 
 lives_range : (n : Node) (cause : Cause) (o : Outcome) → Lives n cause o → HomesInRange n → HomesInRange o.node
 lives_range n cause o (made size e) r = range_made n size (create_fits n size e) r
-lives_range n cause o (used_up size why e x) r = (λ q k y. r.0 q k (sym (home_none n q) ∙ y), subst (λ l. l ≤ COUNT_LIMIT) (sym (end_length n.homes None)) (below_limit (serials_used n) r.1 x))
+lives_range n cause o (used_up size why e x) r = (λ q k y. r.0 q k (sym (home_none n q) ∙ y), subst (λ l. l ≤ COUNT_LIMIT) (sym (length_end n.homes None)) (below_limit (serials_used n) r.1 x))
 lives_range n cause o _ r = r
 
 rounds_range : (n : Node) (cause : Cause) (o : Outcome) → Rounds n cause o → HomesInRange n → HomesInRange o.node

@@ -4,8 +4,7 @@ pub use Rattle.crl_framed.proofs.Words.{numbers_fit}
 pub use Rattle.crl_framed.proofs.Placed.{pieces_placed, sizes_fit}
 pub use Rattle.crl_framed.proofs.Serials.{serials_fit, serials_real}
 -- What holds of all elements of a list, and of all mail of a region.
-pub use Rattle.crl_framed.proofs.Numbers.{all_up}
-pub use Rattle.crl_framed.proofs.Ends.{both, each_took}
+pub use Rattle.crl_framed.proofs.Ends.{both}
 pub use Rattle.crl_framed.proofs.Regions.{put_back, all_moved}
 pub use Rattle.crl_framed.proofs.Words.{found, about_self}
 -- A run with one event more, and one with none.

@@ -13,6 +13,7 @@ use Rattle.crl_protocol.specs.Places.{at, put}
 use Rattle.crl_protocol.specs.Mail.{Mail, Ask, Grant, Recall, Yield, Return, Release, Letter}
 use Rattle.crl_protocol.specs.Home.{Home, HomeStep, is_servable, is_to_mark, with_marks, recalls_and_yields, open_own, grant_next, grant_for, posts_first, opens_own_section, serve, home_takes_ask, home_takes_return, home_takes_release, is_to_lower, bytes_after, shared_listing, own_ask, is_empty, is_reading, home_starts, one_section_less, home_ends_read, home_ends_write}
 use Rattle.crl_protocol.specs.Remote.{Copy, Remote, RemoteStep, sends_nothing, is_closed, gives_back, lowers, starts_over, remote_starts, copy_after_grant, remote_takes_grant, recall_in, recall_over, remote_takes_recall, yield_in, yield_over, remote_takes_yield, leaves_over, lowers_over, remote_ends_read, with_written, remote_ends_write, flushes_over, remote_flushes, overtakes, notes_due, with_due, is_newer}
+use Rattle.crl_rounds.proofs.Laws.{all_map}
 
 abbrev pub IsVersion : ℕ → ℕ → Type 0
 IsVersion last version = (1 ≤ version) × (version ≤ last)
@@ -55,10 +56,6 @@ pub copy_up : (last more : ℕ) → last ≤ more → (o : Option Copy) → Copy
 copy_up last more l None n = tt
 copy_up last more l (Some c) n = version_up last more c.version l n
 
-pub all_up : {A : Type 0} (P Q : A → Type 0) → ((x : A) → P x → Q x) → (xs : List A) → AllByRecursion P xs → AllByRecursion Q xs
-all_up P Q f [] h = tt
-all_up P Q f (x ∷ xs) h = (f x h.0, all_up P Q f xs h.1)
-
 -- The home's list.
 put_numbered : (last n : ℕ) (o : Option Listing) (listed : List (Option Listing)) → ListedNumbered last o → AllByRecursion (ListedNumbered last) listed → AllByRecursion (ListedNumbered last) (put n o listed)
 put_numbered last zero o [] k h = (k, tt)
@@ -98,7 +95,7 @@ serve_numbered me h [] l = record { grows = omega arith; listed = l; posts = tt;
 serve_numbered me h (ask ∷ queue) l =
     go (is_servable h ask) (ask.node == me) (serve_numbered me (open_own h ask) queue l)
     (serve_numbered me (grant_next h ask) queue
-    (put_numbered (h.last + 1) ask.node _ h.listed (one_more h.last) (all_up (ListedNumbered h.last) (ListedNumbered (h.last + 1)) (listed_up h.last (h.last + 1) (more_grants h.last)) h.listed l)))
+    (put_numbered (h.last + 1) ask.node _ h.listed (one_more h.last) (all_map (ListedNumbered h.last) (ListedNumbered (h.last + 1)) (listed_up h.last (h.last + 1) (more_grants h.last)) h.listed l)))
   where
     more_grants : (k : ℕ) → k ≤ k + 1
     more_grants k = omega arith

@@ -21,13 +21,13 @@ use Rattle.crl_flight.specs.Flight.{Under, IsUnder, left_of, lefts, messages_of}
 use Rattle.crl_safety.specs.Tests.{MeetsTest}
 use Rattle.crl_regions.specs.MailFits.{Tables, HasSize, FitsTables, MailFits}
 use Rattle.crl_regions.specs.View.{table_of, tables_of}
-use Rattle.crl_regions.proofs.Laws.{messages_meet, sizes_known}
+use Rattle.crl_regions.proofs.Laws.{messages_meet, sizes_known, all_by_took}
 use Rattle.crl_framed.specs.Framed.{InEachBox, IsRegionSize, FitsSize, SizeFits, PieceIsPlaced, PiecesInEachBox}
-use Rattle.crl_framed.proofs.Ends.{each_took, all_boxed}
+use Rattle.crl_framed.proofs.Ends.{all_boxed}
 use Rattle.crl_framed.proofs.Homes.{ranges_in_runs}
-use Rattle.crl_framed.proofs.Numbers.{all_up}
 use Rattle.crl_framed.proofs.Regions.{all_moved}
 use Rattle.crl_framed.proofs.Runs.{Reached, reached}
+use Rattle.crl_rounds.proofs.Laws.{all_map}
 
 nothing_cut : (size index : ℕ) → size ≡ 0 → 0 ≡ piece_size size index
 nothing_cut size index e = omega arith
@@ -113,7 +113,7 @@ load_fits n from (kind.Release name version bytes) t sides homes = subst IsRegio
 load_fits n from _ t sides homes = tt
 
 loads_fit : (count capacity : ℕ) (run : List Event) → IsRunFrom (new_world count capacity) run → (x : Reached (world_of count capacity run)) → AllByRecursion (λ (m : Message). LoadFits m.kind) (messages_of x.under)
-loads_fit count capacity run r x = each_took (λ (m : Message). LoadFits m.kind) (messages_of x.under)
+loads_fit count capacity run r x = all_by_took (λ (m : Message). LoadFits m.kind) (messages_of x.under)
     (λ m rest took. load_fits ((world_of count capacity run).nodes m.addressee) m.sender m.kind (messages_meet count capacity run r x.under x.arrays x.hold m rest took)
     (λ q y e. told_range y.size _ ((sizes_known count capacity run r).record_of m.addressee q y e) (table_range count capacity run r q)) (home_range count capacity run r m.addressee))
 
@@ -139,4 +139,4 @@ sizes_fit count capacity run r =
     let w = world_of count capacity run in
     let x = reached count capacity run r.enabled in
     all_boxed SizeFits (λ m part h. size_part m.kind part h) w x
-    (all_up (MailFits (tables_of w)) SizeFits (λ m t. size_of_kind (tables_of w) m.sender m.addressee m.kind (table_range count capacity run r.enabled) t) (messages_of x.under) x.hold.mail)
+    (all_map (MailFits (tables_of w)) SizeFits (λ m t. size_of_kind (tables_of w) m.sender m.addressee m.kind (table_range count capacity run r.enabled) t) (messages_of x.under) x.hold.mail)

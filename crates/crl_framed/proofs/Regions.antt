@@ -13,7 +13,8 @@ use Rattle.crl_coherence.specs.Region.{Flying, Region, sent, sent_by, at_home, a
 use Rattle.crl_coherence.specs.Region as event
 use Rattle.crl_coherence.specs.Coherent.{created}
 use Rattle.crl_regions.specs.Steps.{IsCarried, GoesOn}
-use Rattle.crl_framed.proofs.Numbers.{Numbered, ListedNumbered, CopyNumbered, TableNumbered, mail_up, copy_up, all_up, HomeNumbered, asked_numbered, returned_numbered, released_numbered, started_numbered, read_numbered, write_numbered, SideNumbered, starts_numbered, granted_numbered, recall_numbered, yield_numbered, side_read_numbered, side_write_numbered, flush_numbered}
+use Rattle.crl_framed.proofs.Numbers.{Numbered, ListedNumbered, CopyNumbered, TableNumbered, mail_up, copy_up, HomeNumbered, asked_numbered, returned_numbered, released_numbered, started_numbered, read_numbered, write_numbered, SideNumbered, starts_numbered, granted_numbered, recall_numbered, yield_numbered, side_read_numbered, side_write_numbered, flush_numbered}
+use Rattle.crl_rounds.proofs.Laws.{all_map}
 
 abbrev FlyingNumbered : ℕ → Flying → Type 0
 FlyingNumbered last f = Numbered last f.mail
@@ -36,7 +37,7 @@ home_step g s rest size x r f = record {
   listed = x.listed;
   copies = λ n. copy_up g.home.last s.home.last x.grows (g.remotes n).copy (r.copies n);
   flight = all_append (FlyingNumbered s.home.last) rest (sent s.posts)
-      (all_up (FlyingNumbered g.home.last) (FlyingNumbered s.home.last) (λ k. mail_up g.home.last s.home.last x.grows k.mail) rest f) (sent_numbered s.home.last s.posts x.posts);
+      (all_map (FlyingNumbered g.home.last) (FlyingNumbered s.home.last) (λ k. mail_up g.home.last s.home.last x.grows k.mail) rest f) (sent_numbered s.home.last s.posts x.posts);
 }
 
 copies_put : (g : Region) (n : ℕ) (r : Remote) → CopyNumbered g.home.last r.copy → RegionNumbered g → (m : ℕ) → CopyNumbered g.home.last (at_node g.remotes n r m).copy

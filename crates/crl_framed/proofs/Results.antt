@@ -19,7 +19,7 @@ use Rattle.crl_deeds.specs.Deeds.{Cause, parting, Copies, Lives, Rounds, Deed}
 use Rattle.crl_deeds.specs.Deeds as deed
 use Rattle.crl_deeds.specs.Turns.{Came, Local, HeldIn, Held}
 use Rattle.crl_deeds.proofs.Laws.{all_append, deed_frame, held_run}
-use Rattle.crl_framed.proofs.Numbers.{all_up}
+use Rattle.crl_rounds.proofs.Laws.{all_map}
 
 abbrev pub RoundEnds : ℕ → ℕ → Kind → Type 0
 RoundEnds from to (kind.Come round part) = to ≡ 0
@@ -136,4 +136,4 @@ pub ends_boxed : (count capacity : ℕ) (run : List Event) → IsRunFrom (new_wo
 ends_boxed count capacity run r =
     let w = world_of count capacity run in
     all_boxes (λ (p : Piece). HasRoundEnds p.message) w.nodes 0 w.count
-    (λ j. let h = ends_held count capacity run r j in (all_up (HeldIn HasRoundEnds j) (λ (p : Piece). HasRoundEnds p.message) (λ p x. x.0) (w.nodes j).inbox h.inbox, h.outbox))
+    (λ j. let h = ends_held count capacity run r j in (all_map (HeldIn HasRoundEnds j) (λ (p : Piece). HasRoundEnds p.message) (λ p x. x.0) (w.nodes j).inbox h.inbox, h.outbox))

@@ -1,6 +1,6 @@
 -- What a node waits for has a real serial, of which what holds of the serials in calls holds.
-use Rattle.std.proofs.Common.{◌≡◌, ℕ, ◌≤◌, ◌==◌, Bool, true, false, not, ◌&&◌, None, Some, Option, List, [], ◌∷◌, refl, arith}
-use Rattle.std.proofs.lemmas.Bool.{cond_both, and_parts, eqb-false}
+use Rattle.std.proofs.Common.{◌≡◌, ℕ, ◌≤◌, ◌==◌, Bool, true, false, not, None, Some, Option, List, [], ◌∷◌, refl, arith}
+use Rattle.std.proofs.lemmas.Bool.{and_parts, eqb-false}
 use Rattle.crl_model.specs.declared.name.Name.{Name}
 use Rattle.crl_model.specs.declared.call.Call.{Call}
 use Rattle.crl_model.specs.declared.call.Call.TheVariants as call
@@ -8,16 +8,15 @@ use Rattle.crl_model.specs.declared.entry.What.{What}
 use Rattle.crl_model.specs.declared.event.Event.{Event}
 use Rattle.crl_model.specs.declared.event.Event.TheVariants as event
 use Rattle.crl_model.specs.Names.{at_node}
-use Rattle.crl_pieces.specs.Pieces.{is_missing, is_complete, joined}
-use Rattle.crl_protocol.specs.Parcels.{Piece, with_load, Key, key_of, slots_or, at_key, fits_size}
+use Rattle.crl_protocol.specs.Parcels.{Piece, with_load}
 use Rattle.crl_protocol.specs.Places.{Taken, take_out}
-use Rattle.crl_protocol.specs.Receiving.{size_for, slots_with, gathers_piece, receives_part, receives_as, receives}
+use Rattle.crl_protocol.specs.Receiving.{receives}
 use Rattle.crl_protocol.specs.Handlers.{purges_waiting}
 use Rattle.crl_protocol.specs.Node.{Node, Activity, Free, Waiting, Ready, ForMap, ForDelete, Outcome, is_real}
 use Rattle.crl_protocol.specs.World.{World, new_world, world_of, world_after, step, handles_at, carries, collects}
 use Rattle.crl_deeds.specs.Deeds.{Cause, Calls, Hears, Copies, Lives, Rounds, Notes, Deed}
 use Rattle.crl_deeds.specs.Deeds as deed
-use Rattle.crl_deeds.proofs.Laws.{call_deed, message_deed, each_at}
+use Rattle.crl_deeds.proofs.Laws.{call_deed, message_deed, received, each_at}
 
 -- What the calls of a run say of serials.
 abbrev pub CallHas : (ℕ → Type 0) → Call → Type 0
@@ -105,21 +104,7 @@ module _ (Said Holds : ℕ → Type 0) (made : (serial : ℕ) → 1 ≤ serial �
 
   -- A piece that comes, an answer that is taken, a piece that is carried.
   received_typed : (p : Piece) (n : Node) → NodeTyped Holds n → NodeTyped Holds (receives p n).node
-  received_typed p n h = by_key (key_of p.message)
-    where
-      of_slots : (key : Key) (slots : List (Option (List ℕ))) → NodeTyped Holds (gathers_piece key p slots n).node
-      of_slots key slots =
-          cond_both (is_complete slots) _ _ (λ (x : Outcome). NodeTyped Holds x.node)
-          (λ v. deed_typed (record n { parcels = at_key n.parcels key None }) _ _ (message_deed (record n { parcels = at_key n.parcels key None }) p.message.sender (with_load (joined slots) p.message.kind)) tt h) (λ v. h)
-
-      of_size : (key : Key) (size : Option ℕ) → NodeTyped Holds (receives_part key p size n).node
-      of_size key None = h
-      of_size key (Some size) =
-          cond_both (fits_size size p && is_missing p.index (slots_or p.pieces (n.parcels key))) _ _ (λ (x : Outcome). NodeTyped Holds x.node) (λ v. of_slots key (slots_with p (n.parcels key))) (λ v. h)
-
-      by_key : (o : Option Key) → NodeTyped Holds (receives_as o p n).node
-      by_key None = deed_typed n _ _ (message_deed n p.message.sender p.message.kind) tt h
-      by_key (Some key) = of_size key (size_for key.load key.name n)
+  received_typed p n h = received (λ o. NodeTyped Holds o.node) p n (λ parcels part. deed_typed (record n { parcels = parcels }) _ _ (message_deed (record n { parcels = parcels }) p.message.sender (with_load part p.message.kind)) tt h) (λ parcels key k. h)
 
   collected_typed : (a : Activity) (n : Node) → NodeTyped Holds n → NodeTyped Holds (collects a n).node
   collected_typed Free n h = h

@@ -23,11 +23,11 @@ use Rattle.crl_coherence.specs.Region.{Flying}
 use Rattle.crl_regions.specs.Addresses.{GoesToOther}
 use Rattle.crl_regions.specs.MailFits.{Tables, FitsTables, MailFits}
 use Rattle.crl_regions.specs.View.{table_of, tables_of, table_or_blank, mail_in, other_end, flown, flying}
-use Rattle.crl_regions.proofs.Laws.{messages_to_others}
+use Rattle.crl_regions.proofs.Laws.{messages_to_others, all_by_took}
 use Rattle.crl_rounds.specs.Standing.{RoundMailFits, IsRoundMail, RoundCall, StandsIn, current_round, machine_of}
 use Rattle.crl_rounds.proofs.Laws.{mail_in_runs, rounds_in_runs}
 use Rattle.crl_framed.specs.Framed.{InEachBox, FitsWord, FitsNumber, NumberFits}
-use Rattle.crl_framed.proofs.Ends.{all_boxed, each_took, both}
+use Rattle.crl_framed.proofs.Ends.{all_boxed, both}
 use Rattle.crl_framed.proofs.Numbers.{IsVersion, Numbered}
 use Rattle.crl_framed.proofs.Runs.{Reached, reached}
 
@@ -92,7 +92,7 @@ bounded_message count capacity run r x m rest took q h mail few known e =
 copies_numbered : (count capacity : ℕ) (run : List Event) → IsRun count capacity run → (x : Reached (world_of count capacity run)) → AllByRecursion (λ (m : Message). CopyNumber m.kind) (messages_of x.under)
 copies_numbered count capacity run r x =
     let w = world_of count capacity run in
-    let each = each_took (λ (m : Message). Bounded (tables_of w) w.count m.kind) (messages_of x.under) (λ m rest took. bounded_message count capacity run r x m rest took) in
+    let each = all_by_took (λ (m : Message). Bounded (tables_of w) w.count m.kind) (messages_of x.under) (λ m rest took. bounded_message count capacity run r x m rest took) in
     let ends = messages_to_others count capacity run r.enabled x.under x.hold.under_way in
     both (λ (m : Message). MailFits (tables_of w) m × Bounded (tables_of w) w.count m.kind) (GoesToOther w.count) (λ (m : Message). CopyNumber m.kind)
     (λ m k g. number_of_kind (tables_of w) w.count m.sender m.addressee m.kind g.sender g.addressee k.0 k.1) (messages_of x.under)

@@ -1,5 +1,5 @@
 -- In every run each part in the account is one that a call brought, and may be sent. What holds of parts in calls holds of it.
-use Rattle.std.proofs.Common.{◌≡◌, ℕ, zero, suc, ◌+◌, ◌-◌, ◌==◌, ◌&&◌, Bool, true, false, None, Some, Option, List, [], ◌∷◌, length, get_or, if◌then◌else◌, refl, sym, ◌∙◌, subst, arith}
+use Rattle.std.proofs.Common.{◌≡◌, ℕ, zero, suc, ◌+◌, ◌-◌, ◌==◌, ◌&&◌, Bool, true, false, None, Some, Option, List, [], ◌∷◌, length, get_or, if◌then◌else◌, refl, sym, subst, arith}
 use Rattle.std.specs.List.{AllByRecursion}
 use Rattle.std.proofs.lemmas.Bool.{cond_both, and_parts}
 use Rattle.crl_model.specs.declared.name.Name.{Name}
@@ -15,22 +15,21 @@ use Rattle.crl_model.specs.declared.entry.What.{What}
 use Rattle.crl_model.specs.declared.entry.What.TheVariants as what
 use Rattle.crl_model.specs.declared.event.Event.{Event}
 use Rattle.crl_model.specs.declared.event.Event.TheVariants as event
-use Rattle.crl_machine.specs.SingleMachine.{State, IsSendable, change, after_all, part_at, parts_from}
-use Rattle.crl_pieces.specs.Pieces.{is_missing, is_complete, joined}
-use Rattle.crl_protocol.specs.Parcels.{Piece, with_load, Key, key_of, slots_or, at_key, fits_size}
+use Rattle.crl_machine.specs.SingleMachine.{State, IsSendable, part_at, parts_from}
+use Rattle.crl_protocol.specs.Parcels.{Piece, with_load}
 use Rattle.crl_protocol.specs.Places.{Taken, take_out}
 use Rattle.crl_protocol.specs.Home.{Home, HomeStep}
 use Rattle.crl_protocol.specs.Remote.{Remote, RemoteStep}
-use Rattle.crl_protocol.specs.Receiving.{size_for, slots_with, gathers_piece, receives_part, receives_as, receives}
+use Rattle.crl_protocol.specs.Receiving.{receives}
 use Rattle.crl_protocol.specs.Node.{Node, Activity, Free, Waiting, Ready, Outcome}
-use Rattle.crl_protocol.specs.Verdict.{of_part}
 use Rattle.crl_protocol.specs.Calls.{result_of}
 use Rattle.crl_protocol.specs.World.{World, new_world, account, account_from, step, handles_at, carries, collects}
 use Rattle.crl_deeds.specs.Deeds.{Cause, Calls, Hears, EndsCall, a_read, a_write, Copies, Lives, Rounds, Notes, Deed}
 use Rattle.crl_deeds.specs.Deeds as deed
-use Rattle.crl_deeds.proofs.Laws.{all_append, call_deed, message_deed, send_fits}
+use Rattle.crl_deeds.proofs.Laws.{all_append, call_deed, message_deed, received}
 use Rattle.crl_rounds.specs.Standing.{part_in, parts_brought, machine_of}
 use Rattle.crl_rounds.proofs.Laws.{came_from_start}
+use Rattle.crl_history.proofs.Laws.{sendable}
 
 -- What the calls of a run say of the parts that they bring.
 abbrev pub CallBrings : (Part → Type 0) → Call → Type 0
@@ -65,10 +64,6 @@ is_other _ = true
 abbrev are_other : List Entry → Bool
 are_other [] = true
 are_other (e ∷ es) = is_other e.what && are_other es
-
-sendable : (p : Part) → of_part p ≡ None → IsSendable p
-sendable (part.Send bytes) e = send_fits bytes e
-sendable _ e = tt
 
 each_event : (Said : Part → Type 0) (e : Event) (es : List Event) → CallsBring Said (e ∷ es) → EventBrings Said e × CallsBring Said es
 each_event Said (event.Call i c) es t = t
@@ -134,21 +129,7 @@ module _ (Said Holds : Part → Type 0) (made : (p : Part) → IsSendable p → 
 
   -- A piece that comes, and an event.
   received_fit : (p : Piece) (n : Node) → EntriesHold Holds (receives p n).entries
-  received_fit p n = by_key (key_of p.message)
-    where
-      of_slots : (key : Key) (slots : List (Option (List ℕ))) → EntriesHold Holds (gathers_piece key p slots n).entries
-      of_slots key slots =
-          cond_both (is_complete slots) _ _ (λ (x : Outcome). EntriesHold Holds x.entries)
-          (λ v. deed_fit (record n { parcels = at_key n.parcels key None }) _ _ (message_deed (record n { parcels = at_key n.parcels key None }) p.message.sender (with_load (joined slots) p.message.kind)) tt) (λ v. tt)
-
-      of_size : (key : Key) (size : Option ℕ) → EntriesHold Holds (receives_part key p size n).entries
-      of_size key None = tt
-      of_size key (Some size) =
-          cond_both (fits_size size p && is_missing p.index (slots_or p.pieces (n.parcels key))) _ _ (λ (x : Outcome). EntriesHold Holds x.entries) (λ v. of_slots key (slots_with p (n.parcels key))) (λ v. tt)
-
-      by_key : (o : Option Key) → EntriesHold Holds (receives_as o p n).entries
-      by_key None = deed_fit n _ _ (message_deed n p.message.sender p.message.kind) tt
-      by_key (Some key) = of_size key (size_for key.load key.name n)
+  received_fit p n = received (λ o. EntriesHold Holds o.entries) p n (λ parcels part. deed_fit (record n { parcels = parcels }) _ _ (message_deed (record n { parcels = parcels }) p.message.sender (with_load part p.message.kind)) tt) (λ parcels key h. tt)
 
   collected_fit : (a : Activity) (n : Node) → EntriesHold Holds (collects a n).entries
   collected_fit Free n = tt
@@ -201,11 +182,3 @@ module _ (Said Holds : Part → Type 0) (made : (p : Part) → IsSendable p → 
 pub parts_length : (s : State) (round m k : ℕ) → length (parts_from s round m k) ≡ k
 parts_length s round m zero = refl
 parts_length s round m (suc k) = let h = parts_length s round (m + 1) k in omega arith
-
-change_nodes : (s : State) (n : ℕ) (w : What) → (change s n w).nodes ≡ s.nodes
-change_nodes s n (what.Create name size) = refl
-change_nodes s n _ = refl
-
-pub nodes_stay : (s : State) (es : List Entry) → (after_all s es).nodes ≡ s.nodes
-nodes_stay s [] = refl
-nodes_stay s (e ∷ es) = nodes_stay (change s e.node e.what) es ∙ change_nodes s e.node e.what

@@ -8,13 +8,15 @@ use Rattle.crl_protocol.specs.Places.{Taken, take_out}
 use Rattle.crl_protocol.specs.World.{world_of, boxes_from, pieces_in_boxes}
 use Rattle.crl_deeds.proofs.Laws.{all_took, took_at}
 use Rattle.crl_framed.specs.Framed.{FitsEnds, HomeIsAnEnd, NumberFits, SizeFits, SerialFits, SerialIsReal, PieceIsPlaced}
-use Rattle.crl_framed.proofs.Laws.{ends_fit, homes_fit, numbers_fit, sizes_fit, serials_fit, serials_real, pieces_placed, both, all_up}
+use Rattle.crl_framed.proofs.Laws.{ends_fit, homes_fit, numbers_fit, sizes_fit, serials_fit, serials_real, pieces_placed, both}
 use Rattle.crl_wire.specs.Frame.{IsInTable, Fits}
 use Rattle.crl_frames.specs.Frames.{OfEachPiece, OfEachPieceOfFew, HoldsOf, OfEachToCarry, HasByteFrame}
-use Rattle.crl_frames.proofs.Loads.{LoadBytes, loads_are_bytes, split}
+use Rattle.crl_frames.proofs.Loads.{LoadBytes, loads_are_bytes}
 use Rattle.crl_frames.proofs.Spelled.{frame_bytes}
 use Rattle.crl_frames.proofs.Table.{Known, known_in_table, known_fits}
 use Rattle.crl_frames.proofs.Values.{ValueFits, ValueSendable, values_fit, values_sendable}
+use Rattle.crl_rounds.proofs.Laws.{all_map}
+use Rattle.crl_regions.proofs.Laws.{all_parts}
 
 -- two facts of each element as one
 pair : {A : Type 0} (P Q : A → Type 0) (xs : List A) → AllByRecursion P xs → AllByRecursion Q xs → AllByRecursion (λ x. P x × Q x) xs
@@ -40,7 +42,7 @@ all_known count capacity run few r =
     (pair Ends Numbers ps ends numbers) (pair Rest PieceIsPlaced ps rest (pieces_placed count capacity run r))
 
 pub all_in_table : OfEachPieceOfFew IsInTable
-all_in_table count capacity run few r = all_up Known IsInTable known_in_table (pieces_in_boxes (world_of count capacity run)) (all_known count capacity run few r)
+all_in_table count capacity run few r = all_map Known IsInTable known_in_table (pieces_in_boxes (world_of count capacity run)) (all_known count capacity run few r)
 
 abbrev Typed : Piece → Type 0
 Typed p = SerialFits p.message × ValueFits p.message.kind
@@ -59,11 +61,11 @@ all_byte_frames count capacity run r =
 at_boxes : (P : Piece → Type 0) (nodes : ℕ → Node) (a k i : ℕ) → a ≤ i → i < a + k → AllByRecursion P (boxes_from a k nodes) → AllByRecursion P (nodes i).outbox
 at_boxes P nodes a zero i low high h = absurd (omega arith)
 at_boxes P nodes a (suc k) i low high h =
-    let parts = split P ((nodes a).inbox ++ (nodes a).outbox) (boxes_from (a + 1) k nodes) h in go (cases_lt a i) parts.0 (λ less. at_boxes P nodes (a + 1) k i (omega arith) (omega arith) parts.1)
+    let parts = all_parts P ((nodes a).inbox ++ (nodes a).outbox) (boxes_from (a + 1) k nodes) h in go (cases_lt a i) parts.0 (λ less. at_boxes P nodes (a + 1) k i (omega arith) (omega arith) parts.1)
   where
     go : (a < i) ⊎ (i ≤ a) → AllByRecursion P ((nodes a).inbox ++ (nodes a).outbox) → (a < i → AllByRecursion P (nodes i).outbox) → AllByRecursion P (nodes i).outbox
     go (inl less) here there = there less
-    go (inr more) here there = let same : a ≡ i = omega arith in subst (λ j. AllByRecursion P (nodes j).outbox) same (split P (nodes a).inbox (nodes a).outbox here).1
+    go (inr more) here there = let same : a ≡ i = omega arith in subst (λ j. AllByRecursion P (nodes j).outbox) same (all_parts P (nodes a).inbox (nodes a).outbox here).1
 
 of_taken : (P : Piece → Type 0) (ps : List Piece) (place : ℕ) → AllByRecursion P ps → HoldsOf P (take_out place ps)
 of_taken P ps place h = go (take_out place ps) refl

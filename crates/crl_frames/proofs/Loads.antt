@@ -1,5 +1,5 @@
 -- In every run whose calls bring bytes each piece in a box has bytes.
-use Rattle.std.proofs.Common.{◌≡◌, ℕ, ◌+◌, None, Some, List, [], ◌∷◌, ◌++◌, length, ap, sym, ◌∙◌, subst}
+use Rattle.std.proofs.Common.{◌≡◌, ℕ, ◌+◌, None, Some, List, [], ◌∷◌, length, ap, sym, ◌∙◌, subst}
 use Rattle.std.specs.List.{AllByRecursion}
 use Rattle.std.proofs.lemmas.Bool.{cond_both}
 use Rattle.crl_model.specs.declared.name.Name.{Name}
@@ -18,11 +18,12 @@ use Rattle.crl_deeds.proofs.Laws.{all_append, all_took}
 use Rattle.crl_flight.specs.Flight.{Under, IsUnder, left_of, lefts, messages_of}
 use Rattle.crl_regions.specs.MailFits.{Tables, FitsTables, MailFits}
 use Rattle.crl_regions.specs.View.{tables_of, mail_in, other_end, flown}
-use Rattle.crl_framed.proofs.Laws.{each_took, all_moved, found, about_self}
+use Rattle.crl_framed.proofs.Laws.{all_moved, found, about_self}
 use Rattle.crl_frames.specs.Frames.{IsByte, AreBytes, OfEachPiece}
 use Rattle.crl_frames.proofs.Copies.{MailBytes}
 use Rattle.crl_frames.proofs.Regions.{FlyingBytes}
 use Rattle.crl_frames.proofs.Runs.{Written, written}
+use Rattle.crl_regions.proofs.Laws.{all_by_took, all_parts}
 
 -- A message about a region that is there.
 abbrev MailHas : Tables → Kind → Type 0
@@ -42,17 +43,14 @@ mail_has w x m rest took q h mail there e =
     found FlyingBytes q (record { node = other_end q m; mail = mail }) took (ap (λ o. flown (other_end q m) o) e) (x.region q h there).flight
 
 messages_bytes : (w : World) (x : Written w) → AllByRecursion (λ (m : Message). AreBytes (load_of m.kind)) (messages_of x.under)
-messages_bytes w x = each_took (λ (m : Message). AreBytes (load_of m.kind)) (messages_of x.under)
+messages_bytes w x = all_by_took (λ (m : Message). AreBytes (load_of m.kind)) (messages_of x.under)
     (λ m rest took. load_bytes (tables_of w) m.sender m.addressee m.kind (all_took (MailFits (tables_of w)) took x.hold.mail).0 (mail_has w x m rest took))
 
 -- Its pieces.
-pub split : {A : Type 0} (P : A → Type 0) (xs ys : List A) → AllByRecursion P (xs ++ ys) → AllByRecursion P xs × AllByRecursion P ys
-split P [] ys h = (tt, h)
-split P (x ∷ xs) ys h = let rest = split P xs ys h.1 in ((h.0, rest.0), rest.1)
 
 join_bytes : (parts : List (List ℕ)) → AreBytes (join parts) → AllByRecursion AreBytes parts
 join_bytes [] h = tt
-join_bytes (p ∷ parts) h = let k = split IsByte p (join parts) h in (k.0, join_bytes parts k.1)
+join_bytes (p ∷ parts) h = let k = all_parts IsByte p (join parts) h in (k.0, join_bytes parts k.1)
 
 part_bytes : (k : Kind) (part : List ℕ) → AreBytes part → AreBytes (load_of (with_load part k))
 part_bytes (kind.Grant name version (Shared bytes)) part h = h

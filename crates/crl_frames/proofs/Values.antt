@@ -14,11 +14,11 @@ use Rattle.crl_machine.specs.SingleMachine.{IsSendable, start, parts_of}
 use Rattle.crl_protocol.specs.Parcels.{Piece}
 use Rattle.crl_protocol.specs.World.{world_of, account, pieces_in_boxes, IsRun}
 use Rattle.crl_rounds.specs.Standing.{RoundMailFits, IsRoundMail, machine_of}
-use Rattle.crl_rounds.proofs.Laws.{mail_in_runs}
-use Rattle.crl_framed.proofs.Laws.{all_up}
+use Rattle.crl_rounds.proofs.Laws.{mail_in_runs, all_map}
 use Rattle.crl_frames.specs.Frames.{OfEachPiece, OfEachPieceOfFew, IsTypedPart, BringsTyped, BringTyped}
-use Rattle.crl_frames.proofs.Entries.{CallBrings, CallsBring, part_fits, parts_fit, parts_length, nodes_stay}
+use Rattle.crl_frames.proofs.Entries.{CallBrings, CallsBring, part_fits, parts_fit, parts_length}
 use Rattle.crl_frames.proofs.Folds.{PartFits, FoldFits, FoldSendable, fold_fits, fold_sendable}
+use Rattle.crl_history.proofs.Laws.{all_nodes}
 
 abbrev pub ValueFits : Kind → Type 0
 ValueFits (kind.Come round part) = PartFits part
@@ -63,7 +63,7 @@ value_fits : (count capacity : ℕ) (run : List Event) → count ≤ 64 → Call
 value_fits count capacity run few t from to (kind.Come round part) m = subst PartFits (sym m.brought) (part_fits IsTypedPart PartFits (λ p s t. (s, t)) (tt, tt) count capacity run t from round)
 value_fits count capacity run few t from to (kind.Result round fold) m =
     let s = machine_of count capacity run in
-    let nodes = parts_length s round 0 s.nodes ∙ nodes_stay (start count) (account count capacity run) in
+    let nodes = parts_length s round 0 s.nodes ∙ all_nodes (start count) (account count capacity run) in
     let parts = parts_fit IsTypedPart PartFits (λ p s t. (s, t)) (tt, tt) count capacity run t round 0 s.nodes in
     subst FoldFits (sym m.gives) (fold_fits (parts_of s round) (subst (λ k. k ≤ 64) (sym nodes) few) parts)
 value_fits count capacity run few t from to _ m = tt
@@ -82,11 +82,11 @@ sent_boxed count capacity run r =
 pub values_fit : OfEachPiece (λ (p : Piece). ValueFits p.message.kind)
 values_fit count capacity run r =
     let w = world_of count capacity run in
-    all_up (RoundMailFits w (machine_of count capacity run)) (λ (p : Piece). ValueFits p.message.kind)
+    all_map (RoundMailFits w (machine_of count capacity run)) (λ (p : Piece). ValueFits p.message.kind)
     (λ p m. value_fits count capacity run r.nodes (bring_typed run r.brought) p.message.sender p.message.addressee p.message.kind m) (pieces_in_boxes w) (sent_boxed count capacity run r.is_run)
 
 pub values_sendable : OfEachPieceOfFew (λ (p : Piece). ValueSendable p.message.kind)
 values_sendable count capacity run few r =
     let w = world_of count capacity run in
-    all_up (RoundMailFits w (machine_of count capacity run)) (λ (p : Piece). ValueSendable p.message.kind)
+    all_map (RoundMailFits w (machine_of count capacity run)) (λ (p : Piece). ValueSendable p.message.kind)
     (λ p m. value_sendable count capacity run p.message.sender p.message.addressee p.message.kind m) (pieces_in_boxes w) (sent_boxed count capacity run r)

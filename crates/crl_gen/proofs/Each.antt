@@ -3,6 +3,7 @@ use Rattle.std.proofs.Common.{◌≡◌, ℕ, zero, suc, ◌+◌, ◌*◌, ◌-�
 use Rattle.std.specs.Prelude.{slice_index_or}
 use Rattle.std.specs.List.{AllByRecursion}
 use Rattle.crl_gen.specs.Making.{each_from}
+use Rattle.crl_deeds.proofs.Laws.{all_append}
 
 module _ {A : Type 0} (f : ℕ → List A) where
   each_next : (i n : ℕ) → i < n → each_from f i (n - i) ≡ f i ++ each_from f (i + 1) (n - (i + 1))
@@ -27,13 +28,9 @@ module _ {A : Type 0} (f : ℕ → List A) where
       subst (λ (k : ℕ). new ++ each_from f k ((first + n) - k) ≡ whole) next (loop_step (first + i) (first + n) done new whole (omega arith) e h)
 
 -- what holds of the parts, and how long they are together
-pub all_join : {A : Type 0} (P : A → Type 0) (xs ys : List A) → AllByRecursion P xs → AllByRecursion P ys → AllByRecursion P (xs ++ ys)
-all_join P [] ys h k = k
-all_join P (x ∷ xs) ys h k = (h.0, all_join P xs ys h.1 k)
-
 pub all_below : {A : Type 0} (P : A → Type 0) (f : ℕ → List A) (i k : ℕ) → ((n : ℕ) → n < i + k → AllByRecursion P (f n)) → AllByRecursion P (each_from f i k)
 all_below P f i zero h = tt
-all_below P f i (suc k) h = all_join P (f i) (each_from f (i + 1) k) (h i (omega arith)) (all_below P f (i + 1) k (λ n below. h n (omega arith)))
+all_below P f i (suc k) h = all_append P (f i) (each_from f (i + 1) k) (h i (omega arith)) (all_below P f (i + 1) k (λ n below. h n (omega arith)))
 
 pub all_each : {A : Type 0} (P : A → Type 0) (f : ℕ → List A) → ((n : ℕ) → AllByRecursion P (f n)) → (i k : ℕ) → AllByRecursion P (each_from f i k)
 all_each P f h i k = all_below P f i k (λ n _. h n)

@@ -9,7 +9,8 @@ use Rattle.crl_model.specs.declared.statement.Statement.TheVariants as statement
 use Rattle.crl_script.specs.Again.{IsStatement, IsPlain, AllStatements, AllPlain}
 use Rattle.crl_gen.specs.declared.TheConstants.{REGION_SIZE}
 use Rattle.crl_gen.specs.Making.{each_from, region_name, calls, create_of, map_of, unmap_of, round_of_write, round_of, barrier, block_made}
-use Rattle.crl_gen.proofs.Each.{all_join, all_each, all_below}
+use Rattle.crl_gen.proofs.Each.{all_each, all_below}
+use Rattle.crl_deeds.proofs.Laws.{all_append}
 
 -- it holds of the statements of a region
 pub record HoldsOf (P : Statement → Type 0) (name : Name) : Type 0 where
@@ -55,10 +56,10 @@ module _ (P : Statement → Type 0) (nodes regions : ℕ) (some : 1 ≤ regions)
       let maps_hold : AllByRecursion P maps = all_below P (map_of nodes) 0 regions (λ r below. ((h.region r (omega arith)).map, tt)) in
       let middle_holds : AllByRecursion P middle = all_each P (round_of words nodes regions) (round_holds words) (node * rounds) rounds in
       let unmaps_hold : AllByRecursion P unmaps = all_below P (unmap_of nodes) 0 regions (λ r below. ((h.region r (omega arith)).unmap, tt)) in
-      all_join P (creates ++ barrier ++ maps ++ middle ++ barrier) unmaps
-      (all_join P (creates ++ barrier ++ maps ++ middle) barrier
-      (all_join P (creates ++ barrier ++ maps) middle
-      (all_join P (creates ++ barrier) maps (all_join P creates barrier creates_hold (h.barrier, tt)) maps_hold) middle_holds) (h.barrier, tt)) unmaps_hold
+      all_append P (creates ++ barrier ++ maps ++ middle ++ barrier) unmaps
+      (all_append P (creates ++ barrier ++ maps ++ middle) barrier
+      (all_append P (creates ++ barrier ++ maps) middle
+      (all_append P (creates ++ barrier) maps (all_append P creates barrier creates_hold (h.barrier, tt)) maps_hold) middle_holds) (h.barrier, tt)) unmaps_hold
 
   pub blocks_hold : (words : ℕ → ℕ) (rounds : ℕ) → AllByRecursion (λ block. AllByRecursion P block) (each_from (λ node. block_made words nodes regions rounds node ∷ []) 0 nodes)
   blocks_hold words rounds =

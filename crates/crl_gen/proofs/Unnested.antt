@@ -7,13 +7,13 @@ use Rattle.crl_model.specs.declared.call.Call.TheVariants as call
 use Rattle.crl_model.specs.declared.statement.Statement.{Statement}
 use Rattle.crl_protocol.specs.Chosen.{block_of}
 use Rattle.crl_deeds.specs.Laws.{IsStatement, AreStatements}
-use Rattle.crl_deeds.proofs.Laws.{name_self}
+use Rattle.crl_deeds.proofs.Laws.{name_self, all_append}
 use Rattle.crl_finish.specs.Unnested.{Outside, Inside, is_unnested_from, IsUnnested, AreUnnested, rounds_in, AreAligned}
 use Rattle.crl_finish.proofs.Laws.{unnested_join, rounds_join, finishes}
 use Rattle.crl_gen.specs.declared.TheConstants.{REGION_SIZE}
 use Rattle.crl_gen.specs.Finishing.{MadeFinishes}
 use Rattle.crl_gen.specs.Making.{each_from, region_name, calls, create_of, map_of, unmap_of, round_of_write, round_of, barrier, block_made}
-use Rattle.crl_gen.proofs.Each.{all_join, all_each}
+use Rattle.crl_gen.proofs.Each.{all_each}
 
 -- Statements that are unnested, come to so many rounds, and are such as scripts have.
 record Fit (total : ℕ) (ss : List Statement) : Type 0 where
@@ -28,7 +28,7 @@ fit_join a b xs ys h k =
     let both = rounds_join xs ys in record {
       unnested = unnested_join Outside xs ys h.unnested k.unnested;
       rounds = omega arith;
-      statements = all_join IsStatement xs ys h.statements k.statements;
+      statements = all_append IsStatement xs ys h.statements k.statements;
     }
 
 fit_each : (f : ℕ → List Statement) → ((n : ℕ) → Fit 0 (f n)) → (i k : ℕ) → Fit 0 (each_from f i k)

@@ -16,7 +16,7 @@ use Rattle.crl_protocol.specs.Chosen.{Running, running, choices}
 use Rattle.crl_protocol.specs.Ends.{is_stuck, is_finished, all_finished, regions}
 use Rattle.crl_protocol.specs.Talk.{talk, AreLinesOf, lines_of_node}
 use Rattle.crl_deeds.specs.Laws.{AreStatements, chosen, Follows}
-use Rattle.crl_deeds.proofs.Laws.{follow_turns}
+use Rattle.crl_deeds.proofs.Laws.{follow_turns, follow_account}
 use Rattle.crl_regions.proofs.Laws.{count_in_run}
 use Rattle.crl_stuck.specs.Stuck.{EndsStuck}
 use Rattle.crl_stuck.specs.Ends.{statements_in}
@@ -25,7 +25,7 @@ use Rattle.crl_talk.proofs.Laws.{calls_follow, calls_stand}
 use Rattle.crl_history.proofs.Laws.{accounts_legal, quiet_ends}
 use Rattle.crl_run.specs.Reporting.{IsReportOf}
 use Rattle.crl_run.specs.Staging.{IsOnItsWay}
-use Rattle.crl_run.proofs.Laws.{chosen_on, chosen_few, follow_account, turns_fit}
+use Rattle.crl_run.proofs.Laws.{chosen_on, chosen_few, turns_fit}
 use Rattle.crl_headline.specs.Histories.{IsOneHistory, ReadsShowTheLastWrite, ArrayIsTheLastWrites}
 
 -- where all nodes are finished, none has a statement left

@@ -1,30 +1,26 @@
 -- What a node has and what the single machine has of it go the same way with each event.
-use Rattle.std.proofs.Common.{◌≡◌, ℕ, ◌<◌, ◌==◌, ◌&&◌, Bool, true, false, None, Some, Option, List, refl, ap, sym, ◌∙◌, subst}
+use Rattle.std.proofs.Common.{◌≡◌, ℕ, ◌<◌, ◌==◌, Bool, true, false, None, Some, Option, List, refl, ap, sym, ◌∙◌, subst}
 use Rattle.std.proofs.lemmas.Bool.{cond_both, and_parts, eqb-true, ltb-true}
 use Rattle.crl_model.specs.declared.name.Name.{Name}
 use Rattle.crl_model.specs.declared.directory.Section.TheVariants.{Closed}
 use Rattle.crl_model.specs.declared.event.Event.{Event}
 use Rattle.crl_model.specs.declared.event.Event.TheVariants as event
-use Rattle.crl_model.specs.declared.message.Kind.{Kind}
 use Rattle.crl_model.specs.Names.{at_node}
 use Rattle.crl_machine.specs.SingleMachine.{State, after_all}
-use Rattle.crl_pieces.specs.Pieces.{is_missing, is_complete, joined}
-use Rattle.crl_protocol.specs.Parcels.{Piece, with_load, Key, key_of, slots_or, at_key, fits_size, PartsGathered}
-use Rattle.crl_protocol.specs.Receiving.{size_for, slots_with, gathers_piece, receives_part, receives_as, receives}
+use Rattle.crl_protocol.specs.Parcels.{Piece, with_load, PartsGathered}
 use Rattle.crl_protocol.specs.Places.{Took, Taken, take_out}
 use Rattle.crl_protocol.specs.Home.{Home}
 use Rattle.crl_protocol.specs.Remote.{Remote}
 use Rattle.crl_protocol.specs.Sections.{section_at}
-use Rattle.crl_protocol.specs.Node.{Node, Activity, Free, Waiting, Ready, Recorded, Note, Done, Outcome, only, home_of}
+use Rattle.crl_protocol.specs.Node.{Node, Activity, Free, Waiting, Ready, Recorded, Note, Outcome, home_of}
 use Rattle.crl_protocol.specs.Calls.{node_calls}
-use Rattle.crl_protocol.specs.Handlers.{node_handles}
 use Rattle.crl_protocol.specs.Verdict.{verdict}
-use Rattle.crl_protocol.specs.World.{World, note, put_in, commits, collects, carries, steps_node, handles_at, step, is_free, is_ready, is_enabled, noted_call}
+use Rattle.crl_protocol.specs.World.{World, note, put_in, commits, collects, carries, steps_node, handles_at, step, is_ready, is_enabled, noted_call}
 use Rattle.crl_deeds.specs.Counts.{NoneYet, SectionsFit, Known}
 use Rattle.crl_deeds.specs.Deeds.{FreeIf, Cause, Calls, Hears, Deed}
-use Rattle.crl_deeds.specs.NodeFacts.{IsAway, Leaves, ComesIn, Fits}
+use Rattle.crl_deeds.specs.NodeFacts.{Leaves, ComesIn, Fits}
 use Rattle.crl_deeds.specs.Turns.{Came}
-use Rattle.crl_deeds.proofs.Laws.{call_deed, message_deed, took_at, all_took, away_load}
+use Rattle.crl_deeds.proofs.Laws.{call_deed, message_deed, received, took_at, all_took, away_load, free_is}
 
 -- The sections of a node are those of the home's table, and a node that asks for a copy has none open.
 pub record SectionsAgree (n : Node) : Type 0 where
@@ -75,30 +71,6 @@ box_mirrors : (A : Type 0) (of : State → ℕ → A) (Says : A → Node → Typ
 box_mirrors A of Says w s j n here h k few =
     cond_both (j == k) n (w.nodes k) (λ x. Says (of s k) x) (λ same. subst (λ i. i < w.count → Says (of s i) n) (eqb-true j k same) here few) (λ apart. h k few)
 
--- A piece that comes makes a message whole, or is kept.
-receives_both : (Q : Outcome → Type 0) (p : Piece) (n : Node) → ((parcels : PartsGathered) (k : Kind) → IsAway p.message.sender n.me k → Q (node_handles p.message.sender k (record n { parcels = parcels })))
-    → ((parcels : PartsGathered) → Q (only (record n { parcels = parcels }) Done)) → IsAway p.message.sender n.me p.message.kind → Q (receives p n)
-receives_both Q p n handles keeps away = by_key (key_of p.message)
-  where
-    of_slots : (key : Key) (slots : List (Option (List ℕ))) → Q (gathers_piece key p slots n)
-    of_slots key slots =
-        cond_both (is_complete slots) _ _ Q
-        (λ v. handles (at_key n.parcels key None) (with_load (joined slots) p.message.kind) (subst (λ (x : Type 0). x) (away_load p.message.sender n.me (joined slots) p.message.kind) away))
-        (λ v. keeps (at_key n.parcels key (Some slots)))
-
-    of_size : (key : Key) (size : Option ℕ) → Q (receives_part key p size n)
-    of_size key None = keeps n.parcels
-    of_size key (Some size) = cond_both (fits_size size p && is_missing p.index (slots_or p.pieces (n.parcels key))) _ _ Q (λ v. of_slots key (slots_with p (n.parcels key))) (λ v. keeps n.parcels)
-
-    by_key : (o : Option Key) → Q (receives_as o p n)
-    by_key None = handles n.parcels p.message.kind away
-    by_key (Some key) = of_size key (size_for key.load key.name n)
-
-free_is : (a : Activity) → is_free a ≡ true → a ≡ Free
-free_is Free e = refl
-free_is (Waiting awaited) e = cc
-free_is (Ready answer) e = cc
-
 -- What is known of a node in a world of a run.
 abbrev pub AllAgree : World → Type 0
 AllAgree w = (i : ℕ) → SectionsAgree (w.nodes i)
@@ -146,11 +118,19 @@ mirrored_event A of Says m w (event.Handle i place) may x agree s h = go (take_o
     go None t = h
     go (Some t) found =
         let took = took_at place n.inbox t found in
-        receives_both (λ o. AllMirror A of Says (steps_node i e o w).world (after_all s o.entries)) t.taken (record n { inbox = t.rest })
-        (λ parcels k away. outcome_mirrors A of Says m w s i (record n { inbox = t.rest; parcels = parcels }) e (Hears t.taken.message.sender k) _ (x.fits i).me
-        (record { deed = message_deed (record n { inbox = t.rest; parcels = parcels }) t.taken.message.sender k; known = boxed_known i n t.taken t.rest parcels took (node_known w x agree i); away = away; free = tt; is = tt })
+        let from = t.taken.message.sender in
+        let away = (all_took (ComesIn n.me) took (x.fits i).inbox).0 in
+        received (λ o. AllMirror A of Says (steps_node i e o w).world (after_all s o.entries)) t.taken (record n { inbox = t.rest })
+        (λ parcels part. outcome_mirrors A of Says m w s i (record n { inbox = t.rest; parcels = parcels }) e (Hears from (with_load part t.taken.message.kind)) _ (x.fits i).me
+        (record {
+          deed = message_deed (record n { inbox = t.rest; parcels = parcels }) from (with_load part t.taken.message.kind);
+          known = boxed_known i n t.taken t.rest parcels took (node_known w x agree i);
+          away = subst (λ (y : Type 0). y) (away_load from n.me part t.taken.message.kind) away;
+          free = tt;
+          is = tt;
+        })
         (m.boxes (of s i) n _ _ _ _ _ _ here) h)
-        (λ parcels. box_mirrors A of Says w s i _ (λ few. m.boxes (of s i) n _ _ _ _ _ _ here) h) (all_took (ComesIn n.me) took (x.fits i).inbox).0
+        (λ parcels key keyed. box_mirrors A of Says w s i _ (λ few. m.boxes (of s i) n _ _ _ _ _ _ here) h)
 mirrored_event A of Says m w (event.Carry i place) may x agree s h = go (take_out place (w.nodes i).outbox)
   where
     go : (o : Option (Taken Piece)) → AllMirror A of Says (carries i (event.Carry i place) o w).world (after_all s (carries i (event.Carry i place) o w).entries)

@@ -58,9 +58,9 @@ NoneElsewhere w s = (r : Name) → w.count ≤ r.home → s.stage r ≡ stage.Un
 far : (j home count me : ℕ) → me ≡ j → j < count → count ≤ home → (home == me) ≡ false
 far j home count me e few h = ne_eqb home me (λ x. omega arith)
 
-elsewhere_turn : (w : World) (v : WorldStep) → Turn w v → Known w → (s : State) (r : Name) → w.count ≤ r.home → s.stage r ≡ stage.Unknown → (after_all s v.entries).stage r ≡ stage.Unknown
-elsewhere_turn w v (calls j e c o few free may d) x s r h none = stage_elsewhere (w.nodes j) _ o d s r (far j r.home w.count (w.nodes j).me (x.fits j).me few h) ∙ none
-elsewhere_turn w v (hears j e p rest parcels part o few took d) x s r h none = stage_elsewhere _ _ o d s r (far j r.home w.count (w.nodes j).me (x.fits j).me few h) ∙ none
+elsewhere_turn : (w : World) (v : WorldStep) {e : Event} → Turn w e v → Known w → (s : State) (r : Name) → w.count ≤ r.home → s.stage r ≡ stage.Unknown → (after_all s v.entries).stage r ≡ stage.Unknown
+elsewhere_turn w v (calls j c o few free may d) x s r h none = stage_elsewhere (w.nodes j) _ o d s r (far j r.home w.count (w.nodes j).me (x.fits j).me few h) ∙ none
+elsewhere_turn w v (hears j place p rest parcels part o few took d) x s r h none = stage_elsewhere _ _ o d s r (far j r.home w.count (w.nodes j).me (x.fits j).me few h) ∙ none
 elsewhere_turn w v _ x s r h none = none
 
 elsewhere_run : (count capacity : ℕ) (run : List Event) → IsRunFrom (new_world count capacity) run → NoneElsewhere (world_of count capacity run) (machine_of count capacity run)
@@ -80,11 +80,11 @@ maps_run count capacity run r =
     (λ i q few. let none = sum_new (load (grants_map i q) nothing) count capacity (λ j. refl) in omega arith) run r
 
 -- No entry changes how many nodes there are.
-change_nodes : (s : State) (n : ℕ) (w : What) → (change s n w).nodes ≡ s.nodes
+pub change_nodes : (s : State) (n : ℕ) (w : What) → (change s n w).nodes ≡ s.nodes
 change_nodes s n (what.Flush name) = refl
 change_nodes s n _ = refl
 
-all_nodes : (s : State) (es : List Entry) → (after_all s es).nodes ≡ s.nodes
+pub all_nodes : (s : State) (es : List Entry) → (after_all s es).nodes ≡ s.nodes
 all_nodes s [] = refl
 all_nodes s (e ∷ es) = all_nodes (after s e) es ∙ change_nodes s e.node e.what
 

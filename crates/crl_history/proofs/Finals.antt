@@ -43,14 +43,13 @@ apart_from j i count few far = ne_eqb j i (λ e. omega arith)
 put_same : (nodes : ℕ → Node) (to i : ℕ) (p : Piece) → (at_node nodes to (put_in p (nodes to)) i).remotes ≡ (nodes i).remotes
 put_same nodes to i p = cond_both (to == i) (put_in p (nodes to)) (nodes i) (λ (n : Node). n.remotes ≡ (nodes i).remotes) (λ e. ap (λ k. (nodes k).remotes) (eqb-true to i e)) (λ e. refl)
 
-beyond_turn : (w : World) (v : WorldStep) → Turn w v → (i : ℕ) → w.count ≤ i → (v.world.nodes i).remotes ≡ (w.nodes i).remotes
-beyond_turn w v (turn.calls j e c o few free is d) i far = ap (λ (n : Node). n.remotes) (cond-false (j == i) _ (w.nodes i) (apart_from j i w.count few far))
-beyond_turn w v (turn.hears j e p rest parcels part o few took d) i far = ap (λ (n : Node). n.remotes) (cond-false (j == i) _ (w.nodes i) (apart_from j i w.count few far))
-beyond_turn w v (turn.gathers j e p rest parcels key few took is) i far = ap (λ (n : Node). n.remotes) (cond-false (j == i) _ (w.nodes i) (apart_from j i w.count few far))
-beyond_turn w v (turn.answers j e answer few ready) i far = ap (λ (n : Node). n.remotes) (cond-false (j == i) _ (w.nodes i) (apart_from j i w.count few far))
-beyond_turn w v (turn.carriage j e p rest few took) i far =
+beyond_turn : (w : World) (v : WorldStep) {e : Event} → Turn w e v → (i : ℕ) → w.count ≤ i → (v.world.nodes i).remotes ≡ (w.nodes i).remotes
+beyond_turn w v (turn.calls j c o few free is d) i far = ap (λ (n : Node). n.remotes) (cond-false (j == i) _ (w.nodes i) (apart_from j i w.count few far))
+beyond_turn w v (turn.hears j place p rest parcels part o few took d) i far = ap (λ (n : Node). n.remotes) (cond-false (j == i) _ (w.nodes i) (apart_from j i w.count few far))
+beyond_turn w v (turn.gathers j place p rest parcels key few took is) i far = ap (λ (n : Node). n.remotes) (cond-false (j == i) _ (w.nodes i) (apart_from j i w.count few far))
+beyond_turn w v (turn.answers j answer few ready) i far = ap (λ (n : Node). n.remotes) (cond-false (j == i) _ (w.nodes i) (apart_from j i w.count few far))
+beyond_turn w v (turn.carriage j place p rest few took) i far =
     put_same (at_node w.nodes j _) p.message.addressee i p ∙ ap (λ (n : Node). n.remotes) (cond-false (j == i) _ (w.nodes i) (apart_from j i w.count few far))
-beyond_turn w v turn.rests i far = refl
 
 beyond_run : (count capacity : ℕ) (run : List Event) → IsRunFrom (new_world count capacity) run → NoneBeyond (world_of count capacity run) (machine_of count capacity run)
 beyond_run count capacity run r =

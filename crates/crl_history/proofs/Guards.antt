@@ -6,6 +6,7 @@ use Rattle.crl_model.specs.declared.collective.Fold.{Fold}
 use Rattle.crl_model.specs.declared.collective.Fold.TheVariants as fold
 use Rattle.crl_model.specs.declared.directory.Section.TheVariants as section
 use Rattle.crl_model.specs.declared.event.Event.{Event}
+use Rattle.crl_model.specs.declared.event.Event.TheVariants as event
 use Rattle.crl_model.specs.declared.message.DeleteTold.{DeleteTold}
 use Rattle.crl_model.specs.declared.message.DeleteTold.TheVariants as delete_told
 use Rattle.crl_model.specs.Names.{at_node, at_name}
@@ -23,9 +24,9 @@ use Rattle.crl_protocol.specs.World.{World, WorldStep, new_world, world_of, step
 use Rattle.crl_deeds.specs.Deeds.{FreeIf, Cause, Calls, Hears, Copies, Lives, Rounds, Deed}
 use Rattle.crl_deeds.specs.Deeds as deed
 use Rattle.crl_deeds.specs.NodeFacts.{Leaves, ComesIn}
-use Rattle.crl_deeds.specs.Turns.{Turn, Came}
+use Rattle.crl_deeds.specs.Turns.{noted_as, Turn, Came}
 use Rattle.crl_deeds.specs.Turns as turn
-use Rattle.crl_deeds.proofs.Laws.{turn_of, all_took, away_load, name_self, home_put}
+use Rattle.crl_deeds.proofs.Laws.{turn_of, all_took, away_load, name_self, home_put, world_grows}
 use Rattle.crl_regions.specs.View.{side, table_of, table_or_blank, view}
 use Rattle.crl_regions.proofs.Laws.{sections_are_tables, sizes_known}
 use Rattle.crl_flight.specs.Flight.{messages_of}
@@ -38,7 +39,7 @@ use Rattle.crl_history.proofs.Histories.{ground_in_runs, machine_then}
 use Rattle.crl_history.proofs.Knows.{own_home, not_own}
 use Rattle.crl_history.proofs.LegalEvents.{write_begun, read_opens}
 use Rattle.crl_history.proofs.Openings.{OpensAs, start_may, grant_asked, closed_may}
-use Rattle.crl_history.proofs.Runs.{world_then, run_then, runs_by_end}
+use Rattle.crl_history.proofs.Runs.{run_then, runs_by_end}
 use Rattle.crl_history.proofs.Sections.{own_may}
 
 -- Bytes that the record of an open section has.
@@ -231,18 +232,17 @@ one_ready w i n has all k = cond_both (i == k) n (w.nodes k) (λ (x : Node). Rea
 away_piece : (w : World) (i : ℕ) (p : Piece) (rest : List Piece) (part : List ℕ) (s : State) → Ground w s → Took p (w.nodes i).inbox rest → Came Leaves (w.nodes i).me (Hears p.message.sender (with_load part p.message.kind))
 away_piece w i p rest part s g took = subst (λ (x : Type 0). x) (away_load p.message.sender (w.nodes i).me part p.message.kind) (all_took (ComesIn (w.nodes i).me) took (g.known.fits i).inbox).0
 
-turn_has : (w : World) (v : WorldStep) (s t : State) → Turn w v → Ground w s → ((i : ℕ) → NodeShows t (v.world.nodes i)) → AllReady w → AllReady v.world
-turn_has w v s t (turn.calls i e c o few free is d) g shows all =
-    one_ready w i _ (deed_has t i (w.nodes i) (Calls c) o d tt (node_known w g.known g.agree i) free (unboxed t w.events e o (here_shows w i _ t (shows i))) (all i)) all
-turn_has w v s t (turn.hears i e p rest parcels part o few took d) g shows all =
-    one_ready w i _ (deed_has t i _ _ o d (away_piece w i p rest part s g took) (boxed_known i (w.nodes i) p rest parcels took (node_known w g.known g.agree i)) tt (unboxed t w.events e o (here_shows w i _ t (shows i))) (all i)) all
-turn_has w v s t (turn.gathers i e p rest parcels key few took is) g shows all = one_ready w i _ (all i) all
-turn_has w v s t (turn.answers i e answer few ready) g shows all = one_ready w i _ tt all
-turn_has w v s t (turn.carriage i e p rest few took) g shows all =
+turn_has : (w : World) (v : WorldStep) (s t : State) → {e : Event} → Turn w e v → Ground w s → ((i : ℕ) → NodeShows t (v.world.nodes i)) → AllReady w → AllReady v.world
+turn_has w v s t (turn.calls i c o few free is d) g shows all =
+    one_ready w i _ (deed_has t i (w.nodes i) (Calls c) o d tt (node_known w g.known g.agree i) free (unboxed t w.events (noted_as w i c) o (here_shows w i _ t (shows i))) (all i)) all
+turn_has w v s t (turn.hears i place p rest parcels part o few took d) g shows all =
+    one_ready w i _ (deed_has t i _ _ o d (away_piece w i p rest part s g took) (boxed_known i (w.nodes i) p rest parcels took (node_known w g.known g.agree i)) tt (unboxed t w.events (event.Handle i place) o (here_shows w i _ t (shows i))) (all i)) all
+turn_has w v s t (turn.gathers i place p rest parcels key few took is) g shows all = one_ready w i _ (all i) all
+turn_has w v s t (turn.answers i answer few ready) g shows all = one_ready w i _ tt all
+turn_has w v s t (turn.carriage i place p rest few took) g shows all =
     let sent = at_node w.nodes i _ in
     let all_sent = one_ready w i _ (all i) all in
     one_ready (record w { nodes = sent }) p.message.addressee (put_in p (sent p.message.addressee)) (all_sent p.message.addressee) all_sent
-turn_has w v s t turn.rests g shows all = all
 
 record_shows : (s : State) (n : Node) (q : Name) (o : Option OpenSection) (bytes : List ℕ) → n.sections.records q ≡ o → RecordHas o bytes → NodeShows s n → bytes ≡ s.bytes q
 record_shows s n q None bytes e has h = absurd has
@@ -253,10 +253,10 @@ ready_shows s n (Reading g) has h = record_shows s n g.name _ g.bytes refl has h
 ready_shows s n (Writing g) has h = record_shows s n g.name _ g.bytes refl has h
 ready_shows s n _ has h = tt
 
-turn_answer : (w : World) (v : WorldStep) (s t : State) → Turn w v → Ground w s → ((i : ℕ) → NodeShows t (v.world.nodes i)) → AllReady w → AnswerShows t v.answer
-turn_answer w v s t (turn.calls i e c o few free is d) g shows all = deed_answer t _ _ o d (unboxed t w.events e o (here_shows w i _ t (shows i)))
-turn_answer w v s t (turn.hears i e p rest parcels part o few took d) g shows all = deed_answer t _ _ o d (unboxed t w.events e o (here_shows w i _ t (shows i)))
-turn_answer w v s t (turn.answers i e answer few ready) g shows all =
+turn_answer : (w : World) (v : WorldStep) (s t : State) → {e : Event} → Turn w e v → Ground w s → ((i : ℕ) → NodeShows t (v.world.nodes i)) → AllReady w → AnswerShows t v.answer
+turn_answer w v s t (turn.calls i c o few free is d) g shows all = deed_answer t _ _ o d (unboxed t w.events (noted_as w i c) o (here_shows w i _ t (shows i)))
+turn_answer w v s t (turn.hears i place p rest parcels part o few took d) g shows all = deed_answer t _ _ o d (unboxed t w.events (event.Handle i place) o (here_shows w i _ t (shows i)))
+turn_answer w v s t (turn.answers i answer few ready) g shows all =
     let h = here_shows w i _ t (shows i) in
     ready_shows t (w.nodes i) answer (subst (λ a. ReadyHas (w.nodes i).sections a) ready (all i)) (record { home = h.home; other = h.other; shown = h.shown })
 turn_answer w v s t _ g shows all = tt
@@ -264,7 +264,7 @@ turn_answer w v s t _ g shows all = tt
 -- what nodes show after one event more
 shows_then : (count capacity : ℕ) (run : List Event) (e : Event) → IsRunFrom (new_world count capacity) run → is_enabled e (world_of count capacity run) ≡ true → (i : ℕ) → NodeShows (machine_of count capacity (run ++ e ∷ [])) ((step e (world_of count capacity run)).world.nodes i)
 shows_then count capacity run e r may i =
-    subst (λ (v : World). NodeShows (machine_of count capacity (run ++ e ∷ [])) (v.nodes i)) (world_then (new_world count capacity) run e) (node_shows count capacity (run ++ e ∷ []) (run_then (new_world count capacity) run e r may) i)
+    subst (λ (v : World). NodeShows (machine_of count capacity (run ++ e ∷ [])) (v.nodes i)) (world_grows (new_world count capacity) run e) (node_shows count capacity (run ++ e ∷ []) (run_then (new_world count capacity) run e r may) i)
 
 ready_run : (count capacity : ℕ) (run : List Event) → IsRunFrom (new_world count capacity) run → AllReady (world_of count capacity run)
 ready_run count capacity run r =

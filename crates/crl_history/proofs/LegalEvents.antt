@@ -5,6 +5,7 @@ use Rattle.crl_model.specs.declared.name.Name.{Name}
 use Rattle.crl_model.specs.declared.directory.Section.{Section}
 use Rattle.crl_model.specs.declared.directory.Section.TheVariants as section
 use Rattle.crl_model.specs.declared.event.Event.{Event}
+use Rattle.crl_model.specs.declared.event.Event.TheVariants as event
 use Rattle.crl_model.specs.Names.{name_eq, at_name}
 use Rattle.crl_machine.specs.SingleMachine.{State, IsHistory, IsClosedAt}
 use Rattle.crl_protocol.specs.Parcels.{Piece, PartsGathered, with_load}
@@ -15,7 +16,7 @@ use Rattle.crl_protocol.specs.World.{World, WorldStep, commits, steps_node}
 use Rattle.crl_deeds.specs.Deeds.{FreeIf, Cause, Calls, Hears, Deed}
 use Rattle.crl_deeds.specs.Deeds as deed
 use Rattle.crl_deeds.specs.NodeFacts.{Leaves, ComesIn}
-use Rattle.crl_deeds.specs.Turns.{Turn, Came}
+use Rattle.crl_deeds.specs.Turns.{noted_as, Turn, Came}
 use Rattle.crl_deeds.specs.Turns as turn
 use Rattle.crl_deeds.proofs.Laws.{refused_for, all_took, away_load, name_self}
 use Rattle.crl_regions.specs.Reached.{WriteSectionsAreAlone}
@@ -126,14 +127,14 @@ boxed_sees s n inbox parcels h = record {
   shown = h.shown;
 }
 
-pub turn_legal : (w : World) (v : WorldStep) (s : State) → Turn w v → Ground w s → WriteSectionsAreAlone v.world → FitAll s v.entries → IsHistory s v.entries
-turn_legal w v s (turn.calls i e c o few free is d) g alone rounds =
-    deed_legal s i (w.nodes i) (Calls c) o d tt (node_known w g.known g.agree i) free is (sees w s i g few) (lets_as w s i e o g alone) rounds
-turn_legal w v s (turn.hears i e p rest parcels part o few took d) g alone rounds =
+pub turn_legal : (w : World) (v : WorldStep) (s : State) → {e : Event} → Turn w e v → Ground w s → WriteSectionsAreAlone v.world → FitAll s v.entries → IsHistory s v.entries
+turn_legal w v s (turn.calls i c o few free is d) g alone rounds =
+    deed_legal s i (w.nodes i) (Calls c) o d tt (node_known w g.known g.agree i) free is (sees w s i g few) (lets_as w s i (noted_as w i c) o g alone) rounds
+turn_legal w v s (turn.hears i place p rest parcels part o few took d) g alone rounds =
     let n = w.nodes i in
     let from = p.message.sender in
     let me = (g.known.fits i).me in
     let away = subst (λ (x : Type 0). x) (away_load from n.me part p.message.kind) (all_took (ComesIn n.me) took (g.known.fits i).inbox).0 in
     deed_legal s i (record n { inbox = rest; parcels = parcels }) _ o d away (boxed_known i n p rest parcels took (node_known w g.known g.agree i)) tt
-    (subst (λ k. HeardFits s from k (with_load part p.message.kind)) (sym me) (heard w s i p rest part g few took)) (boxed_sees s n rest parcels (sees w s i g few)) (lets_as w s i e o g alone) rounds
+    (subst (λ k. HeardFits s from k (with_load part p.message.kind)) (sym me) (heard w s i p rest part g few took)) (boxed_sees s n rest parcels (sees w s i g few)) (lets_as w s i (event.Handle i place) o g alone) rounds
 turn_legal w v s _ g alone rounds = tt

@@ -4,22 +4,24 @@ use Rattle.std.proofs.Common.{◌≡◌, ℕ, zero, suc, ◌+◌, ◌≤◌, ◌
 use Rattle.std.proofs.lemmas.Bool.{cond-true, cond-false, eqb-true, eqb-false, cond_both}
 use Rattle.crl_model.specs.declared.name.Name.{Name}
 use Rattle.crl_model.specs.declared.event.Event.{Event}
+use Rattle.crl_model.specs.declared.event.Event.TheVariants as event
 use Rattle.crl_model.specs.declared.message.Kind.{Kind}
 use Rattle.crl_model.specs.declared.message.Kind.TheVariants as kind
 use Rattle.crl_model.specs.Names.{at_node}
 use Rattle.crl_machine.specs.SingleMachine.{State, after_all}
 use Rattle.crl_protocol.specs.Parcels.{Piece, with_load, pieces_in}
-use Rattle.crl_protocol.specs.Places.{Took, here, there}
+use Rattle.crl_protocol.specs.Places.{Took, there}
 use Rattle.crl_protocol.specs.Node.{Node, Free, Done, Outcome, only, map_count}
 use Rattle.crl_protocol.specs.World.{World, WorldStep, note, put_in, commits, steps_node, carries, boxes_from, pieces_in_boxes}
 use Rattle.crl_deeds.specs.Counts.{Plain, Known}
 use Rattle.crl_deeds.specs.Deeds.{Calls, Hears}
 use Rattle.crl_deeds.specs.NodeFacts.{ComesIn, Fits}
 use Rattle.crl_deeds.specs.Tokens.{on_piece, weighs, sum, load, came}
-use Rattle.crl_deeds.specs.Turns.{Turn, calls, hears, gathers, answers, carriage, rests, Frame, HeldIn}
+use Rattle.crl_deeds.specs.Turns.{noted_as, Turn, calls, hears, gathers, answers, carriage, Frame, HeldIn}
 use Rattle.crl_deeds.proofs.Laws.{deed_frame, all_took, away_load, sum_with, sum_part, weigh_append, weigh_took, weighs_posted, boxed_sum, whole_of, part_same, keyed_none}
 use Rattle.crl_lifetime.specs.Lifetime.{tells_live, any_size, how_many, under_way, TalkFits, MessageFits}
 use Rattle.crl_history.proofs.MapDeeds.{grants_map, maps_of, MapsGo, nothing, grants_span, IsAwaited, maps_deed}
+use Rattle.crl_flight.proofs.Laws.{took_left}
 
 -- the maps that are granted and whose answer is in a box
 abbrev pub granted : ℕ → Name → World → ℕ
@@ -106,10 +108,10 @@ awaits : (w : World) (n : Node) (part : List ℕ) (from to : ℕ) (k : Kind) →
 awaits w n part from to (kind.InfoIs name t) e h = (h.1, e ∙ h.2)
 awaits w n part from to _ e h = tt
 
-pub maps_turn : (w : World) (v : WorldStep) → Turn w v → Known w → PiecesFit w → (s : State) → MapsMirror w s → (i : ℕ) (r : Name) → i < w.count → (after_all s v.entries).maps i r ≡ map_count ((v.world.nodes i).maps r) + granted i r v.world
-maps_turn w v (calls j e c o few free may d) x p s h i r small =
-    maps_outcome i r w s j (w.nodes j) e 0 o few (deed_frame _ _ _ d) (x.fits j).me refl (omega arith) (λ l. maps_deed i r j s (w.nodes j) (Calls c) o d (x.fits j) tt free tt l) (h i r small)
-maps_turn w v (hears j e p rest parcels part o few took d) x k s h i r small =
+pub maps_turn : (w : World) (v : WorldStep) {e : Event} → Turn w e v → Known w → PiecesFit w → (s : State) → MapsMirror w s → (i : ℕ) (r : Name) → i < w.count → (after_all s v.entries).maps i r ≡ map_count ((v.world.nodes i).maps r) + granted i r v.world
+maps_turn w v (calls j c o few free may d) x p s h i r small =
+    maps_outcome i r w s j (w.nodes j) (noted_as w j c) 0 o few (deed_frame _ _ _ d) (x.fits j).me refl (omega arith) (λ l. maps_deed i r j s (w.nodes j) (Calls c) o d (x.fits j) tt free tt l) (h i r small)
+maps_turn w v (hears j place p rest parcels part o few took d) x k s h i r small =
     let m = p.message in
     let f = grants_map i r in
     let n : Node = record (w.nodes j) { inbox = rest; parcels = parcels } in
@@ -119,20 +121,19 @@ maps_turn w v (hears j e p rest parcels part o few took d) x k s h i r small =
     let fits : Fits j n = record { me = t.me; each = t.each; cache = t.cache; fresh = t.fresh; inbox = mine.1; outbox = t.outbox } in
     let weight : f m ≡ came f n.me (Hears m.sender (with_load part m.kind)) = ap (λ a. f (record { sender = m.sender; addressee = a; kind = m.kind })) (to ∙ sym t.me) ∙ sym (part_same f (grants_span i r).mail m.sender n.me part m.kind) in
     let took_out = weigh_took (on_piece f) took in
-    maps_outcome i r w s j n e (came f n.me (Hears m.sender (with_load part m.kind))) o few (deed_frame _ _ _ d) t.me refl (omega arith)
+    maps_outcome i r w s j n (event.Handle j place) (came f n.me (Hears m.sender (with_load part m.kind))) o few (deed_frame _ _ _ d) t.me refl (omega arith)
     (λ l. maps_deed i r j s n (Hears m.sender (with_load part m.kind)) o d fits (subst (λ (y : Type 0). y) (away_load m.sender n.me part m.kind) mine.0) tt
     (awaits w n part m.sender m.addressee m.kind (ap (λ a. (w.nodes a).activity) (sym to)) (k.heard j p rest few took)) l) (h i r small)
-maps_turn w v (gathers j e p rest parcels key few took keyed) x k s h i r small =
+maps_turn w v (gathers j place p rest parcels key few took keyed) x k s h i r small =
     let f = grants_map i r in
     let n : Node = record (w.nodes j) { inbox = rest; parcels = parcels } in
     let none = keyed_none f (grants_span i r).mail p.message.sender p.message.addressee p.message.kind key keyed in
     let took_out = weigh_took (on_piece f) took in
-    maps_outcome i r w s j n e 0 (only n Done) few (record { me = refl; nodes = refl; capacity = refl; inbox = refl; outbox = refl; parcels = refl }) (x.fits j).me refl (omega arith) (λ l. refl) (h i r small)
-maps_turn w v (answers j e answer few ready) x k s h i r small =
+    maps_outcome i r w s j n (event.Handle j place) 0 (only n Done) few (record { me = refl; nodes = refl; capacity = refl; inbox = refl; outbox = refl; parcels = refl }) (x.fits j).me refl (omega arith) (λ l. refl) (h i r small)
+maps_turn w v (answers j answer few ready) x k s h i r small =
     let o : Outcome = record { node = record (w.nodes j) { activity = Free }; answer = answer; entries = []; posts = [] } in
-    maps_outcome i r w s j (w.nodes j) e 0 o few (record { me = refl; nodes = refl; capacity = refl; inbox = refl; outbox = refl; parcels = refl }) (x.fits j).me refl (omega arith) (λ l. refl) (h i r small)
-maps_turn w v (carriage j e p rest few took) x k s h i r small = maps_carried i r w s j e p rest few took (k.sent j p rest few took) (h i r small)
-maps_turn w v rests x k s h i r small = h i r small
+    maps_outcome i r w s j (w.nodes j) (event.Collect j) 0 o few (record { me = refl; nodes = refl; capacity = refl; inbox = refl; outbox = refl; parcels = refl }) (x.fits j).me refl (omega arith) (λ l. refl) (h i r small)
+maps_turn w v (carriage j place p rest few took) x k s h i r small = maps_carried i r w s j (event.Carry j place) p rest few took (k.sent j p rest few took) (h i r small)
 
 -- They are counted in the boxes.
 many_is : (i : ℕ) (r : Name) (ps : List Piece) → weighs (grants_map i r) ps ≡ how_many (tells_live any_size i r) ps
@@ -146,10 +147,6 @@ granted_under_way i r w = sym (boxed_sum (grants_map i r) w) ∙ many_is i r (pi
 took_right : {A : Type 0} (xs : List A) {x : A} {ys zs : List A} → Took x ys zs → Took x (xs ++ ys) (xs ++ zs)
 took_right [] t = t
 took_right (y ∷ xs) t = there (took_right xs t)
-
-took_left : {A : Type 0} {x : A} {xs ys : List A} (zs : List A) → Took x xs ys → Took x (xs ++ zs) (ys ++ zs)
-took_left zs here = here
-took_left zs (there t) = there (took_left zs t)
 
 took_from : (p : Piece) (i k j : ℕ) (nodes : ℕ → Node) (rest : List Piece) → i ≤ j → j < i + k → Took p ((nodes j).inbox ++ (nodes j).outbox) rest → (left : List Piece) × Took p (boxes_from i k nodes) left
 took_from p i zero j nodes rest h l t = absurd (omega arith)

@@ -21,7 +21,7 @@ use Rattle.crl_rounds.specs.Standing.{FitAll, FitsRounds}
 use Rattle.crl_history.proofs.SectionEntries.{free_now}
 use Rattle.crl_history.proofs.Seen.{Sees}
 
-sendable : (p : Part) → of_part p ≡ None → IsSendable p
+pub sendable : (p : Part) → of_part p ≡ None → IsSendable p
 sendable (part.Send bytes) e = send_fits bytes e
 sendable part.Barrier e = tt
 sendable part.Receive e = tt

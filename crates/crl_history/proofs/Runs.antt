@@ -1,29 +1,15 @@
 -- Runs from their end: what each event keeps holds after each run.
-use Rattle.std.proofs.Common.{◌≡◌, ℕ, true, List, [], ◌∷◌, ◌++◌, refl, ap, sym, ◌∙◌, subst}
+use Rattle.std.proofs.Common.{◌≡◌, ℕ, true, List, [], ◌∷◌, ◌++◌, ap, sym, ◌∙◌, subst}
 use Rattle.std.proofs.lemmas.List.{append_assoc}
-use Rattle.crl_model.specs.declared.entry.Entry.{Entry}
 use Rattle.crl_model.specs.declared.event.Event.{Event}
-use Rattle.crl_machine.specs.SingleMachine.{State, after, after_all}
-use Rattle.crl_protocol.specs.World.{World, new_world, step, is_enabled, IsRunFrom, world_after, world_of, account_from, account}
-use Rattle.crl_deeds.proofs.Laws.{append_nil}
-
-pub world_then : (w : World) (run : List Event) (e : Event) → world_after w (run ++ e ∷ []) ≡ (step e (world_after w run)).world
-world_then w [] e = refl
-world_then w (x ∷ run) e = world_then (step x w).world run e
-
-pub account_then : (w : World) (run : List Event) (e : Event) → account_from w (run ++ e ∷ []) ≡ account_from w run ++ (step e (world_after w run)).entries
-account_then w [] e = append_nil (step e w).entries
-account_then w (x ∷ run) e =
-    ap (λ es. (step x w).entries ++ es) (account_then (step x w).world run e) ∙ sym
-    (append_assoc (step x w).entries (account_from (step x w).world run) (step e (world_after (step x w).world run)).entries)
+use Rattle.crl_machine.specs.SingleMachine.{State, after_all}
+use Rattle.crl_protocol.specs.World.{World, new_world, step, is_enabled, IsRunFrom, world_after, world_of, account}
+use Rattle.crl_deeds.proofs.Laws.{append_nil, world_grows, account_grows}
+use Rattle.crl_rounds.proofs.Laws.{after_append}
 
 pub run_then : (w : World) (run : List Event) (e : Event) → IsRunFrom w run → is_enabled e (world_after w run) ≡ true → IsRunFrom w (run ++ e ∷ [])
 run_then w [] e r may = (may, tt)
 run_then w (x ∷ run) e r may = (r.0, run_then (step x w).world run e r.1 may)
-
-pub all_then : (s : State) (xs ys : List Entry) → after_all s (xs ++ ys) ≡ after_all (after_all s xs) ys
-all_then s [] ys = refl
-all_then s (x ∷ xs) ys = all_then (after s x) xs ys
 
 -- What holds of a world and of the single machine after the account.
 abbrev pub Holds : (World → State → Type 0) → ℕ → ℕ → State → List Event → Type 0
@@ -37,15 +23,15 @@ KeptBy P count capacity s = (run : List Event) (e : Event) → IsRunFrom (new_wo
 one_more : (P : World → State → Type 0) (count capacity : ℕ) (s : State) → KeptBy P count capacity s → (run : List Event) (e : Event) → IsRunFrom (new_world count capacity) run → is_enabled e (world_of count capacity run) ≡ true → Holds P count capacity s run → Holds P count capacity s (run ++ e ∷ [])
 one_more P count capacity s kept run e r may h =
     let w = new_world count capacity in
-    let machine = ap (λ es. after_all s es) (account_then w run e) ∙ all_then s (account count capacity run) (step e (world_of count capacity run)).entries in
-    subst (λ v. P v (after_all s (account count capacity (run ++ e ∷ [])))) (sym (world_then w run e)) (subst (λ t. P (step e (world_of count capacity run)).world t) (sym machine) (kept run e r may h))
+    let machine = ap (λ es. after_all s es) (account_grows w run e) ∙ after_append s (account count capacity run) (step e (world_of count capacity run)).entries in
+    subst (λ v. P v (after_all s (account count capacity (run ++ e ∷ [])))) (sym (world_grows w run e)) (subst (λ t. P (step e (world_of count capacity run)).world t) (sym machine) (kept run e r may h))
 
 from_here : (P : World → State → Type 0) (count capacity : ℕ) (s : State) → KeptBy P count capacity s → (before es : List Event) → IsRunFrom (new_world count capacity) before → IsRunFrom (world_of count capacity before) es → Holds P count capacity s before → Holds P count capacity s (before ++ es)
 from_here P count capacity s kept before [] r more h = subst (Holds P count capacity s) (sym (append_nil before)) h
 from_here P count capacity s kept before (e ∷ es) r more h =
     let w = new_world count capacity in
     subst (Holds P count capacity s) (append_assoc before (e ∷ []) es)
-    (from_here P count capacity s kept (before ++ e ∷ []) es (run_then w before e r more.0) (subst (λ v. IsRunFrom v es) (sym (world_then w before e)) more.1) (one_more P count capacity s kept before e r more.0 h))
+    (from_here P count capacity s kept (before ++ e ∷ []) es (run_then w before e r more.0) (subst (λ v. IsRunFrom v es) (sym (world_grows w before e)) more.1) (one_more P count capacity s kept before e r more.0 h))
 
 pub runs_by_end : (P : World → State → Type 0) (count capacity : ℕ) (s : State) → KeptBy P count capacity s → P (new_world count capacity) s → (run : List Event) → IsRunFrom (new_world count capacity) run → Holds P count capacity s run
 runs_by_end P count capacity s kept first run r = from_here P count capacity s kept [] run tt r first

@@ -30,7 +30,7 @@ use Rattle.crl_deeds.specs.Deeds.{Cause, Calls, Hears, EndsCall, Copies, Unfit, 
 use Rattle.crl_deeds.specs.Deeds as deed
 use Rattle.crl_deeds.specs.Refusals.{Refuses}
 use Rattle.crl_deeds.specs.Refusals as found
-use Rattle.crl_deeds.proofs.Laws.{refused_for, create_fits}
+use Rattle.crl_deeds.proofs.Laws.{refused_for, create_fits, length_end}
 use Rattle.crl_history.proofs.Events.{IsOutcome, Mirrored}
 
 -- What the machine has of a node's serials says how many the node has used, and there are at most so many.
@@ -57,10 +57,6 @@ table_there n name h e = go (is_mine n name) (name.serial == 0) e
 
 used_home : (n : Node) (name : Name) (h g : Home) → home_of n name ≡ Some h → serials_used n ≡ serials_used (with_home name g n)
 used_home n name h g e = sym (length_put (name.serial - 1) (Some g) n.homes h (table_there n name h e))
-
-length_end : {A : Type 0} (xs : List A) (x : A) → length (xs ++ x ∷ []) ≡ length xs + 1
-length_end [] x = refl
-length_end (y ∷ xs) x = let h = length_end xs x in omega arith
 
 -- Entries that use no serial.
 abbrev pub SameUsed : State → State → Type 0

@@ -9,10 +9,10 @@ pub record RecordsState : Type 0 where
   pub room : ℕ
 
 -- the records with these positions and entries
-abbrev pub recorded : List ℕ → List Entry → List Recorded
-recorded [] es = []
-recorded (p ∷ ps) [] = []
-recorded (p ∷ ps) (e ∷ es) = record { position = p; entry = e } ∷ recorded ps es
+abbrev pub with_positions : List ℕ → List Entry → List Recorded
+with_positions [] es = []
+with_positions (p ∷ ps) [] = []
+with_positions (p ∷ ps) (e ∷ es) = record { position = p; entry = e } ∷ with_positions ps es
 
 -- the position of the first record, if there is one
 abbrev pub first_position : List Recorded → Option ℕ

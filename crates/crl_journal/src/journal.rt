@@ -87,7 +87,7 @@ impl Journal {
     }
 
     /// The number of records.
-    pub fn recorded(&self) -> usize
+    pub fn record_count(&self) -> usize
         ensures { result ≡ length self.now.records }
     {
         self.records.len()

@@ -1,6 +1,6 @@
 //! Records that are taken out, the oldest first.
 ghost use Rattle.std.specs.Prelude.{◌≡◌, ◌∷◌, [], length, MatchOption};
-ghost use Rattle.crl_journal.specs.RecordsState.{recorded, first_position};
+ghost use Rattle.crl_journal.specs.RecordsState.{with_positions, first_position};
 
 use crl_model::entry::Entry;
 use crl_model::journal::Recorded;
@@ -17,11 +17,11 @@ pub(crate) struct Queue {
 impl Model for Queue {
     ghost use Rattle.std.specs.Prelude.{◌≡◌, List, length};
     ghost use Rattle.crl_model.specs.declared.journal.Recorded.{Recorded};
-    ghost use Rattle.crl_journal.specs.RecordsState.{recorded};
+    ghost use Rattle.crl_journal.specs.RecordsState.{with_positions};
 
     ghost Value = { List Recorded };
 
-    ghost view = { λ q. recorded q.positions.items q.entries.items };
+    ghost view = { λ q. with_positions q.positions.items q.entries.items };
 
     ghost invariant = { λ q. length q.positions.items ≡ length q.entries.items };
 }
@@ -30,7 +30,7 @@ impl Queue {
     /// Records with these positions and entries, which are as many.
     pub(crate) fn new(positions: VecDeque<u64>, entries: VecDeque<Entry>) -> Queue
         requires { length positions.items ≡ length entries.items }
-        ensures { result ≡ recorded positions.items entries.items }
+        ensures { result ≡ with_positions positions.items entries.items }
     {
         Queue { positions, entries }
     }

@@ -19,11 +19,11 @@ pub struct Records {
 
 impl Model for Records {
     ghost use Rattle.std.specs.Prelude.{◌≡◌, ◌-◌, length, min, vec_len, vec_capacity};
-    ghost use Rattle.crl_journal.specs.RecordsState.{RecordsState, recorded};
+    ghost use Rattle.crl_journal.specs.RecordsState.{RecordsState, with_positions};
 
     ghost Value = { RecordsState };
 
-    ghost view = { λ r. record { list = recorded r.positions.items r.entries.items; room = min (vec_capacity r.positions - vec_len r.positions) (vec_capacity r.entries - vec_len r.entries) } };
+    ghost view = { λ r. record { list = with_positions r.positions.items r.entries.items; room = min (vec_capacity r.positions - vec_len r.positions) (vec_capacity r.entries - vec_len r.entries) } };
 
     ghost invariant = { λ r. length r.positions.items ≡ length r.entries.items };
 }

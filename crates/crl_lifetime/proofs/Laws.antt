@@ -12,21 +12,23 @@ use Rattle.crl_protocol.specs.World.{new_world, step, is_enabled, IsRunFrom, wor
 use Rattle.crl_lifetime.specs.Lifetime.{StageMoves, home_stage, waits_for_map, waits_for_delete, WaitsHaveOne, HomeAgrees, OwnAgrees, NodeAgrees, MessageFits}
 use Rattle.crl_lifetime.proofs.Pairs.{Followed, followed_start, followed_run}
 use Rattle.crl_lifetime.proofs.Sizes.{sizes_agree}
-use Rattle.crl_lifetime.proofs.Stages.{created_have_tables, moved_step, run_count}
+use Rattle.crl_lifetime.proofs.Stages.{created_have_tables, moved_step}
 use Rattle.crl_lifetime.proofs.Standing.{stage_past, waits_stand, home_stands, own_stands, node_stands, message_stands, nothing_waits}
+use Rattle.crl_deeds.proofs.Laws.{run_count}
+pub use Rattle.crl_lifetime.proofs.Tables.{serve_size, starts_size, ends_size, serves_size}
 
 followed : (count capacity : ℕ) (run : List Event) → IsRunFrom (new_world count capacity) run → Followed (world_of count capacity run)
 followed count capacity run h = followed_run run (new_world count capacity) h (followed_start count capacity)
 
 in_world : (count capacity : ℕ) (run : List Event) (n : ℕ) → IsRunFrom (new_world count capacity) run → n < count → n < (world_of count capacity run).count
-in_world count capacity run n h few = subst (λ k. n < k) (sym (run_count run (new_world count capacity) h)) few
+in_world count capacity run n h few = subst (λ k. n < k) (sym (run_count (new_world count capacity) run h)) few
 
 pub stages_move : (count capacity : ℕ) (run : List Event) (e : Event) (r : Name) → IsRunFrom (new_world count capacity) run → is_enabled e (world_of count capacity run) ≡ true
     → StageMoves (home_stage r (world_of count capacity run)) (home_stage r (step e (world_of count capacity run)).world)
 stages_move count capacity run e r h may = moved_step (world_of count capacity run) e r may (followed count capacity run h)
 
 pub stages_nowhere : (count capacity : ℕ) (run : List Event) (r : Name) → IsRunFrom (new_world count capacity) run → count ≤ r.home → home_stage r (world_of count capacity run) ≡ stage.Unknown
-stages_nowhere count capacity run r h far = stage_past (world_of count capacity run) r (followed count capacity run h).held (subst (λ k. k ≤ r.home) (sym (run_count run (new_world count capacity) h)) far)
+stages_nowhere count capacity run r h far = stage_past (world_of count capacity run) r (followed count capacity run h).held (subst (λ k. k ≤ r.home) (sym (run_count (new_world count capacity) run h)) far)
 
 pub stages_without_serial : (count capacity : ℕ) (run : List Event) (r : Name) → IsRunFrom (new_world count capacity) run → r.serial ≡ 0 → home_stage r (world_of count capacity run) ≡ stage.Unknown
 stages_without_serial count capacity run r h none =

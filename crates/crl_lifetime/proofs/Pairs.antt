@@ -4,6 +4,7 @@ use Rattle.std.proofs.lemmas.Bool.{cond_both, cond-true, cond-false, eqb-true, e
 use Rattle.crl_model.specs.declared.name.Name.{Name}
 use Rattle.crl_model.specs.declared.call.Call.{Call}
 use Rattle.crl_model.specs.declared.event.Event.{Event}
+use Rattle.crl_model.specs.declared.event.Event.TheVariants as event
 use Rattle.crl_model.specs.declared.message.Message.{Message}
 use Rattle.crl_model.specs.declared.message.Kind.{Kind}
 use Rattle.crl_model.specs.declared.message.Kind.TheVariants as kind
@@ -18,7 +19,7 @@ use Rattle.crl_protocol.specs.World.{World, WorldStep, new_world, steps_node, ca
 use Rattle.crl_deeds.specs.Deeds.{FreeIf, Cause, Calls, Hears, parting, Lives, Deed, copies, lives, rounds, notes, refuses, idles, unmaps_doomed, unmaps_evicting, deletes_own, deletes_for, dooms, drops, warns}
 use Rattle.crl_deeds.specs.Counts.{Known}
 use Rattle.crl_deeds.specs.Tokens.{deletes_for_node, weigh, weighs, on_piece, sum, sum_from, load, came, map_token, waits_map, waits_delete, deleting, delete_token}
-use Rattle.crl_deeds.specs.Turns.{Frame, Turn, calls, hears, gathers, answers, carriage, rests, Came, Held, HeldIn, HeldOut}
+use Rattle.crl_deeds.specs.Turns.{noted_as, Frame, Turn, calls, hears, gathers, answers, carriage, Came, Held, HeldIn, HeldOut}
 use Rattle.crl_deeds.proofs.Laws.{same_name, deed_frame, each_at, all_took, turn_of, turn_count, held_turn, weigh_append, weigh_took, sum_new, none_to, part_same, keyed_none, known_start, known_step, life_run, map_life, delete_life}
 use Rattle.crl_lifetime.specs.Lifetime.{one_if}
 use Rattle.crl_lifetime.proofs.Weights.{if_named, told_weight, live_weight, order_weight, answer_weight, Talk, live_talk, order_talk, answer_talk, parting_none, copies_silent, rounds_silent, nothing, under, under_step, under_carried}
@@ -245,23 +246,22 @@ carried_at F w i e p rest blind same j =
     let first : Node = note w.events e (record (w.nodes i) { outbox = rest }) in
     same_at F (at_node w.nodes i first) p.message.addressee _ (blind _) j ∙ same_at F w.nodes i first same j
 
-pair_turn : (w : World) (v : WorldStep) (r : Name) (m : ℕ) → Turn w v → m < w.count → (r.home == m) ≡ false → Held (Lived w.count) (Spoken w.count) w → under (live_weight one m r) v.world ≤ waits_map r (v.world.nodes m).activity
+pair_turn : (w : World) (v : WorldStep) (r : Name) (m : ℕ) → {e : Event} → Turn w e v → m < w.count → (r.home == m) ≡ false → Held (Lived w.count) (Spoken w.count) w → under (live_weight one m r) v.world ≤ waits_map r (v.world.nodes m).activity
     → PairAt r m w → PairAt r m v.world
-pair_turn w v r m (calls j e c o few free may d) small apart held top g =
-    pair_deed w r m small apart held j (w.nodes j) e (Calls c) o (held j).node free tt d refl refl (flow_calls w j e c o few d) top g
-pair_turn w v r m (hears j e p rest parcels part o few took d) small apart held top g =
+pair_turn w v r m (calls j c o few free may d) small apart held top g =
+    pair_deed w r m small apart held j (w.nodes j) (noted_as w j c) (Calls c) o (held j).node free tt d refl refl (flow_calls w j (noted_as w j c) c o few d) top g
+pair_turn w v r m (hears j place p rest parcels part o few took d) small apart held top g =
     let n = w.nodes j in
-    pair_deed w r m small apart held j (record n { inbox = rest; parcels = parcels }) e (Hears p.message.sender (with_load part p.message.kind)) o
-    ((lived_local w.count).boxes j n rest n.outbox parcels n.records n.notes n.posted (held j).node) tt (spoken_comes w held j p rest part took) d refl refl (flow_hears w held j e p rest parcels part o few took d) top g
-pair_turn w v r m (gathers j e p rest parcels key few took keyed) small apart held top g =
-    pair_quiet w v.world r m held (same_at (at_home r m) w.nodes j _ refl r.home) (side_same _ _ (same_at (at_side r) w.nodes j _ refl m)) (flow_gathers w j e p rest parcels key few took keyed) top g
-pair_turn w v r m (answers j e answer few ready) small apart held top g =
+    pair_deed w r m small apart held j (record n { inbox = rest; parcels = parcels }) (event.Handle j place) (Hears p.message.sender (with_load part p.message.kind)) o
+    ((lived_local w.count).boxes j n rest n.outbox parcels n.records n.notes n.posted (held j).node) tt (spoken_comes w held j p rest part took) d refl refl (flow_hears w held j (event.Handle j place) p rest parcels part o few took d) top g
+pair_turn w v r m (gathers j place p rest parcels key few took keyed) small apart held top g =
+    pair_quiet w v.world r m held (same_at (at_home r m) w.nodes j _ refl r.home) (side_same _ _ (same_at (at_side r) w.nodes j _ refl m)) (flow_gathers w j (event.Handle j place) p rest parcels key few took keyed) top g
+pair_turn w v r m (answers j answer few ready) small apart held top g =
     pair_quiet w v.world r m held (same_at (at_home r m) w.nodes j _ refl r.home)
     (each_at (λ k x. SideRule (at_side r (w.nodes k)) 0 0 0 (at_side r x)) w.nodes j _ (λ k. side_same _ _ refl) (quits (omega arith) (omega arith) refl refl refl refl) m)
-    (flow_answers w j e answer few) top g
-pair_turn w v r m (carriage i e p rest few took) small apart held top g =
-    pair_quiet w v.world r m held (carried_at (at_home r m) w i e p rest (λ n. refl) refl r.home) (side_same _ _ (carried_at (at_side r) w i e p rest (λ n. refl) refl m)) (flow_carried w held i e p rest few took) top g
-pair_turn w v r m rests small apart held top g = g
+    (flow_answers w j (event.Collect j) answer few) top g
+pair_turn w v r m (carriage i place p rest few took) small apart held top g =
+    pair_quiet w v.world r m held (carried_at (at_home r m) w i (event.Carry i place) p rest (λ n. refl) refl r.home) (side_same _ _ (carried_at (at_side r) w i (event.Carry i place) p rest (λ n. refl) refl m)) (flow_carried w held i (event.Carry i place) p rest few took) top g
 
 -- An InfoIs is one of those for which a node waits.
 weigh_less : (f g : Message → ℕ) → ((x : Message) → f x ≤ g x) → (ps : List Piece) → weighs f ps ≤ weighs g ps
@@ -313,7 +313,7 @@ followed_step w e may x = record {
       pair_turn w _ r m turn s apart x.held (omega arith) (x.pairs r m s apart);
 }
   where
-    turn : Turn w (step e w)
+    turn : Turn w e (step e w)
     turn = turn_of w e may
 
     same : (step e w).world.count ≡ w.count

@@ -8,6 +8,7 @@ use Rattle.crl_model.specs.declared.call.Call.{Call}
 use Rattle.crl_model.specs.declared.call.Refusal.{Refusal}
 use Rattle.crl_model.specs.declared.entry.What.{What}
 use Rattle.crl_model.specs.declared.event.Event.{Event}
+use Rattle.crl_model.specs.declared.event.Event.TheVariants as event
 use Rattle.crl_model.specs.declared.message.Message.{Message}
 use Rattle.crl_model.specs.declared.message.Kind.TheVariants as kind
 use Rattle.crl_model.specs.declared.message.Told.{Told}
@@ -22,7 +23,7 @@ use Rattle.crl_deeds.specs.Deeds.{Cause, Calls, parting, Copies, Lives, Rounds, 
 use Rattle.crl_deeds.specs.Counts.{Known}
 use Rattle.crl_deeds.specs.NodeFacts.{LiveFits}
 use Rattle.crl_deeds.specs.Tokens.{weigh, load, came}
-use Rattle.crl_deeds.specs.Turns.{Turn, calls, hears, gathers, answers, carriage, rests, Held}
+use Rattle.crl_deeds.specs.Turns.{noted_as, Turn, calls, hears, gathers, answers, carriage, Held}
 use Rattle.crl_deeds.proofs.Laws.{by_name, here_if, turn_of, weigh_append, sum_new, none_to}
 use Rattle.crl_lifetime.proofs.Weights.{if_named, live_weight, Talk, live_talk, parting_none, copies_silent, rounds_silent, nothing, under}
 use Rattle.crl_lifetime.proofs.Storing.{named_self, mapped_weight, stored_weight, entry_weight, stored_out, stored_in}
@@ -196,18 +197,17 @@ sizes_quiet w v r m table entry flow g size ok =
     let b = entry (wrong size) in
     let c = flow (live_weight (wrong size) m r) (live_talk (wrong size) m r) in omega arith
 
-pub sizes_turn : (w : World) (v : WorldStep) (r : Name) (m : ℕ) → Turn w v → (r.home == m) ≡ false → Known w → Held (Lived w.count) (Spoken w.count) w → SizesAt r m w → SizesAt r m v.world
-sizes_turn w v r m (calls j e c o few free may d) apart x held g =
-    sizes_deed w r m apart j (w.nodes j) e (Calls c) o (held j).node.counted.me d (λ q mine. (here_if j (w.nodes j) q mine (x.fits j)).live) refl (λ f. refl) (flow_calls w j e c o few d) g
-sizes_turn w v r m (hears j e p rest parcels part o few took d) apart x held g =
-    sizes_deed w r m apart j (record (w.nodes j) { inbox = rest; parcels = parcels }) e _ o (held j).node.counted.me d (λ q mine. (here_if j (w.nodes j) q mine (x.fits j)).live) refl (λ f. refl) (flow_hears w held j e p rest parcels part o few took d) g
-sizes_turn w v r m (gathers j e p rest parcels key few took keyed) apart x held g =
-    sizes_quiet w v.world r m (same_at (λ n. home_of n r) w.nodes j _ refl r.home) (λ f. same_at (entry_weight f r) w.nodes j _ refl m) (flow_gathers w j e p rest parcels key few took keyed) g
-sizes_turn w v r m (answers j e answer few ready) apart x held g =
-    sizes_quiet w v.world r m (same_at (λ n. home_of n r) w.nodes j _ refl r.home) (λ f. same_at (entry_weight f r) w.nodes j _ refl m) (flow_answers w j e answer few) g
-sizes_turn w v r m (carriage i e p rest few took) apart x held g =
-    sizes_quiet w v.world r m (carried_at (λ n. home_of n r) w i e p rest (λ n. refl) refl r.home) (λ f. carried_at (entry_weight f r) w i e p rest (λ n. refl) refl m) (flow_carried w held i e p rest few took) g
-sizes_turn w v r m rests apart x held g = g
+pub sizes_turn : (w : World) (v : WorldStep) (r : Name) (m : ℕ) → {e : Event} → Turn w e v → (r.home == m) ≡ false → Known w → Held (Lived w.count) (Spoken w.count) w → SizesAt r m w → SizesAt r m v.world
+sizes_turn w v r m (calls j c o few free may d) apart x held g =
+    sizes_deed w r m apart j (w.nodes j) (noted_as w j c) (Calls c) o (held j).node.counted.me d (λ q mine. (here_if j (w.nodes j) q mine (x.fits j)).live) refl (λ f. refl) (flow_calls w j (noted_as w j c) c o few d) g
+sizes_turn w v r m (hears j place p rest parcels part o few took d) apart x held g =
+    sizes_deed w r m apart j (record (w.nodes j) { inbox = rest; parcels = parcels }) (event.Handle j place) _ o (held j).node.counted.me d (λ q mine. (here_if j (w.nodes j) q mine (x.fits j)).live) refl (λ f. refl) (flow_hears w held j (event.Handle j place) p rest parcels part o few took d) g
+sizes_turn w v r m (gathers j place p rest parcels key few took keyed) apart x held g =
+    sizes_quiet w v.world r m (same_at (λ n. home_of n r) w.nodes j _ refl r.home) (λ f. same_at (entry_weight f r) w.nodes j _ refl m) (flow_gathers w j (event.Handle j place) p rest parcels key few took keyed) g
+sizes_turn w v r m (answers j answer few ready) apart x held g =
+    sizes_quiet w v.world r m (same_at (λ n. home_of n r) w.nodes j _ refl r.home) (λ f. same_at (entry_weight f r) w.nodes j _ refl m) (flow_answers w j (event.Collect j) answer few) g
+sizes_turn w v r m (carriage i place p rest few took) apart x held g =
+    sizes_quiet w v.world r m (carried_at (λ n. home_of n r) w i (event.Carry i place) p rest (λ n. refl) refl r.home) (λ f. carried_at (entry_weight f r) w i (event.Carry i place) p rest (λ n. refl) refl m) (flow_carried w held i (event.Carry i place) p rest few took) g
 
 start_sizes : (count capacity : ℕ) (r : Name) (m : ℕ) → SizesAt r m (new_world count capacity)
 start_sizes count capacity r m size ok = let a = sum_new (load (live_weight (wrong size) m r) nothing) count capacity (λ j. refl) in omega arith

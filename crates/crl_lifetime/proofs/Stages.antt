@@ -1,18 +1,19 @@
 -- Where a region stands in a run: how its stage moves, and that a region that was created has a table.
-use Rattle.std.proofs.Common.{◌≡◌, ℕ, ◌==◌, true, None, Some, Option, List, [], ◌∷◌, refl, sym, ◌∙◌, subst}
+use Rattle.std.proofs.Common.{◌≡◌, ℕ, ◌==◌, true, None, Some, Option, List, [], ◌∷◌, refl, sym, subst}
 use Rattle.std.proofs.lemmas.Bool.{cond_both, eq-eqb}
 use Rattle.crl_model.specs.declared.name.Name.{Name}
 use Rattle.crl_model.specs.declared.stage.Stage.{Stage}
 use Rattle.crl_model.specs.declared.stage.Stage.TheVariants as stage
 use Rattle.crl_model.specs.declared.event.Event.{Event}
+use Rattle.crl_model.specs.declared.event.Event.TheVariants as event
 use Rattle.crl_protocol.specs.Home.{Home}
 use Rattle.crl_protocol.specs.Lifetimes.{Lifetime}
 use Rattle.crl_protocol.specs.Node.{Node, home_of, lifetime_of}
 use Rattle.crl_protocol.specs.World.{World, WorldStep, new_world, step, is_enabled, IsRunFrom, world_after}
 use Rattle.crl_deeds.specs.Counts.{Known}
 use Rattle.crl_deeds.specs.NodeFacts.{LiveFits}
-use Rattle.crl_deeds.specs.Turns.{Turn, calls, hears, gathers, answers, carriage, rests, Held}
-use Rattle.crl_deeds.proofs.Laws.{here_if, each_at, turn_of, turn_count}
+use Rattle.crl_deeds.specs.Turns.{Turn, calls, hears, gathers, answers, carriage, Held}
+use Rattle.crl_deeds.proofs.Laws.{here_if, each_at, turn_of}
 use Rattle.crl_lifetime.specs.Lifetime.{StageMoves, stays, created, begins, deleted, ends, home_stage, home_table}
 use Rattle.crl_lifetime.proofs.Lived.{Lived, Spoken}
 use Rattle.crl_lifetime.proofs.Moving.{moved_deed}
@@ -27,18 +28,17 @@ pub record Moved (r : Name) (n m : Node) : Type 0 where
 still : (r : Name) (n : Node) → Moved r n n
 still r n = record { stage = stays; table = λ h e. (h, e, refl) }
 
-moved_turn : (w : World) (v : WorldStep) (r : Name) → Turn w v → Held (Lived w.count) (Spoken w.count) w → (j : ℕ) → Moved r (w.nodes j) (v.world.nodes j)
-moved_turn w v r (calls i e c o few free may d) held =
+moved_turn : (w : World) (v : WorldStep) (r : Name) → {e : Event} → Turn w e v → Held (Lived w.count) (Spoken w.count) w → (j : ℕ) → Moved r (w.nodes j) (v.world.nodes j)
+moved_turn w v r (calls i c o few free may d) held =
     each_at (λ k y. Moved r (w.nodes k) y) w.nodes i _ (λ k. still r (w.nodes k)) (record { stage = moved_deed _ _ o d (held i).node.none r; table = table_deed r _ _ o d })
-moved_turn w v r (hears i e p rest parcels part o few took d) held =
+moved_turn w v r (hears i place p rest parcels part o few took d) held =
     each_at (λ k y. Moved r (w.nodes k) y) w.nodes i _ (λ k. still r (w.nodes k)) (record { stage = moved_deed _ _ o d (held i).node.none r; table = table_deed r _ _ o d })
-moved_turn w v r (gathers i e p rest parcels key few took keyed) held = each_at (λ k y. Moved r (w.nodes k) y) w.nodes i _ (λ k. still r (w.nodes k)) (record { stage = stays; table = λ h e. (h, e, refl) })
-moved_turn w v r (answers i e answer few ready) held = each_at (λ k y. Moved r (w.nodes k) y) w.nodes i _ (λ k. still r (w.nodes k)) (record { stage = stays; table = λ h e. (h, e, refl) })
-moved_turn w v r (carriage i e p rest few took) held = λ j.
-    let a = carried_at (λ n. (lifetime_of n r).stage) w i e p rest (λ n. refl) refl j in
-    let b = carried_at (λ n. home_of n r) w i e p rest (λ n. refl) refl j in
+moved_turn w v r (gathers i place p rest parcels key few took keyed) held = each_at (λ k y. Moved r (w.nodes k) y) w.nodes i _ (λ k. still r (w.nodes k)) (record { stage = stays; table = λ h e. (h, e, refl) })
+moved_turn w v r (answers i answer few ready) held = each_at (λ k y. Moved r (w.nodes k) y) w.nodes i _ (λ k. still r (w.nodes k)) (record { stage = stays; table = λ h e. (h, e, refl) })
+moved_turn w v r (carriage i place p rest few took) held = λ j.
+    let a = carried_at (λ n. (lifetime_of n r).stage) w i (event.Carry i place) p rest (λ n. refl) refl j in
+    let b = carried_at (λ n. home_of n r) w i (event.Carry i place) p rest (λ n. refl) refl j in
     record { stage = subst (λ s. StageMoves (lifetime_of (w.nodes j) r).stage s) (sym a) stays; table = subst (SameTable (home_of (w.nodes j) r)) (sym b) (λ h e. (h, e, refl)) }
-moved_turn w v r rests held = λ j. still r (w.nodes j)
 
 pub moved_step : (w : World) (e : Event) (r : Name) → is_enabled e w ≡ true → Followed w → StageMoves (home_stage r w) (home_stage r (step e w).world)
 moved_step w e r may x = (moved_turn w _ r (turn_of w e may) x.held r.home).stage
@@ -74,7 +74,3 @@ table_run (e ∷ es) w r h x t =
 pub created_have_tables : (count capacity : ℕ) (run : List Event) (r : Name) → IsRunFrom (new_world count capacity) run → HasTable (home_stage r (world_after (new_world count capacity) run)) (home_table r (world_after (new_world count capacity) run))
 created_have_tables count capacity run r h = table_run run (new_world count capacity) r h (followed_start count capacity)
     (λ made. absurd (made (cond_both (r.home == r.home) _ _ (λ (l : Lifetime). l.stage ≡ stage.Unknown) (λ w. refl) (λ w. refl))))
-
-pub run_count : (es : List Event) (w : World) → IsRunFrom w es → (world_after w es).count ≡ w.count
-run_count [] w h = refl
-run_count (e ∷ es) w h = run_count es (step e w).world h.1 ∙ turn_count w _ (turn_of w e h.0)

@@ -13,25 +13,25 @@ use Rattle.crl_protocol.specs.Node.{Node, Outcome, home_of, with_home, next_name
 use Rattle.crl_deeds.specs.Deeds.{Cause, Copies, Lives, Rounds, Notes, Deed, copies, lives, rounds, notes, EndsCall, a_read, a_write, Serves, ask_comes, copy_returns, copy_lowers, home_opens, home_waits, home_ends, home_serves, home_serves_own, made, used_up, comes_away, flushes_own}
 use Rattle.crl_deeds.proofs.Laws.{by_name, home_put, home_end, home_next, home_none}
 
-serve_size : (me : ℕ) (h : Home) (queue : List Asked) → (serve me h queue).home.size ≡ h.size
+pub serve_size : (me : ℕ) (h : Home) (queue : List Asked) → (serve me h queue).home.size ≡ h.size
 serve_size me h [] = refl
 serve_size me h (ask ∷ queue) =
     let a = serve_size me (open_own h ask) queue in
     let b = serve_size me (grant_next h ask) queue in
     cond_both (is_servable h ask) _ _ (λ (s : HomeStep). s.home.size ≡ h.size) (λ w. cond_both (ask.node == me) _ _ (λ (s : HomeStep). s.home.size ≡ h.size) (λ v. a) (λ v. b)) (λ w. refl)
 
-starts_size : (me : ℕ) (write : Bool) (h : Home) → (home_starts me write h).home.size ≡ h.size
+pub starts_size : (me : ℕ) (write : Bool) (h : Home) → (home_starts me write h).home.size ≡ h.size
 unfolding home_starts
 starts_size me write h =
     cond_both (not write && is_reading h.mine) _ _ (λ (s : HomeStep). s.home.size ≡ h.size) (λ w. refl)
     (λ w. cond_both (is_empty h.queue && is_servable h (own_ask me write)) _ _ (λ (s : HomeStep). s.home.size ≡ h.size) (λ v. refl) (λ v. serve_size me h (h.queue ++ own_ask me write ∷ [])))
 
-ends_size : (bytes : List ℕ) (n : Node) (c : Call) (name : Name) (w : What) (ends : Home → HomeStep) (lowers : Remote → RemoteStep) (h : Home) → EndsCall bytes n c name w ends lowers → (ends h).home.size ≡ h.size
+pub ends_size : (bytes : List ℕ) (n : Node) (c : Call) (name : Name) (w : What) (ends : Home → HomeStep) (lowers : Remote → RemoteStep) (h : Home) → EndsCall bytes n c name w ends lowers → (ends h).home.size ≡ h.size
 unfolding home_ends_read home_ends_write
 ends_size bytes n c name w ends lowers h (a_read q closed) = serve_size n.me _ h.queue
 ends_size bytes n c name w ends lowers h (a_write q after closed) = serve_size n.me _ h.queue
 
-serves_size : (n : Node) (h : Home) (from : ℕ) (k : Kind) (name : Name) (s : HomeStep) → Serves n h from k name s → s.home.size ≡ h.size
+pub serves_size : (n : Node) (h : Home) (from : ℕ) (k : Kind) (name : Name) (s : HomeStep) → Serves n h from k name s → s.home.size ≡ h.size
 unfolding home_takes_ask home_takes_return home_takes_release
 serves_size n h from k name s (ask_comes f q write have free) = serve_size n.me h _
 serves_size n h from k name s (copy_returns f q version bytes fits) = serve_size n.me _ h.queue

@@ -292,7 +292,7 @@ pub trait Member: Sized + Drop {
     }
 
     /// The number of its records.
-    fn recorded(&self) -> usize
+    fn record_count(&self) -> usize
         ensures { result ≡ length (state self.now).records };
 
     /// What it recorded, the oldest first. The node is let go.

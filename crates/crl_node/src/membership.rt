@@ -137,8 +137,8 @@ impl Member for Node {
         make_carry(&mut self.desk, &mut to.desk, at, place, came);
     }
 
-    fn recorded(&self) -> usize {
-        self.desk.journal.recorded()
+    fn record_count(&self) -> usize {
+        self.desk.journal.record_count()
     }
 
     fn into_records(self) -> Records {

@@ -17,9 +17,9 @@ use Rattle.crl_protocol.specs.Node.{Answer, Activity, Free, Waiting, Ready}
 use Rattle.crl_protocol.specs.World.{World, new_world, step, is_enabled, handles_at, carries}
 use Rattle.crl_protocol.specs.Chosen.{handles_of, carries_of}
 use Rattle.crl_safety.specs.Safety.{IsSafe, PieceIsSafe}
-use Rattle.crl_deeds.proofs.Laws.{all_append}
+use Rattle.crl_deeds.proofs.Laws.{all_append, world_grows, taken_there, turn_events, turn_of}
 use Rattle.crl_regions.proofs.Laws.{count_in_run}
-use Rattle.crl_history.proofs.Laws.{world_then, run_then}
+use Rattle.crl_history.proofs.Laws.{run_then}
 use Rattle.crl_sound.proofs.Laws.{nodes_safe, pieces_safe, pieces_leave}
 use Rattle.crl_member.specs.Members.{TakenIsSafe, TakenIsInTable}
 use Rattle.crl_wire.specs.Frame.{IsInTable}
@@ -36,32 +36,9 @@ use Rattle.crl_world.specs.declared.faults.EndFault.TheVariants as end_fault
 use Rattle.crl_world.specs.declared.faults.StepFault.{StepFault}
 use Rattle.crl_world.specs.declared.faults.StepFault.TheVariants as step_fault
 use Rattle.crl_node_tests.specs.Reached.{IsReached, MayPass}
+use Rattle.crl_run.proofs.Laws.{at_get}
 
 -- ---- one event more
-
-behind_some : {A : Type 0} (x : A) (o : Option (Taken A)) → behind x o ≡ None → o ≡ None
-behind_some x None e = refl
-behind_some x (Some t) e = cc
-
-can_take : {A : Type 0} (k : ℕ) (xs : List A) → k < length xs → take_out k xs ≡ None → ⊥
-can_take k [] lt e = omega arith
-can_take zero (x ∷ xs) lt e = cc
-can_take (suc k) (x ∷ xs) lt e = can_take k xs (omega arith) (behind_some x (take_out k xs) e)
-
-one_more : (e : Event) (w : World) → is_enabled e w ≡ true → (step e w).world.events ≡ w.events + 1
-unfolding step is_enabled
-one_more (event.Call i c) w may = refl
-one_more (event.Collect i) w may = refl
-one_more (event.Handle i place) w may = go (take_out place (w.nodes i).inbox) (can_take place (w.nodes i).inbox (ltb-true _ _ (and_parts _ _ may).1))
-  where
-    go : (o : Option (Taken Piece)) → (o ≡ None → ⊥) → (handles_at i (event.Handle i place) o w).world.events ≡ w.events + 1
-    go None there = absurd (there refl)
-    go (Some t) there = refl
-one_more (event.Carry i place) w may = go (take_out place (w.nodes i).outbox) (can_take place (w.nodes i).outbox (ltb-true _ _ (and_parts _ _ may).1))
-  where
-    go : (o : Option (Taken Piece)) → (o ≡ None → ⊥) → (carries i (event.Carry i place) o w).world.events ≡ w.events + 1
-    go None there = absurd (there refl)
-    go (Some t) there = refl
 
 pub reached_first : (nodes capacity : ℕ) (w : World) → IsStarted nodes capacity w → IsReached w
 reached_first nodes capacity w h = record {
@@ -79,8 +56,8 @@ reached_after e w v r may is = record {
   capacity = r.capacity;
   run = r.run ++ e ∷ [];
   enabled = run_then (new_world r.count r.capacity) r.run e r.enabled (subst (λ (x : World). is_enabled e x ≡ true) r.world may);
-  world = is ∙ ap (λ (x : World). (step e x).world) r.world ∙ sym (world_then (new_world r.count r.capacity) r.run e);
-  events = ap (λ (x : World). x.events) is ∙ one_more e w may ∙ ap (λ k. k + 1) r.events ∙ sym (length-append r.run (e ∷ []));
+  world = is ∙ ap (λ (x : World). (step e x).world) r.world ∙ sym (world_grows (new_world r.count r.capacity) r.run e);
+  events = ap (λ (x : World). x.events) is ∙ turn_events w _ (turn_of w e may) ∙ ap (λ k. k + 1) r.events ∙ sym (length-append r.run (e ∷ []));
 }
 
 pub call_reached : (i : ℕ) (c : Call) (w v : World) (r : Result Answer CallFault) → IsReached w → is_enabled (event.Call i c) w ≡ true → MatchResult r (StepIsDone (event.Call i c) w v) (CallIsUndone c w v) → IsReached v
@@ -145,14 +122,6 @@ module _ (w : World) (r : IsReached w) where
       go None h = tt
       go (Some t) h = h
 
-pub handle_node : (i place : ℕ) (w : World) → is_enabled (event.Handle i place) w ≡ true → i < w.count
-unfolding is_enabled
-handle_node i place w may = ltb-true _ _ (and_parts _ _ may).0
-
-pub carry_node : (i place : ℕ) (w : World) → is_enabled (event.Carry i place) w ≡ true → i < w.count
-unfolding is_enabled
-carry_node i place w may = ltb-true _ _ (and_parts _ _ may).0
-
 -- ---- the choices
 
 next_passes : (w : World) (i : ℕ) (left : Bool) (a : Activity) → AllByRecursion (MayPass w) (next_if i left a)
@@ -182,14 +151,6 @@ choices_pass left w =
     all_append (MayPass w) _ _ (row_passes (MayPass w) (λ i. next_if i (left i) (w.nodes i).activity) 0 w.count w.count (omega arith) (λ j h. next_passes w j (left j) (w.nodes j).activity))
     (all_append (MayPass w) _ _ (row_passes (MayPass w) (λ i. handles_of i 0 (w.nodes i).inbox) 0 w.count w.count (omega arith) (λ j h. handles_pass w j 0 (w.nodes j).inbox h (omega arith)))
     (row_passes (MayPass w) (λ i. carries_of i 0 (w.nodes i).outbox) 0 w.count w.count (omega arith) (λ j h. carries_pass w j 0 (w.nodes j).outbox h (omega arith))))
-
-at_get : {A : Type 0} (P : A → Type 0) (xs : List A) (k : ℕ) (x : A) → AllByRecursion P xs → slice_get xs k ≡ Some x → P x
-at_get P [] k x h e = cc
-at_get P (y ∷ xs) zero x h e = subst P (inside e) h.0
-  where
-    inside : Some y ≡ Some x → y ≡ x
-    inside e = cc
-at_get P (y ∷ xs) (suc k) x h e = at_get P xs k x h.1 e
 
 pub choice_passes : (left : ℕ → Bool) (w : World) (k : ℕ) (c : Choice) → slice_get (choices_by left w) k ≡ Some c → MayPass w c
 choice_passes left w k c e = at_get (MayPass w) (choices_by left w) k c (choices_pass left w) e

@@ -180,7 +180,7 @@ fn is_allowed<N: Member>(world: &World<N>, i: NodeNo, call: &Call) -> bool
 }
 
 /// The node handles the piece at this place of its inbox.
-#[tactic(auto, using(crate::proofs::Reaching::all_safe, crate::proofs::Reaching::passed_reached, crate::proofs::Reaching::piece_safe, crate::proofs::Reaching::handle_node))]
+#[tactic(auto, using(crate::proofs::Reaching::all_safe, crate::proofs::Reaching::passed_reached, crate::proofs::Reaching::piece_safe))]
 fn handle<N: Member>(world: &mut World<N>, i: NodeNo, place: usize) -> bool
     requires reached { IsReached (world_seen N.state world.old) }
     requires few { world.old.events ≤ 1000000 }
@@ -191,7 +191,7 @@ fn handle<N: Member>(world: &mut World<N>, i: NodeNo, place: usize) -> bool
 }
 
 /// The piece at this place of the node's outbox is carried.
-#[tactic(auto, using(crate::proofs::Reaching::all_safe, crate::proofs::Reaching::passed_reached, crate::proofs::Reaching::piece_leaves, crate::proofs::Reaching::carry_node))]
+#[tactic(auto, using(crate::proofs::Reaching::all_safe, crate::proofs::Reaching::passed_reached, crate::proofs::Reaching::piece_leaves))]
 fn carry<N: Member>(world: &mut World<N>, i: NodeNo, place: usize) -> bool
     requires reached { IsReached (world_seen N.state world.old) }
     requires few { world.old.events ≤ 1000000 }

@@ -63,7 +63,7 @@ fn shown_by<N: Member>(member: &N) -> Shown {
         rounds: member.rounds(),
         inbox: member.inbox_len(),
         outbox: member.outbox_len(),
-        records: member.recorded(),
+        records: member.record_count(),
         posted: member.posted(),
         serials: member.serials(),
         first: region_of(member, Name::new(0, 1)),
@@ -218,8 +218,8 @@ impl<N: Member> Member for Watched<N> {
         self.member.make_carry(&mut to.member, at, place, came);
     }
 
-    fn recorded(&self) -> usize {
-        self.member.recorded()
+    fn record_count(&self) -> usize {
+        self.member.record_count()
     }
 
     fn into_records(self) -> Records {

@@ -4,16 +4,15 @@ use Rattle.std.proofs.lemmas.Bool.{ne_eqb}
 use Rattle.crl_model.specs.declared.name.Name.{Name}
 use Rattle.crl_model.specs.declared.call.Call.{Call}
 use Rattle.crl_model.specs.declared.call.Call.TheVariants as call
-use Rattle.crl_model.specs.declared.call.Refusal.{Refusal}
 use Rattle.crl_model.specs.declared.call.Refusal.TheVariants as refusal
 use Rattle.crl_protocol.specs.Lifetimes.{Mapping}
 use Rattle.crl_protocol.specs.Sections.{OpenSection, section_of, section_at, section_bytes, is_writing}
 use Rattle.crl_protocol.specs.Node.{Node, Free, map_count}
 use Rattle.crl_protocol.specs.Talk.{Heard}
-use Rattle.crl_protocol.specs.Verdict.{verdict, else_if, refuse_if, of_change, mapped_size}
+use Rattle.crl_protocol.specs.Verdict.{verdict, of_change, mapped_size}
 use Rattle.crl_protocol.specs.World.{world_of}
 use Rattle.crl_deeds.specs.Counts.{Counts}
-use Rattle.crl_deeds.proofs.Laws.{open_size}
+use Rattle.crl_deeds.proofs.Laws.{open_size, not_refused, none_of}
 use Rattle.crl_plays.specs.Plays.{HasHeard, IsInWriting}
 use Rattle.crl_plays.proofs.Heard.{known_heard, same_sections}
 
@@ -39,13 +38,6 @@ written i heard n q h = subst (λ (m : Node). is_writing (section_at q m.section
         record { mapped = counted _ (node.maps q) size.0 size.1 ((known.held i).node.maps q); size = ap mapped_size size.1 ∙ sym size.2 }
 
 -- What a verdict says that refuses nothing.
-none_parts : (a b : Option Refusal) → else_if a b ≡ None → (a ≡ None) × (b ≡ None)
-none_parts None b e = (refl, e)
-none_parts (Some why) b e = cc
-
-not_refused : (b : Bool) (why : Refusal) → refuse_if b why ≡ None → b ≡ false
-not_refused true why e = cc
-not_refused false why e = refl
 
 not_not : (b : Bool) → not b ≡ false → b ≡ true
 not_not true e = refl
@@ -53,14 +45,14 @@ not_not false e = cc
 
 may_end : (n : Node) (q : Name) (after : List ℕ) → verdict n (call.EndWrite q after) ≡ None → is_writing (section_at q n.sections) ≡ true
 unfolding verdict
-may_end n q after e = not_not _ (not_refused _ refusal.NotWriting (none_parts _ _ e).1)
+may_end n q after e = not_not _ (not_refused _ refusal.NotWriting (none_of _ _ e).1)
 
 can_end : (n : Node) (q : Name) (after : List ℕ) → Written n q → is_writing (section_at q n.sections) ≡ true → verdict n (call.EndWrite q after) ≡ None
 unfolding verdict
 can_end n q after known w = rw (known.mapped, w) refl
 
 may_change : (n : Node) (q : Name) (offset len : ℕ) → of_change n q offset len ≡ None → (is_writing (section_at q n.sections) ≡ true) × (nat_lt (mapped_size (n.maps q)) (offset + len) ≡ false)
-may_change n q offset len e = let parts = none_parts _ _ e in (not_not _ (not_refused _ refusal.NotWriting parts.0), not_refused _ refusal.OutOfRange parts.1)
+may_change n q offset len e = let parts = none_of _ _ e in (not_not _ (not_refused _ refusal.NotWriting parts.0), not_refused _ refusal.OutOfRange parts.1)
 
 can_change : (n : Node) (q : Name) (offset len : ℕ) → is_writing (section_at q n.sections) ≡ true → nat_lt (mapped_size (n.maps q)) (offset + len) ≡ false → of_change n q offset len ≡ None
 can_change n q offset len w below = rw (w, below) refl
@@ -83,13 +75,13 @@ module _ (n m : Node) (q : Name) (same : n.sections.records q ≡ m.sections.rec
   put_too : (offset len : ℕ) → verdict n (call.Put q offset len) ≡ None → verdict m (call.Put q offset len) ≡ None
   unfolding verdict
   put_too offset len e =
-      let change = (none_parts _ _ e).1 in
+      let change = (none_of _ _ e).1 in
       let known = there (writing_too (may_change n q offset len change).0) in rw (known.mapped) (change_too offset len change)
 
   add_too : (offset : ℕ) → verdict n (call.Add q offset) ≡ None → verdict m (call.Add q offset) ≡ None
   unfolding verdict
   add_too offset e =
-      let change = (none_parts _ _ e).1 in
+      let change = (none_of _ _ e).1 in
       let known = there (writing_too (may_change n q offset 8 change).0) in rw (known.mapped) (change_too offset 8 change)
 
 pub allowed_as_heard : (i : ℕ) (heard : List Heard) (n m : Node) (c : Call) → HasHeard i heard n → HasHeard i heard m → n.activity ≡ Free → IsInWriting c → verdict n c ≡ None → verdict m c ≡ None

@@ -1,5 +1,5 @@
 -- A run that follows the script so far, with the statements that each node has left and its drafts; and with one step more.
-use Rattle.std.proofs.Common.{append_assoc, ◌≡◌, ℕ, ◌<◌, ◌&&◌, ◌==◌, Bool, true, false, if◌then◌else◌, Option, Some, None, List, [], ◌∷◌, ◌++◌, refl, ap, sym, ◌∙◌, subst}
+use Rattle.std.proofs.Common.{◌≡◌, ℕ, ◌<◌, ◌&&◌, ◌==◌, Bool, true, false, if◌then◌else◌, Option, Some, None, List, [], ◌∷◌, ◌++◌, refl, ap, sym, ◌∙◌, subst}
 use Rattle.std.proofs.lemmas.Bool.{cond-true, eqb-true, eq-eqb}
 use Rattle.crl_model.specs.declared.name.Name.{Name}
 use Rattle.crl_model.specs.declared.call.Call.{Call}
@@ -10,14 +10,15 @@ use Rattle.crl_model.specs.declared.event.Event.TheVariants as event
 use Rattle.crl_model.specs.declared.statement.Statement.{Statement}
 use Rattle.crl_model.specs.Names.{at_node, at_name}
 use Rattle.crl_model.specs.Patches.{put_at}
-use Rattle.crl_protocol.specs.Node.{Node, Answer, Writing, Free}
+use Rattle.crl_protocol.specs.Node.{Node, Answer, Free}
 use Rattle.crl_protocol.specs.Verdict.{verdict}
 use Rattle.crl_protocol.specs.World.{World, step, is_enabled, world_of}
 use Rattle.crl_protocol.specs.Chosen.{Actor, Running, running, call_of, call_with, draft_of, after_change, is_change, is_allowed, takes_guard, goes_on, with_actor, with_sum}
 use Rattle.crl_deeds.specs.Laws.{IsNext, past_statement, next_call, node_of, is_call_event, Follows, ended, changes, calls, happens}
-use Rattle.crl_deeds.proofs.Laws.{append_nil, follow_world}
+use Rattle.crl_deeds.proofs.Laws.{append_nil, follow_world, given_left}
 use Rattle.crl_talk.specs.Script.{Drafts, drafts_given, Changes, puts, adds, IsPlain, CallsFor, plain, leaves, cant_leave, cant_change}
 use Rattle.crl_plays.specs.Plays.{IsInWriting}
+use Rattle.crl_talk.proofs.Laws.{drafts_same}
 
 -- One step after another.
 follow_more : {r mid end : Running} {es fs : List Event} → Follows r es mid → Follows mid fs end → Follows r (es ++ fs) end
@@ -25,13 +26,6 @@ follow_more ended g = g
 follow_more (changes i s left h n inside f) g = changes i s left h n inside (follow_more f g)
 follow_more (calls i s left h n out f) g = calls i s left h n out (follow_more f g)
 follow_more (happens i e own quiet may f) g = happens i e own quiet may (follow_more f g)
-
--- the events of what follows
-pub follow_events : {r end : Running} {es : List Event} → Follows r es end → end.events ≡ r.events ++ es
-follow_events (ended {r = r}) = sym (append_nil r.events)
-follow_events (changes i s left h n e f) = follow_events f
-follow_events {r = r} (calls {es = es} i s left h n e f) = follow_events f ∙ append_assoc r.events (event.Call i (next_call r i s) ∷ []) es
-follow_events {r = r} (happens {es = es} i e a b c f) = follow_events f ∙ append_assoc r.events (e ∷ []) es
 
 -- A run of these events that follows the script, with what each node has left.
 pub record Reached (count capacity : ℕ) (blocks : List (List Statement)) (history : List Event) (left : ℕ → List Statement) (drafts : ℕ → Drafts) : Type 0 where
@@ -44,15 +38,6 @@ pub record Reached (count capacity : ℕ) (blocks : List (List Statement)) (hist
 pub reached_as : (count capacity : ℕ) (blocks : List (List Statement)) (history : List Event) (left other : ℕ → List Statement) (drafts others : ℕ → Drafts)
     → ((j : ℕ) → left j ≡ other j) → ((j : ℕ) → drafts j ≡ others j) → Reached count capacity blocks history left drafts → Reached count capacity blocks history other others
 reached_as count capacity blocks history left other drafts others same alike r = record { end = r.end; follows = r.follows; left_is = λ j few. r.left_is j few ∙ same j; drafts_are = λ j few. r.drafts_are j few ∙ alike j }
-
--- what an answer gives
-drafts_same : (answer : Answer) (a : Actor) → (takes_guard answer a).drafts ≡ drafts_given answer a.drafts
-drafts_same (Writing guard) a = refl
-drafts_same _ a = refl
-
-left_same : (answer : Answer) (a : Actor) → (takes_guard answer a).left ≡ a.left
-left_same (Writing guard) a = refl
-left_same _ a = refl
 
 -- A function with one value changed: at the place, once more there, and where the value is what it was.
 pub here : {A : Type 0} (f : ℕ → A) (i : ℕ) (x : A) → at_node f i x i ≡ x
@@ -177,7 +162,7 @@ module _ (count capacity : ℕ) (blocks : List (List Statement)) (history : List
         follows = subst (λ y. Follows (running count capacity blocks) (history ++ y ∷ []) (goes_on i x (past_statement r.end i rest))) is
             (follow_more r.follows (calls i s rest (counted i same few) (next_is i s rest few e free) k.1 ended));
         left_is = λ j more. ap (λ (y : Actor). y.left) (twice r.end.actors i a (takes_guard answer (p i)) j)
-            ∙ each_is (λ (y : Actor). y.left) r.end.actors left i (takes_guard answer (p i)) rest j (ap (λ (y : Actor). y.left) mine ∙ left_same answer a) (r.left_is j more);
+            ∙ each_is (λ (y : Actor). y.left) r.end.actors left i (takes_guard answer (p i)) rest j (ap (λ (y : Actor). y.left) mine ∙ given_left answer a) (r.left_is j more);
         drafts_are = λ j more. ap (λ (y : Actor). y.drafts) (twice r.end.actors i a (takes_guard answer (p i)) j)
             ∙ each_is (λ (y : Actor). y.drafts) r.end.actors drafts i (takes_guard answer (p i)) _ j
             (ap (λ (y : Actor). y.drafts) mine ∙ drafts_same answer a ∙ ap (λ y. drafts_given y (r.end.actors i).drafts) gives ∙ ap (drafts_given (step (event.Call i c) world).answer) (r.drafts_are i few)) (r.drafts_are j more);
@@ -191,7 +176,7 @@ module _ (count capacity : ℕ) (blocks : List (List Statement)) (history : List
       record {
         end = goes_on i e r.end;
         follows = follow_more r.follows (happens i e own quiet (subst (λ w. is_enabled e w ≡ true) (sym there) may) ended);
-        left_is = λ j more. each_is (λ (y : Actor). y.left) r.end.actors left i (takes_guard answer (r.end.actors i)) (left i) j (left_same answer (r.end.actors i) ∙ r.left_is i few) (r.left_is j more)
+        left_is = λ j more. each_is (λ (y : Actor). y.left) r.end.actors left i (takes_guard answer (r.end.actors i)) (left i) j (given_left answer (r.end.actors i) ∙ r.left_is i few) (r.left_is j more)
             ∙ itself left i j;
         drafts_are = λ j more. each_is (λ (y : Actor). y.drafts) r.end.actors drafts i (takes_guard answer (r.end.actors i)) _ j
             (drafts_same answer (r.end.actors i) ∙ ap (λ y. drafts_given y (r.end.actors i).drafts) gives ∙ ap (drafts_given (step e world).answer) (r.drafts_are i few)) (r.drafts_are j more);

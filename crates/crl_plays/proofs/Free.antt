@@ -1,6 +1,6 @@
 -- Whether a node is free is known by what it heard.
-use Rattle.std.proofs.Common.{◌≡◌, ℕ, ◌<◌, ◌==◌, Bool, true, false, if◌then◌else◌, List, [], ◌∷◌, ◌++◌, refl, ap, sym, ◌∙◌, subst}
-use Rattle.std.proofs.lemmas.Bool.{and_parts, ltb-true}
+use Rattle.std.proofs.Common.{◌≡◌, ℕ, ◌==◌, Bool, true, false, if◌then◌else◌, List, [], ◌∷◌, ◌++◌, refl, ap, sym, ◌∙◌, subst}
+use Rattle.std.proofs.lemmas.Bool.{and_parts}
 use Rattle.crl_model.specs.declared.name.Name.{Name}
 use Rattle.crl_model.specs.declared.collective.Fold.{Fold}
 use Rattle.crl_model.specs.declared.collective.Fold.TheVariants as fold
@@ -20,8 +20,9 @@ use Rattle.crl_deeds.specs.Counts.{Known}
 use Rattle.crl_deeds.specs.Deeds.{Calls, Hears, Copies, Lives, Rounds, Notes, Deed}
 use Rattle.crl_deeds.specs.Deeds as deed
 use Rattle.crl_deeds.specs.NodeFacts.{IsAway, Fits}
-use Rattle.crl_deeds.proofs.Laws.{call_deed, own_waits, grant_waits, going_own, known_step}
-use Rattle.crl_talk.proofs.Laws.{with_rest, is_away, Moves, each_moved, handle_moves, carry_moves}
+use Rattle.crl_deeds.specs.Turns.{Turn}
+use Rattle.crl_deeds.proofs.Laws.{call_deed, own_waits, grant_waits, going_own, known_step, turn_of, with_rest, may_call}
+use Rattle.crl_talk.proofs.Laws.{is_away, is_move, each_moved}
 use Rattle.crl_plays.specs.Plays.{is_free_by, is_free_after}
 
 -- A call leaves the node free just where it has an answer.
@@ -96,22 +97,14 @@ message_leaves j n from k o (deed.lives d) fits away = lives_hear j n from k o d
 message_leaves j n from k o (deed.rounds d) fits away = rounds_hear n from k o d
 message_leaves j n from k o (deed.idles h) fits away = refl
 
-moved_free : (n : ℕ) (was : Bool) (w : World) (v : WorldStep) → Moves w v → Known w → is_free (w.nodes n).activity ≡ was → is_free (v.world.nodes n).activity ≡ was
-moved_free n was w v m known h =
-    each_moved (λ j x. j ≡ n → is_free x.activity ≡ was) (λ i x inbox outbox parcels records notes posted k. k) w v m
+moved_free : (n : ℕ) (was : Bool) (w : World) (v : WorldStep) {e : Event} → Turn w e v → is_move e ≡ true → Known w → is_free (w.nodes n).activity ≡ was → is_free (v.world.nodes n).activity ≡ was
+moved_free n was w v t moves known h =
+    each_moved (λ j x. j ≡ n → is_free x.activity ≡ was) (λ i x inbox outbox parcels records notes posted k. k) w v t moves
     (λ i p rest parcels part o took d k e.
     (message_leaves i (record (w.nodes i) { inbox = rest; parcels = parcels }) _ _ o d (with_rest i (w.nodes i) p rest parcels took (known.fits i)) (is_away i (w.nodes i) p rest part took (known.fits i)) ∙ k e))
     (λ j e. subst (λ i. is_free (w.nodes i).activity ≡ was) (sym e) h) n refl
 
 -- An event.
-pub free_if : (a : Activity) → is_free a ≡ true → a ≡ Free
-free_if Free e = refl
-free_if (Waiting awaited) e = cc
-free_if (Ready answer) e = cc
-
-pub may_call : (i : ℕ) (c : Call) (w : World) → is_enabled (event.Call i c) w ≡ true → (i < w.count) × (is_free (w.nodes i).activity ≡ true)
-unfolding is_enabled
-may_call i c w may = let parts = and_parts _ _ may in (ltb-true _ _ parts.0, (and_parts _ _ parts.1).0)
 
 free_event : (n : ℕ) (was : Bool) (w : World) (e : Event) → is_enabled e w ≡ true → Known w → is_free (w.nodes n).activity ≡ was
     → is_free ((step e w).world.nodes n).activity ≡ is_free_after was (hears_of n e (step e w).answer)
@@ -122,7 +115,7 @@ free_event n was w (event.Call i c) may known h = go (i == n) refl
     o = node_calls c (w.nodes i)
 
     go : (b : Bool) → (i == n) ≡ b → is_free (if b then commits w.events (event.Call i (noted_call (verdict (w.nodes i) c) c)) o else w.nodes n).activity ≡ is_free_after was (if b then Called c o.answer ∷ [] else [])
-    go true e = call_leaves (w.nodes i) c o (call_deed (w.nodes i) c) (may_call i c w may).1
+    go true e = call_leaves (w.nodes i) c o (call_deed (w.nodes i) c) (ap is_free (may_call i c w may).1)
     go false e = h
 free_event n was w (event.Collect i) may known h = over (w.nodes i).activity (and_parts _ _ may).1
   where
@@ -135,8 +128,8 @@ free_event n was w (event.Collect i) may known h = over (w.nodes i).activity (an
         go : (b : Bool) → is_free (if b then commits w.events (event.Collect i) (collects (Ready answer) (w.nodes i)) else w.nodes n).activity ≡ is_free_after was (if b then Collected answer ∷ [] else [])
         go true = refl
         go false = h
-free_event n was w (event.Handle i place) may known h = moved_free n was w _ (handle_moves w i place may) known h
-free_event n was w (event.Carry i place) may known h = moved_free n was w _ (carry_moves w i place may) known h
+free_event n was w (event.Handle i place) may known h = moved_free n was w _ (turn_of w (event.Handle i place) may) refl known h
+free_event n was w (event.Carry i place) may known h = moved_free n was w _ (turn_of w (event.Carry i place) may) refl known h
 
 -- A run.
 free_append : (was : Bool) (xs ys : List Heard) → is_free_after was (xs ++ ys) ≡ is_free_after (is_free_after was xs) ys

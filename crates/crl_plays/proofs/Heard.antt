@@ -1,27 +1,21 @@
 -- What a node heard in a run that has one event more, and what is known of it by what it heard.
 use Rattle.std.proofs.Common.{◌≡◌, ℕ, ◌<◌, true, false, if◌then◌else◌, Option, Some, None, List, [], ◌∷◌, ◌++◌, refl, ap, sym, ◌∙◌, subst, arith, length-append}
-use Rattle.std.proofs.Common.{append_assoc}
 use Rattle.crl_model.specs.declared.name.Name.{Name}
 use Rattle.crl_model.specs.declared.directory.Section.TheVariants as section
 use Rattle.crl_model.specs.declared.event.Event.{Event}
 use Rattle.crl_protocol.specs.Home.{one_section_more}
 use Rattle.crl_protocol.specs.Sections.{OpenSection}
 use Rattle.crl_protocol.specs.Node.{Node, Activity, Free}
-use Rattle.crl_protocol.specs.Talk.{Heard, hears_of, hears}
+use Rattle.crl_protocol.specs.Talk.{Heard, hears}
 use Rattle.crl_protocol.specs.World.{World, new_world, step, is_enabled, is_free, IsRun, IsRunFrom, world_after, world_of}
 use Rattle.crl_deeds.specs.Counts.{Known}
-use Rattle.crl_deeds.proofs.Laws.{append_nil, known_start, known_run, turn_of, turn_count}
+use Rattle.crl_deeds.proofs.Laws.{known_start, known_run, free_is}
 use Rattle.crl_talk.specs.Guards.{Given, given_yet, guards_held, AreGuards, closed, writing, reading, nested}
 use Rattle.crl_talk.proofs.Laws.{sections_are_guards}
 use Rattle.crl_plays.specs.Plays.{HasHeard, is_free_after}
-use Rattle.crl_plays.proofs.Free.{free_run, free_if}
+use Rattle.crl_plays.proofs.Free.{free_run}
 
 -- A run with one event more.
-pub hears_then : (n : ℕ) (w : World) (run : List Event) (e : Event) → hears n w (run ++ e ∷ []) ≡ hears n w run ++ hears_of n e (step e (world_after w run)).answer
-hears_then n w [] e = append_nil (hears_of n e (step e w).answer)
-hears_then n w (x ∷ run) e =
-    ap (λ hs. hears_of n x (step x w).answer ++ hs) (hears_then n (step x w).world run e)
-    ∙ sym (append_assoc (hears_of n x (step x w).answer) (hears n (step x w).world run) (hears_of n e (step e (world_after (step x w).world run)).answer))
 
 run_before : (w : World) (run : List Event) (e : Event) → IsRunFrom w (run ++ e ∷ []) → IsRunFrom w run × (is_enabled e (world_after w run) ≡ true)
 run_before w [] e r = (tt, r.0)
@@ -33,10 +27,6 @@ is_run_before count capacity run e r =
     let limit = r.limit in
     let longer = length-append run (e ∷ []) in
     (record { enabled = parts.0; limit = omega (arith, longer, limit) }, parts.1)
-
-pub count_in_run : (w : World) (run : List Event) → IsRunFrom w run → (world_after w run).count ≡ w.count
-count_in_run w [] r = refl
-count_in_run w (e ∷ run) r = count_in_run (step e w).world run r.1 ∙ turn_count w _ (turn_of w e r.0)
 
 -- A node of a run has heard what it heard there.
 pub has_heard : (count capacity : ℕ) (run : List Event) (i : ℕ) → IsRun count capacity run → i < count → HasHeard i (hears i (new_world count capacity) run) ((world_of count capacity run).nodes i)
@@ -53,7 +43,7 @@ free_as_heard i heard n h =
     ∙ ap (is_free_after true) h.hears
 
 pub both_free : (i : ℕ) (heard : List Heard) (n m : Node) → HasHeard i heard n → HasHeard i heard m → n.activity ≡ Free → m.activity ≡ Free
-both_free i heard n m h k free = free_if m.activity (free_as_heard i heard m k ∙ sym (free_as_heard i heard n h) ∙ ap is_free free)
+both_free i heard n m h k free = free_is m.activity (free_as_heard i heard m k ∙ sym (free_as_heard i heard n h) ∙ ap is_free free)
 
 -- The guards of a region's open sections tell which section it is.
 over_reads : Given → Option OpenSection → Option OpenSection

@@ -2,7 +2,7 @@
 -- node makes are put right behind the event before them of the node.
 use Rattle.std.proofs.Common.{◌≡◌, ℕ, ◌<◌, ◌==◌, Bool, true, false, if◌then◌else◌, None, List, [], ◌∷◌, ◌++◌, refl, ap, sym, ◌∙◌, subst, arith}
 use Rattle.std.proofs.Common.{append_assoc}
-use Rattle.std.proofs.lemmas.Bool.{and_parts, ltb-true, cond-true, cond-false, eqb-true, eq-eqb}
+use Rattle.std.proofs.lemmas.Bool.{cond-true, cond-false, eqb-true, eq-eqb}
 use Rattle.crl_model.specs.declared.call.Call.{Call}
 use Rattle.crl_model.specs.declared.event.Event.{Event}
 use Rattle.crl_model.specs.declared.event.Event.TheVariants as event
@@ -14,13 +14,12 @@ use Rattle.crl_protocol.specs.Verdict.{verdict}
 use Rattle.crl_protocol.specs.World.{World, new_world, step, is_enabled, IsRun, world_of}
 use Rattle.crl_protocol.specs.Chosen.{running, block_of}
 use Rattle.crl_deeds.specs.Laws.{node_of, is_call_event, ended}
-use Rattle.crl_deeds.proofs.Laws.{append_nil}
+use Rattle.crl_deeds.proofs.Laws.{append_nil, run_count, collect_node, handle_node, carry_node, may_call, hears_grow}
 use Rattle.crl_talk.specs.Script.{Drafts, no_drafts, drafts_given, Changes, puts, adds, CallsFor}
 use Rattle.crl_plays.specs.Plays.{HasHeard, IsInWriting, Plays, begins, inside, calls, collects, AllPlay}
 use Rattle.crl_plays.proofs.Allowed.{allowed_as_heard}
 use Rattle.crl_plays.proofs.Following.{Agree, Reached, reached_as, here, itself, twice, changed, called, happened}
-use Rattle.crl_plays.proofs.Free.{free_if, may_call}
-use Rattle.crl_plays.proofs.Heard.{has_heard, hears_then, is_run_before, count_in_run, both_free}
+use Rattle.crl_plays.proofs.Heard.{has_heard, is_run_before, both_free}
 use Rattle.crl_plays.proofs.Quiet.{handle_done, carry_done}
 
 -- Changes that the node makes one after another, having heard this.
@@ -111,7 +110,7 @@ module _ (count capacity : ℕ) (blocks : List (List Statement)) (history : List
   told i = hears i (new_world count capacity) history
 
   counted : world.count ≡ count
-  counted = count_in_run (new_world count capacity) history r.enabled
+  counted = run_count (new_world count capacity) history r.enabled
 
   agrees : (i : ℕ) (n : Node) → i < count → HasHeard i (told i) n → n.activity ≡ Free → Agree n (world.nodes i)
   agrees i n few h free c is e = allowed_as_heard i (told i) n (world.nodes i) c h (has_heard count capacity history i r few) free is e
@@ -132,17 +131,6 @@ module _ (count capacity : ℕ) (blocks : List (List Statement)) (history : List
       (node_free i n few h free) (agrees i n few h free) (subst (λ (x : Drafts). Changes x s c after) (sym (here drafts i d)) change) allowed)
 
 -- One event more.
-collect_node : (i : ℕ) (w : World) → is_enabled (event.Collect i) w ≡ true → i < w.count
-unfolding is_enabled
-collect_node i w may = ltb-true _ _ (and_parts _ _ may).0
-
-handle_node : (i place : ℕ) (w : World) → is_enabled (event.Handle i place) w ≡ true → i < w.count
-unfolding is_enabled
-handle_node i place w may = ltb-true _ _ (and_parts _ _ may).0
-
-carry_node : (i place : ℕ) (w : World) → is_enabled (event.Carry i place) w ≡ true → i < w.count
-unfolding is_enabled
-carry_node i place w may = ltb-true _ _ (and_parts _ _ may).0
 
 abbrev Follow : ℕ → ℕ → List (List Statement) → List Event → Type 0
 Follow count capacity blocks history = IsRun count capacity history → (left : ℕ → List Statement) (drafts : ℕ → Drafts) → AllPlay count capacity blocks history left drafts → Reached count capacity blocks history left drafts
@@ -168,7 +156,7 @@ module _ (count capacity : ℕ) (blocks : List (List Statement)) (history : List
   within i few = subst (λ k. i < k) (counted count capacity blocks history was) few
 
   told_then : (j : ℕ) → hears j start (history ++ e ∷ []) ≡ hears j start history ++ hears_of j e answer
-  told_then j = hears_then j start history e
+  told_then j = hears_grow j start history e
 
   -- a node that hears nothing is where it was
   stays : (j : ℕ) → j < count → hears_of j e answer ≡ [] → Plays j (block_of blocks j) (hears j start history) (left j) (drafts j)
@@ -236,7 +224,7 @@ one_event count capacity blocks history (event.Call i c) before r left drafts al
     let can = may_call i c (world_of count capacity history) (may count capacity blocks history e before r left drafts all) in
     let few = within count capacity blocks history e before r left drafts all i can.0 in
     let heard = cond-true (i == i) _ _ (eq-eqb i i refl) in
-    after_call count capacity blocks history e before r left drafts all i c refl (λ j other. cond-false (i == j) _ _ other) heard few (free_if _ can.1) (last count capacity blocks history e before r left drafts all i _ few heard)
+    after_call count capacity blocks history e before r left drafts all i c refl (λ j other. cond-false (i == j) _ _ other) heard few can.1 (last count capacity blocks history e before r left drafts all i _ few heard)
 one_event count capacity blocks history (event.Collect i) before r left drafts all =
     let e = event.Collect i in
     let few = within count capacity blocks history e before r left drafts all i (collect_node i _ (may count capacity blocks history e before r left drafts all)) in

@@ -1,6 +1,5 @@
 -- The array of a run is the single machine's after the run's account.
-use Rattle.std.proofs.Common.{◌≡◌, ℕ, ◌+◌, Bool, true, false, ◌&&◌, None, Some, Option, List, [], ◌∷◌, ◌++◌, if◌then◌else◌, replicate, refl, ap, sym, ◌∙◌, subst}
-use Rattle.std.proofs.lemmas.Bool.{cond_both}
+use Rattle.std.proofs.Common.{◌≡◌, ℕ, ◌+◌, Bool, true, false, None, Some, Option, List, [], ◌∷◌, ◌++◌, if◌then◌else◌, replicate, refl, ap, sym, ◌∙◌, subst}
 use Rattle.crl_model.specs.declared.name.Name.{Name}
 use Rattle.crl_model.specs.declared.collective.Fold.{Fold}
 use Rattle.crl_model.specs.declared.collective.Fold.TheVariants as fold
@@ -17,11 +16,10 @@ use Rattle.crl_model.specs.declared.message.Kind.{Kind}
 use Rattle.crl_model.specs.Calls.{kind_of}
 use Rattle.crl_model.specs.FoldOf.{fold_of}
 use Rattle.crl_model.specs.Names.{name_eq}
-use Rattle.crl_pieces.specs.Pieces.{is_missing, is_complete, joined}
 use Rattle.crl_protocol.specs.Places.{Taken, take_out}
 use Rattle.crl_protocol.specs.Home.{bytes_after}
-use Rattle.crl_protocol.specs.Parcels.{Piece, Key, key_of, with_load, at_key, slots_or, fits_size}
-use Rattle.crl_protocol.specs.Receiving.{size_for, slots_with, gathers_piece, receives_part, receives_as, receives}
+use Rattle.crl_protocol.specs.Parcels.{Piece, with_load}
+use Rattle.crl_protocol.specs.Receiving.{receives}
 use Rattle.crl_protocol.specs.Node.{Node, Outcome, Activity, Free, Waiting, Ready}
 use Rattle.crl_protocol.specs.Verdict.{verdict, refuses_call}
 use Rattle.crl_protocol.specs.Calls.{result_of, call_or_refuse, node_calls}
@@ -32,7 +30,7 @@ use Rattle.crl_machine.specs.SingleMachine.{State, start, change, after_all}
 use Rattle.crl_regions.specs.View.{left_if, left_in, array_after, array_from, array_of}
 use Rattle.crl_regions.proofs.Calls.{left_none}
 use Rattle.crl_regions.proofs.RegionDeeds.{left_of}
-use Rattle.crl_deeds.proofs.Laws.{call_deed, message_deed}
+use Rattle.crl_deeds.proofs.Laws.{call_deed, message_deed, received}
 
 -- what these entries leave of each region's bytes is what the step says
 abbrev Leaves : Node → Cause → List Entry → Type 0
@@ -133,18 +131,7 @@ silent_message : (n : Node) (from : ℕ) (k : Kind) → IsSilent (node_handles f
 silent_message n from k = leaves_deed n (Hears from k) (node_handles from k n) (message_deed n from k) tt
 
 silent_piece : (p : Piece) (n : Node) → IsSilent (receives p n).entries
-silent_piece p n = by_key (key_of p.message)
-  where
-    of_slots : (key : Key) (slots : List (Option (List ℕ))) → IsSilent (gathers_piece key p slots n).entries
-    of_slots key slots = cond_both (is_complete slots) _ _ (λ (o : Outcome). IsSilent o.entries) (λ w. silent_message (record n { parcels = at_key n.parcels key None }) p.message.sender (with_load (joined slots) p.message.kind)) (λ w s q. refl)
-
-    of_size : (key : Key) (size : Option ℕ) → IsSilent (receives_part key p size n).entries
-    of_size key None = λ s q. refl
-    of_size key (Some size) = cond_both (fits_size size p && is_missing p.index (slots_or p.pieces (n.parcels key))) _ _ (λ (o : Outcome). IsSilent o.entries) (λ w. of_slots key (slots_with p (n.parcels key))) (λ w s q. refl)
-
-    by_key : (o : Option Key) → IsSilent (receives_as o p n).entries
-    by_key None = silent_message n p.message.sender p.message.kind
-    by_key (Some key) = of_size key (size_for key.load key.name n)
+silent_piece p n = received (λ o. IsSilent o.entries) p n (λ parcels part. silent_message (record n { parcels = parcels }) p.message.sender (with_load part p.message.kind)) (λ parcels key h s q. refl)
 
 silent_collected : (n : Node) (a : Activity) → IsSilent (collects a n).entries
 silent_collected n Free s q = refl

@@ -1,7 +1,7 @@
 -- Every message goes from a node of the world to another.
 use Rattle.std.proofs.Common.{◌≡◌, ℕ, zero, suc, ◌+◌, ◌-◌, ◌<◌, ◌≤◌, ◌==◌, Bool, true, false, None, Some, Option, List, [], ◌∷◌, map, if◌then◌else◌, refl, ap, sym, ◌∙◌, subst, arith}
 use Rattle.std.specs.List.{AllByRecursion}
-use Rattle.std.proofs.lemmas.Bool.{cond_both, and_parts, eqb-true, eqb-false, ltb-true, ne_eqb}
+use Rattle.std.proofs.lemmas.Bool.{and_parts, eqb-true, eqb-false, ltb-true, ne_eqb}
 use Rattle.crl_model.specs.declared.name.Name.{Name}
 use Rattle.crl_model.specs.declared.collective.Fold.{Fold}
 use Rattle.crl_model.specs.declared.call.Call.{Call}
@@ -13,7 +13,6 @@ use Rattle.crl_model.specs.Names.{at_name}
 use Rattle.crl_protocol.specs.Mail.{Mail, Ask, Grant, Recall, Yield, Return, Release, Letter, kind_about}
 use Rattle.crl_protocol.specs.Home.{Home, HomeStep, new_home}
 use Rattle.crl_protocol.specs.Remote.{Remote, RemoteStep, remote_starts, remote_flushes}
-use Rattle.crl_protocol.specs.Lifetimes.{members_from}
 use Rattle.crl_protocol.specs.Node.{Node, ForMap, Activity, Waiting, Outcome, home_of, with_home, letter_messages, mail_messages, message_to, next_name}
 use Rattle.crl_protocol.specs.Calls.{creates, results_from}
 use Rattle.crl_protocol.specs.Handlers.{purges_waiting}
@@ -22,7 +21,7 @@ use Rattle.crl_protocol.specs.World.{World, new_world}
 use Rattle.crl_deeds.specs.Deeds.{Cause, Calls, Hears, parting, EndsCall, a_read, a_write, Serves, ask_comes, copy_returns, copy_lowers, Copies, Lives, Rounds, Notes, Deed, copies, lives, rounds, notes, home_opens, home_waits, side_opens, side_waits, home_ends, side_ends, side_flushes, home_serves, home_serves_own, grant_comes, side_called, made, used_up, map_asks, map_told, map_refused, map_comes, map_denied, unmaps_doomed, unmaps_evicting, deletes_own, deletes_for, delete_asks, deletes_alone_for, delete_refused, delete_comes, dooms, drops, warns, ends_own, ends_for, comes_away, comes_last, part_comes, part_last, part_last_idle, flushes_own}
 use Rattle.crl_regions.specs.Addresses.{GoesToOther}
 use Rattle.crl_regions.proofs.NodesExist.{ToOther, NodesExist, NodesExistAfter, near_asked, near_returned, near_released, near_starts, near_read, near_write, near_new}
-use Rattle.crl_deeds.proofs.Laws.{by_name, home_put, home_end, home_none, all_append, counted_local, counted_start}
+use Rattle.crl_deeds.proofs.Laws.{by_name, home_put, home_end, home_none, all_append, counted_local, counted_start, members_are}
 use Rattle.crl_deeds.specs.Turns.{Came, Local, Held}
 use Rattle.crl_deeds.specs.Counts.{Plain, Counted, GoingFew}
 
@@ -170,11 +169,6 @@ lives_kept count n cause o _ all k = record { homes = k.homes; sides = k.sides; 
 
 abbrev Member : (ℕ → Bool) → ℕ → ℕ → Type 0
 Member set count j = (set j ≡ true) × (j < count)
-
-members_are : (set : ℕ → Bool) (count m k : ℕ) → m + k ≤ count → AllByRecursion (Member set count) (members_from m k set)
-members_are set count m zero few = tt
-members_are set count m (suc k) few =
-    let h = members_are set count (m + 1) k (omega arith) in cond_both (set m) _ _ (AllByRecursion (Member set count)) (λ e. ((e, omega arith), h)) (λ e. h)
 
 purges_sent : (count : ℕ) (n : Node) (name : Name) (set : ℕ → Bool) (ms : List ℕ) → n.me < count → set n.me ≡ false → AllByRecursion (Member set count) ms
     → AllByRecursion (Sent count) (map (λ m. message_to n m (kind.Purge name)) ms)

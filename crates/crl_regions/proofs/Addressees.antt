@@ -5,9 +5,8 @@ use Rattle.crl_model.specs.declared.message.Message.{Message}
 use Rattle.crl_pieces.specs.Pieces.{Cell, left_from}
 use Rattle.crl_protocol.specs.Parcels.{Piece, piece_of}
 use Rattle.crl_protocol.specs.World.{World, world_of, boxes_from}
-use Rattle.crl_protocol.specs.Places.{Took, here, there}
 use Rattle.crl_flight.specs.Flight.{Moves, still, moved, Under, left_of, lefts, IsUnder, IsFlight, messages_of}
-use Rattle.crl_flight.proofs.Laws.{none_boxed}
+use Rattle.crl_flight.proofs.Laws.{none_boxed, all_put}
 use Rattle.crl_regions.specs.Addresses.{GoesToOther}
 use Rattle.crl_regions.specs.Reached.{AfterRuns, PiecesGoToOthers, MessagesGoToOthers, BoxesGoToOthers, EmptyBoxesAreQuiet}
 use Rattle.crl_regions.proofs.Addressed.{PlainSent, Addressed}
@@ -31,16 +30,11 @@ boxes_all w h i (suc k) =
     (all_of (HeldOut (PlainSent w.count)) (ToOther w.count) n.outbox (λ p x. x.1.0) (h i).outbox))
     (boxes_all w h (i + 1) k)
 
--- what is said of all pieces is said of each message with one left
-all_put : {A : Type 0} (P : A → Type 0) {x : A} {xs ys : List A} → Took x xs ys → P x → AllByRecursion P ys → AllByRecursion P xs
-all_put P here h k = (h, k)
-all_put P (there t) h k = (k.0, all_put P t h k.1)
-
 all_moved : {A : Type 0} (P : A → Type 0) {xs ys : List A} → Moves xs ys → AllByRecursion P ys → AllByRecursion P xs
 all_moved P still h = h
 all_moved P (moved x rest a b m) h = let k = all_took P b (all_moved P m h) in all_put P a k.0 k.1
 
-all_parts : {A : Type 0} (P : A → Type 0) (xs ys : List A) → AllByRecursion P (xs ++ ys) → AllByRecursion P xs × AllByRecursion P ys
+pub all_parts : {A : Type 0} (P : A → Type 0) (xs ys : List A) → AllByRecursion P (xs ++ ys) → AllByRecursion P xs × AllByRecursion P ys
 all_parts P [] ys h = (tt, h)
 all_parts P (x ∷ xs) ys h = let k = all_parts P xs ys h.1 in ((h.0, k.0), k.1)
 

@@ -94,7 +94,7 @@ idle_place None [] (g ∷ gs) a e = absurd a
 idle_place None (x ∷ p) gs a e = absurd a
 idle_place (Some w) p gs a e = cc
 
-left_none : {A : Type 0} (xs ys : List A) → xs ++ ys ≡ [] → (xs ≡ []) × (ys ≡ [])
+pub left_none : {A : Type 0} (xs ys : List A) → xs ++ ys ≡ [] → (xs ≡ []) × (ys ≡ [])
 left_none [] ys e = (refl, e)
 left_none (x ∷ xs) ys e = cc
 

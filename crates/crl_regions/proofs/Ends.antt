@@ -4,7 +4,6 @@ use Rattle.std.proofs.lemmas.Bool.{cond-true, cond-false, eqb-true, eqb-false}
 use Rattle.crl_model.specs.declared.name.Name.{Name}
 use Rattle.crl_model.specs.declared.call.Call.{Call}
 use Rattle.crl_model.specs.declared.entry.What.{What}
-use Rattle.crl_model.specs.declared.directory.Section.{Section}
 use Rattle.crl_model.specs.declared.directory.Section.TheVariants as section
 use Rattle.crl_model.specs.Names.{name_eq, at_node}
 use Rattle.crl_protocol.specs.Home.{Home, HomeStep, one_section_less, home_ends_read, home_ends_write, bytes_after}
@@ -21,7 +20,7 @@ use Rattle.crl_regions.specs.View.{left_if, left_in}
 use Rattle.crl_regions.proofs.Opened.{ended, read_ended, write_ended, read_left, write_left, flushes_same, noted_ended, ended_other}
 use Rattle.crl_regions.proofs.Acts.{expected, Comes, Acts, home_is, home_here, home_there, moved_here, moved_there, forgotten_here}
 use Rattle.crl_regions.proofs.Sections.{Local, idle_of, free_idle, free_asks, away, mine_is, here_is, home_event, side_event, reading_of, writing_of}
-use Rattle.crl_deeds.proofs.Laws.{by_name, name_self, home_bytes, remote_bytes, queue_of, asking_of, mapped_home, mapped_remote, read_goes, write_goes, read_ends, write_ends, flushes_goes, open_size}
+use Rattle.crl_deeds.proofs.Laws.{by_name, name_self, home_bytes, remote_bytes, queue_of, asking_of, mapped_home, mapped_remote, read_goes, write_goes, read_ends, write_ends, flushes_goes, open_size, closed_is}
 use Rattle.crl_deeds.specs.NodeFacts.{NoOwn, Fits}
 
 -- what the end of a section is at the home, and at another node
@@ -113,15 +112,11 @@ end_nowhere i n c name w ends lowers (a_read q0 v) e f l = let k = (reading_of (
 end_nowhere i n c name w ends lowers (a_write q0 after v) e f l = let k = writing_of (section_at name n.sections) v.section in let x = nowhere_closed i n name e f l in cc
 
 -- A flush, and a name that is forgotten.
-is_closed_at : (s : Section) → is_closed s ≡ true → s ≡ section.Closed
-is_closed_at section.Closed e = refl
-is_closed_at (section.Reading count) e = cc
-is_closed_at section.Writing e = cc
 
 pub flush_side : (K : Name → ℕ → Type 0) (i : ℕ) (n : Node) (name : Name) (r : Remote) → n.remotes name ≡ Some r → is_closed (section_at name n.sections) ≡ true → n.activity ≡ Free → Local i n
     → (q : Name) → Acts K q i None None n (with_remote name (Some (remote_flushes r).remote) n) (mail_messages n name (remote_flushes r).posts)
 flush_side K i n name r e closed free l =
-    let here : r.here ≡ section.Closed = here_is i n name r e l ∙ is_closed_at _ closed in
+    let here : r.here ≡ section.Closed = here_is i n name r e l ∙ closed_is _ closed in
     let idle = free_asks name r n.activity free (asking_of i n name r e l.fits) in
     let other_home = away i n name r e l.fits in
     side_moves K i n n.sections name r (remote_flushes r) (λ b. None) refl e l.fits.me other_home (flushes_same r ∙ here_is i n name r e l) (λ p other. refl) (flushes_goes r (remote_bytes i n name r e l.fits)).size

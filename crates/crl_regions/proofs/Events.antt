@@ -14,7 +14,7 @@ use Rattle.crl_protocol.specs.Node.{Node, Outcome, only, Done, is_mine, home_of,
 use Rattle.crl_protocol.specs.Verdict.{verdict}
 use Rattle.crl_protocol.specs.Calls.{node_calls}
 use Rattle.crl_protocol.specs.Handlers.{node_handles}
-use Rattle.crl_protocol.specs.World.{World, boxes_from, pieces_in_boxes, collects, steps_node, is_free, is_call}
+use Rattle.crl_protocol.specs.World.{World, boxes_from, pieces_in_boxes, collects, steps_node, is_call}
 use Rattle.crl_pieces.specs.Pieces.{is_missing, is_complete, joined}
 use Rattle.crl_protocol.specs.Parcels.{Piece, PartsGathered, Key, key_eq, key_of, load_of, with_load, slots_or, at_key, fits_size}
 use Rattle.crl_protocol.specs.Receiving.{size_for, slots_with, gathers_piece, receives_part, receives_as, receives}
@@ -64,11 +64,6 @@ of_outcome w arrays i e inbox parcels us left o came written k x =
 
 pub nothing_on : (w : World) (arrays : Name → List ℕ) (us : List Under) → AllNodesHold w arrays us → GoneOn w w us arrays arrays
 nothing_on w arrays us k = record { under = us; whole = k; went = λ q h there. (h, there, refl, finish q.home _ _ _ elsewhere refl (λ j. refl) refl still); made = λ q h none there. absurd (cc) }
-
-pub is_freed : (a : Activity) → is_free a ≡ true → a ≡ Free
-is_freed Free e = refl
-is_freed (Waiting awaited) e = cc
-is_freed (Ready answer) e = cc
 
 own_nothing : (i : ℕ) (n : Node) → Fits i n → (name : Name) → is_mine n name ≡ true → n.remotes name ≡ None
 own_nothing i n f name mine = let own = subst (λ b. OwnFits b (seen n name)) mine (f.each name).own in own.nothing

@@ -3,6 +3,8 @@ use Rattle.std.proofs.Common.{◌≡◌, ◌≢◌, ◌⊎◌, inl, inr, ℕ, �
 use Rattle.std.proofs.lemmas.Bool.{cond-true, cond-false}
 use Rattle.crl_model.specs.declared.name.Name.{Name}
 use Rattle.crl_model.specs.declared.call.Call.{Call}
+use Rattle.crl_model.specs.declared.event.Event.{Event}
+use Rattle.crl_model.specs.declared.event.Event.TheVariants as event
 use Rattle.crl_model.specs.declared.entry.What.{What}
 use Rattle.crl_model.specs.declared.directory.Section.{Section}
 use Rattle.crl_model.specs.declared.directory.Section.TheVariants as section
@@ -27,7 +29,7 @@ use Rattle.crl_regions.proofs.Carried.{of_node, arrived_all}
 use Rattle.crl_regions.proofs.Noted.{bytes_in, bytes_here, section_noted, bytes_noted, open_table}
 use Rattle.crl_deeds.proofs.Laws.{by_name, name_self, home_put}
 use Rattle.crl_deeds.specs.NodeFacts.{RecordFits}
-use Rattle.crl_deeds.specs.Turns.{Turn, calls, hears, gathers, answers, carriage, rests}
+use Rattle.crl_deeds.specs.Turns.{Turn, calls, hears, gathers, answers, carriage}
 
 -- A record that is noted was there before with the same bytes, or has those of the table or the side.
 abbrev IsOld : Option OpenSection → OpenSection → Type 0
@@ -141,13 +143,12 @@ records_deed n cause o _ t q = stays n o.node q refl
 same_node : (n : Node) (q : Name) → RecordFrom n n q
 same_node n q r e = inl (r, e, refl)
 
-pub records_turn : (w : World) (v : WorldStep) → Turn w v → ((i : ℕ) → NoTables (w.nodes i)) → (j : ℕ) (q : Name) → RecordFrom (w.nodes j) (v.world.nodes j) q
-records_turn w v (calls i e c o few free may d) t = of_node w.nodes i _ (λ j n. (q : Name) → RecordFrom (w.nodes j) n q) (λ q. records_deed (w.nodes i) _ o d (t i) q) (λ j other. same_node (w.nodes j))
-records_turn w v (hears i e p rest parcels part o few took d) t = of_node w.nodes i _ (λ j n. (q : Name) → RecordFrom (w.nodes j) n q) (λ q. records_deed (record (w.nodes i) { inbox = rest; parcels = parcels }) _ o d (t i) q) (λ j other. same_node (w.nodes j))
-records_turn w v (gathers i e p rest parcels key few took keyed) t = of_node w.nodes i _ (λ j n. (q : Name) → RecordFrom (w.nodes j) n q) (same_node (w.nodes i)) (λ j other. same_node (w.nodes j))
-records_turn w v (answers i e answer few ready) t = of_node w.nodes i _ (λ j n. (q : Name) → RecordFrom (w.nodes j) n q) (same_node (w.nodes i)) (λ j other. same_node (w.nodes j))
-records_turn w v (carriage i e p rest few took) t = arrived_all i e (record { taken = p; rest = rest }) w (λ j n. (q : Name) → RecordFrom (w.nodes j) n q) (λ j. same_node (w.nodes j)) (λ h. h) (λ n h. h)
-records_turn w v rests t = λ j. same_node (w.nodes j)
+pub records_turn : (w : World) (v : WorldStep) {e : Event} → Turn w e v → ((i : ℕ) → NoTables (w.nodes i)) → (j : ℕ) (q : Name) → RecordFrom (w.nodes j) (v.world.nodes j) q
+records_turn w v (calls i c o few free may d) t = of_node w.nodes i _ (λ j n. (q : Name) → RecordFrom (w.nodes j) n q) (λ q. records_deed (w.nodes i) _ o d (t i) q) (λ j other. same_node (w.nodes j))
+records_turn w v (hears i place p rest parcels part o few took d) t = of_node w.nodes i _ (λ j n. (q : Name) → RecordFrom (w.nodes j) n q) (λ q. records_deed (record (w.nodes i) { inbox = rest; parcels = parcels }) _ o d (t i) q) (λ j other. same_node (w.nodes j))
+records_turn w v (gathers i place p rest parcels key few took keyed) t = of_node w.nodes i _ (λ j n. (q : Name) → RecordFrom (w.nodes j) n q) (same_node (w.nodes i)) (λ j other. same_node (w.nodes j))
+records_turn w v (answers i answer few ready) t = of_node w.nodes i _ (λ j n. (q : Name) → RecordFrom (w.nodes j) n q) (same_node (w.nodes i)) (λ j other. same_node (w.nodes j))
+records_turn w v (carriage i place p rest few took) t = arrived_all i (event.Carry i place) (record { taken = p; rest = rest }) w (λ j n. (q : Name) → RecordFrom (w.nodes j) n q) (λ j. same_node (w.nodes j)) (λ h. h) (λ n h. h)
 
 -- So the bytes of all records are the arrays', where they were before the step.
 is_open : (o : Option OpenSection) (r : OpenSection) (m : Option Mapping) → o ≡ Some r → RecordFits o m → section_of o ≢ section.Closed

@@ -3,14 +3,13 @@ use Rattle.std.proofs.Common.{◌≡◌, ℕ, ◌-◌, ◌==◌, Bool, true, fal
 use Rattle.std.proofs.lemmas.Bool.{ne_eqb, eqb-false}
 use Rattle.std.proofs.Math.Logic.{◌⊎◌, inl, inr}
 use Rattle.crl_model.specs.declared.name.Name.{Name}
-use Rattle.crl_model.specs.declared.directory.Section.{Section}
 use Rattle.crl_model.specs.declared.directory.Section.TheVariants as section
 use Rattle.crl_model.specs.declared.call.Call.{Call}
 use Rattle.crl_model.specs.declared.call.Call.TheVariants as call
 use Rattle.crl_model.specs.declared.call.Refusal.{Refusal}
 use Rattle.crl_model.specs.declared.message.Kind.TheVariants as kind
 use Rattle.crl_model.specs.Names.{name_eq}
-use Rattle.crl_protocol.specs.Remote.{Remote, is_closed}
+use Rattle.crl_protocol.specs.Remote.{Remote}
 use Rattle.crl_protocol.specs.Lifetimes.{members}
 use Rattle.crl_protocol.specs.Sections.{section_at}
 use Rattle.crl_protocol.specs.Node.{Node, ForMap, Free, Waiting, Outcome, at_serial, is_mine, home_of, lifetime_of, message_to}
@@ -28,7 +27,7 @@ use Rattle.crl_regions.proofs.Sections.{Local, away, here_is, free_asks, start_h
 use Rattle.crl_regions.proofs.Ends.{end_home, end_side, end_nowhere, flush_side, forgets_acts}
 use Rattle.crl_regions.proofs.Calls.{IsLeft, acts_create, acts_refused, left_none, purges_quiet, results_quiet, unmapped_closed, evicted_from}
 use Rattle.crl_regions.proofs.Messages.{Passes, serves_home, grant_side, called_side, idle_message, acts_mapped, left_unmapped}
-use Rattle.crl_deeds.proofs.Laws.{same_name, asking_of, call_deed}
+use Rattle.crl_deeds.proofs.Laws.{same_name, asking_of, call_deed, closed_is}
 use Rattle.crl_deeds.specs.NodeFacts.{WaitFits, IsCached, FreshFits}
 
 home_as : (n m : Node) (q : Name) → m.me ≡ n.me → m.homes ≡ n.homes → home_of m q ≡ home_of n q
@@ -63,11 +62,6 @@ came_of q i (Hears from k) = flying q (record { sender = from; addressee = i; ki
 abbrev pub CauseFits : Tables → ℕ → Node → Cause → Type 0
 CauseFits tables i n (Calls c) = (verdict n c ≡ None) × (is_call n c None ≡ true) × (n.activity ≡ Free)
 CauseFits tables i n (Hears from k) = FitsTables tables from i k × Passes from k n
-
-closed_is : (s : Section) → is_closed s ≡ true → s ≡ section.Closed
-closed_is section.Closed e = refl
-closed_is (section.Reading count) e = cc
-closed_is section.Writing e = cc
 
 left_at : (i : ℕ) (n : Node) (name : Name) → n.activity ≡ Free → section_at name n.sections ≡ section.Closed → Local i n → IsLeft i name n
 left_at i n name free closed l r e =

@@ -31,8 +31,8 @@ use Rattle.crl_regions.proofs.AllNodesHold.{AllNodesHold}
 use Rattle.crl_regions.proofs.Steps.{Grows, sizes_grown, all_grown}
 use Rattle.crl_regions.proofs.Records.{Shows, records_show, records_turn}
 use Rattle.crl_regions.proofs.Sections.{no_table as no_home}
-use Rattle.crl_regions.proofs.Events.{StepKeeps, GoneOn, nothing_on, is_freed, call_on, collect_on, handle_on}
-use Rattle.crl_deeds.proofs.Laws.{fits_start, fits_event, all_took, turn_of, turn_count, held_turn, took_at, kept_turn, sections_kept}
+use Rattle.crl_regions.proofs.Events.{StepKeeps, GoneOn, nothing_on, call_on, collect_on, handle_on}
+use Rattle.crl_deeds.proofs.Laws.{fits_start, fits_event, all_took, turn_of, turn_count, held_turn, took_at, kept_turn, sections_kept, free_is, run_count}
 use Rattle.crl_deeds.specs.Turns.{Held, HeldOut}
 use Rattle.crl_deeds.specs.Counts.{SectionsFit}
 
@@ -98,7 +98,7 @@ pub event_on : (w : World) (arrays : Name → List ℕ) (us : List Under) (e : E
 unfolding step is_enabled
 event_on w arrays us (event.Call i c) h k =
     let parts = and_parts _ _ h in let more = and_parts _ _ parts.1 in
-    call_on w arrays us i _ c (ltb-true i w.count parts.0) (is_freed (w.nodes i).activity more.0) more.1 k (keeps_after w arrays us (event.Call i c) h k)
+    call_on w arrays us i _ c (ltb-true i w.count parts.0) (free_is (w.nodes i).activity more.0) more.1 k (keeps_after w arrays us (event.Call i c) h k)
 event_on w arrays us (event.Collect i) h k = let parts = and_parts _ _ h in collect_on w arrays us i _ (ltb-true i w.count parts.0) k (keeps_after w arrays us (event.Collect i) h k)
 event_on w arrays us (event.Handle i place) h k =
     let parts = and_parts _ _ h in handled_on w arrays us i place (event.Handle i place) (take_out place (w.nodes i).inbox) (ltb-true i w.count parts.0) refl k (keeps_after w arrays us (event.Handle i place) h k)
@@ -177,12 +177,8 @@ run_on w arrays (e ∷ es) h k =
 pub nodes_hold : (count capacity : ℕ) (run : List Event) → IsRunFrom (new_world count capacity) run → NodesHold (world_of count capacity run) (λ q. array_of q count capacity run)
 nodes_hold count capacity run r = run_on (new_world count capacity) (λ q. []) run r (record { under = []; whole = all_start count capacity; shown = λ i q r e. absurd (cc) })
 
-count_stays : (es : List Event) (w : World) → IsRunFrom w es → (world_after w es).count ≡ w.count
-count_stays [] w r = refl
-count_stays (e ∷ es) w r = count_stays es (step e w).world r.1 ∙ turn_count w _ (turn_of w e r.0)
-
 pub count_in_run : (count capacity : ℕ) (run : List Event) → IsRunFrom (new_world count capacity) run → (world_of count capacity run).count ≡ count
-count_in_run count capacity run r = count_stays run (new_world count capacity) r
+count_in_run count capacity run r = run_count (new_world count capacity) run r
 
 -- whatever is under way and holds of all regions
 pub with_regions : (w : World) (us : List Under) (arrays before : Name → List ℕ) (k : NodesHold w before) → RegionsHold w us arrays → AllNodesHold w arrays us

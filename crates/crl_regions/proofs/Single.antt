@@ -1,6 +1,6 @@
 -- No two messages with bytes are under way to a node under one key, and each such message has the size that its
 -- addressee knows.
-use Rattle.std.proofs.Common.{◌≡◌, ◌≢◌, inl, inr, ℕ, ◌==◌, Bool, true, false, None, Some, Option, List, [], ◌∷◌, length, if◌then◌else◌, refl, ap, sym, ◌∙◌, subst, arith}
+use Rattle.std.proofs.Common.{◌≡◌, ◌≢◌, inl, inr, ℕ, ◌==◌, Bool, true, false, None, Some, Option, List, [], ◌∷◌, length, if◌then◌else◌, refl, ap, sym, ◌∙◌, subst}
 use Rattle.std.specs.List.{AllByRecursion}
 use Rattle.std.proofs.lemmas.Bool.{cond-true, cond-false, eqb-true, eqb-false, eq-eqb, and_parts}
 use Rattle.crl_model.specs.declared.name.Name.{Name}
@@ -20,9 +20,9 @@ use Rattle.crl_flight.specs.Flight.{Under, is_key, is_at, messages_of}
 use Rattle.crl_flight.proofs.Laws.{key_same}
 use Rattle.crl_flight.specs.Coming.{Alone}
 use Rattle.crl_coherence.specs.Region.{Flying, Region, flies}
-use Rattle.crl_coherence.specs.Pairs.{Freed, HomeAndNode, PairHolds, pair_of, of_node, granted_in, returned_in, released_in, HasVersion, Distinct}
+use Rattle.crl_coherence.specs.Pairs.{Freed, pair_of, of_node, granted_in, returned_in, released_in, HasVersion, Distinct}
 use Rattle.crl_coherence.specs.Coherent.{IsCoherent}
-use Rattle.crl_coherence.proofs.Laws.{NoTwo, took_some, took_all, took_nothing}
+use Rattle.crl_coherence.proofs.Laws.{took_some, took_all, took_nothing, grants_one, returns_one}
 use Rattle.crl_regions.specs.View.{mail_in, other_end, flown, flying, side, sight}
 use Rattle.crl_regions.proofs.Acts.{about_here}
 use Rattle.crl_safety.specs.Tests.{HasTable}
@@ -111,12 +111,6 @@ key_facts tables m key (kind.Purged name) e k f = cc
 key_facts tables m key (kind.Come round p) e k f = cc
 key_facts tables m key (kind.Result round fold) e k f = cc
 
-grants_one : (last : ℕ) (array : List ℕ) (p : HomeAndNode) → PairHolds last array p → NoTwo p.grants
-grants_one last array p h y z ws e = let k = h.ask in let o = h.places in grind arith
-
-returns_one : (last : ℕ) (array : List ℕ) (p : HomeAndNode) → PairHolds last array p → NoTwo p.returns
-returns_one last array p h y z ws e = let o = h.places in grind arith
-
 -- Of one node two grants, two returns, or two releases of a version aren't under way.
 selected : {A : Type 0} (n : ℕ) (select : Mail → Option A) (m : Mail) (x : A) → select m ≡ Some x → of_node n select (flies n m) ≡ Some x
 selected n select m x e = cond-true (n == n) (select m) None (eq-eqb n n refl) ∙ e
@@ -156,7 +150,7 @@ pub took_message : {u : Under} {us others : List Under} → Took u us others →
 took_message here = here
 took_message (there t) = there (took_message t)
 
-all_by_took : {A : Type 0} (P : A → Type 0) (xs : List A) → ((x : A) (rest : List A) → Took x xs rest → P x) → AllByRecursion P xs
+pub all_by_took : {A : Type 0} (P : A → Type 0) (xs : List A) → ((x : A) (rest : List A) → Took x xs rest → P x) → AllByRecursion P xs
 all_by_took P [] h = tt
 all_by_took P (x ∷ xs) h = (h x xs here, all_by_took P xs (λ y rest t. h y (x ∷ rest) (there t)))
 

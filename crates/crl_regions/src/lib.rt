@@ -26,7 +26,8 @@ pub fn messages_go_to_others()
 pub fn regions_hold()
     ensures start { (count capacity : ℕ) → RegionsHold (new_world count capacity) [] (λ name. []) }
     ensures goes_on { AfterRuns EventsKeepRegions }
-    ensures runs { (count capacity : ℕ) (run : List Event) → IsRunFrom (new_world count capacity) run → (us : List Under) × RegionsHold (world_of count capacity run) us (λ name. array_of name count capacity run) }
+    ensures runs { (count capacity : ℕ) (run : List Event) → IsRunFrom (new_world count capacity) run →
+        (us : List Under) × RegionsHold (world_of count capacity run) us (λ name. array_of name count capacity run) }
 {}
 
 /// Where no piece is in a box, nothing is under way.

@@ -11,12 +11,12 @@ use Rattle.crl_model.specs.declared.message.Kind.TheVariants as kind
 use Rattle.crl_model.specs.Names.{at_node}
 use Rattle.crl_model.specs.FoldOf.{fold_of}
 use Rattle.crl_machine.specs.SingleMachine.{State, part_at, parts_of}
-use Rattle.crl_pieces.specs.Pieces.{count, cut, Cell, fresh, left_from}
-use Rattle.crl_protocol.specs.Parcels.{Piece, load_of, with_load, piece_of, pieces_of, pieces_in}
+use Rattle.crl_pieces.specs.Pieces.{count}
+use Rattle.crl_protocol.specs.Parcels.{Piece, with_load, pieces_in}
 use Rattle.crl_protocol.specs.Places.{Took}
 use Rattle.crl_protocol.specs.Node.{Node, Outcome}
 use Rattle.crl_protocol.specs.World.{World, note, put_in, commits, steps_node, carries}
-use Rattle.crl_deeds.proofs.Laws.{all_append, all_took, each_at, sum_with, sum_part}
+use Rattle.crl_deeds.proofs.Laws.{all_append, all_took, each_at, sum_with, sum_part, pieces_held}
 use Rattle.crl_deeds.specs.Tokens.{weighs, sum_from, sum, load}
 use Rattle.crl_deeds.specs.Turns.{Frame, Parts, HeldIn, HeldOut}
 use Rattle.crl_rounds.proofs.Still.{IsOther, IsOtherKind}
@@ -82,16 +82,6 @@ all_map P Q f [] h = tt
 all_map P Q f (x ∷ xs) h = (f x h.0, all_map P Q f xs h.1)
 
 -- the pieces of messages
-left_held : (Q : Message → Type 0) → Parts Q → (m : Message) (n k : ℕ) (cells : List Cell) → Q m → AllByRecursion (HeldOut Q) (left_from (piece_of m n) k cells)
-left_held Q parts m n k [] h = tt
-left_held Q parts m n k (c ∷ cells) h =
-    let rest = left_held Q parts m n (k + 1) cells h in cond_both c.came _ _ (AllByRecursion (HeldOut Q)) (λ w. rest) (λ w. (parts m c.part h, rest))
-
-pieces_held : (Q : Message → Type 0) → Parts Q → (ms : List Message) → AllByRecursion Q ms → AllByRecursion (HeldOut Q) (pieces_in ms)
-pieces_held Q parts [] h = tt
-pieces_held Q parts (m ∷ ms) h =
-    all_append (HeldOut Q) (pieces_of m) (pieces_in ms) (left_held Q parts m (count (length (load_of m.kind))) 0 (fresh (cut (load_of m.kind))) h.0) (pieces_held Q parts ms h.1)
-
 -- The boxes.
 pub record BoxAt (Q : Message → Type 0) (i : ℕ) (n : Node) : Type 0 where
   pub inbox : AllByRecursion (HeldIn Q i) n.inbox

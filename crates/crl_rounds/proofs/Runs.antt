@@ -4,6 +4,7 @@ use Rattle.std.specs.List.{AllByRecursion}
 use Rattle.std.proofs.Math.Logic.{◌⊎◌, inl, inr}
 use Rattle.crl_model.specs.declared.call.Call.{Call}
 use Rattle.crl_model.specs.declared.event.Event.{Event}
+use Rattle.crl_model.specs.declared.event.Event.TheVariants as event
 use Rattle.crl_model.specs.declared.message.Message.{Message}
 use Rattle.crl_model.specs.declared.message.Kind.{Kind}
 use Rattle.crl_model.specs.declared.message.Kind.TheVariants as kind
@@ -19,7 +20,7 @@ use Rattle.crl_deeds.proofs.Laws.{away_load, turn_of, deed_frame, all_took, each
 use Rattle.crl_deeds.specs.Counts.{PlainKind, Plain, Known}
 use Rattle.crl_deeds.specs.NodeFacts.{Leaves, ComesIn, Fits}
 use Rattle.crl_deeds.specs.Tokens.{on_piece, load, Balanced, Balance, came}
-use Rattle.crl_deeds.specs.Turns.{rests, Turn, calls, hears, gathers, answers, carriage, Came, HeldIn, HeldOut}
+use Rattle.crl_deeds.specs.Turns.{noted_as, Turn, calls, hears, gathers, answers, carriage, Came, HeldIn, HeldOut}
 use Rattle.crl_rounds.specs.Standing.{FitAll, round_awaited, IsBetween, StandsIn, Stands}
 use Rattle.crl_rounds.proofs.States.{same_self, after_append}
 use Rattle.crl_rounds.proofs.Counts.{token_kind, token, gathering, waits_round, tokens, no_mail, HeardFits, Facts}
@@ -126,36 +127,36 @@ balanced w s g x h i r small = record {
 abbrev pub TurnLeaves : World → State → WorldStep → Type 0
 TurnLeaves w s v = After w v.world s (after_all s v.entries) × FitAll s v.entries
 
-pub story_turn : (w : World) (s : State) (g : Gathering) (v : WorldStep) → Turn w v → Known w → Story w s g → TurnLeaves w s v
-story_turn w s g v (calls j e c o few free may d) x h =
+pub story_turn : (w : World) (s : State) (g : Gathering) (v : WorldStep) {e : Event} → Turn w e v → Known w → Story w s g → TurnLeaves w s v
+story_turn w s g v (calls j c o few free may d) x h =
     let f = called_facts w s g x h j c few in
     let st = called_steps w s g x h j few in
-    let after : TokensAfter w j e o = λ i r small. token_turn (token i r) (gathering i r) (waits_round r) (tokens i r) i w _ (calls j e c o few free may d) (balanced w s g x h i r small) (h.tokens i r small) in
+    let after : TokensAfter w j (noted_as w j c) o = λ i r small. token_turn (token i r) (gathering i r) (waits_round r) (tokens i r) i w _ (calls j c o few free may d) (balanced w s g x h i r small) (h.tokens i r small) in
     go (kinds_of w.count j g (activities w) (w.nodes j) (Calls c) o d (x.fits j) tt free f) f st after
   where
-    go : Kinds w.count (w.nodes j) (Calls c) o → Facts w.count g (activities w) (w.nodes j) (Calls c) → Steps w s g j (w.nodes j) → TokensAfter w j e o → TurnLeaves w s (steps_node j e o w)
-    go (of_other still none) f st after = (record { gathering = g; story = story_still w s g j (w.nodes j) e o h st still (deed_frame _ _ _ d) after }, still.fit g.round s (stands_self w s g j (w.nodes j) h st))
-    go (of_rounds y) f st after = round_story w s g j (w.nodes j) e (Calls c) o y h st free f tt (λ i r. omega arith) (deed_frame _ _ _ d) after
-story_turn w s g v (hears j e p rest parcels part o few took d) x h =
+    go : Kinds w.count (w.nodes j) (Calls c) o → Facts w.count g (activities w) (w.nodes j) (Calls c) → Steps w s g j (w.nodes j) → TokensAfter w j (noted_as w j c) o → TurnLeaves w s (steps_node j (noted_as w j c) o w)
+    go (of_other still none) f st after = (record { gathering = g; story = story_still w s g j (w.nodes j) (noted_as w j c) o h st still (deed_frame _ _ _ d) after }, still.fit g.round s (stands_self w s g j (w.nodes j) h st))
+    go (of_rounds y) f st after = round_story w s g j (w.nodes j) (noted_as w j c) (Calls c) o y h st free f tt (λ i r. omega arith) (deed_frame _ _ _ d) after
+story_turn w s g v (hears j place p rest parcels part o few took d) x h =
     let y = heard_so w s g x h j p rest parcels part few took in
-    let after : TokensAfter w j e o = λ i r small. token_turn (token i r) (gathering i r) (waits_round r) (tokens i r) i w _ (hears j e p rest parcels part o few took d) (balanced w s g x h i r small) (h.tokens i r small) in
+    let after : TokensAfter w j (event.Handle j place) o = λ i r small. token_turn (token i r) (gathering i r) (waits_round r) (tokens i r) i w _ (hears j place p rest parcels part o few took d) (balanced w s g x h i r small) (h.tokens i r small) in
     go (kinds_of w.count j g (activities w) (hearer w j rest parcels) (heard p part) o d (y.fits (x.fits j)) y.away tt y.facts) y after
   where
-    go : Kinds w.count (hearer w j rest parcels) (heard p part) o → HeardSo w s g j p rest parcels part → TokensAfter w j e o → TurnLeaves w s (steps_node j e o w)
-    go (of_other still none) y after = (record { gathering = g; story = story_still w s g j (hearer w j rest parcels) e o h y.steps still (deed_frame _ _ _ d) after }, still.fit g.round s (stands_self w s g j (hearer w j rest parcels) h y.steps))
-    go (of_rounds z) y after = round_story w s g j (hearer w j rest parcels) e (heard p part) o z h y.steps tt y.facts y.mail y.loads (deed_frame _ _ _ d) after
-story_turn w s g v (gathers j e p rest parcels key few took keyed) x h =
+    go : Kinds w.count (hearer w j rest parcels) (heard p part) o → HeardSo w s g j p rest parcels part → TokensAfter w j (event.Handle j place) o → TurnLeaves w s (steps_node j (event.Handle j place) o w)
+    go (of_other still none) y after = (record { gathering = g; story = story_still w s g j (hearer w j rest parcels) (event.Handle j place) o h y.steps still (deed_frame _ _ _ d) after }, still.fit g.round s (stands_self w s g j (hearer w j rest parcels) h y.steps))
+    go (of_rounds z) y after = round_story w s g j (hearer w j rest parcels) (event.Handle j place) (heard p part) o z h y.steps tt y.facts y.mail y.loads (deed_frame _ _ _ d) after
+story_turn w s g v (gathers j place p rest parcels key few took keyed) x h =
     let y = heard_so w s g x h j p rest parcels [] few took in
     let m : Node = hearer w j rest parcels in
-    let after : TokensAfter w j e (only m Done) = λ i r small. token_turn (token i r) (gathering i r) (waits_round r) (tokens i r) i w _ (gathers j e p rest parcels key few took keyed) (balanced w s g x h i r small) (h.tokens i r small) in
-    (record { gathering = g; story = story_still w s g j m e (only m Done) h y.steps (record { rounds = refl; gathering = refl; awaited = refl; same = same_self; fit = λ k z l. tt; posts = tt }) (record { me = refl; nodes = refl; capacity = refl; inbox = refl; outbox = refl; parcels = refl }) after }, tt)
-story_turn w s g v (answers j e answer few ready) x h =
+    let after : TokensAfter w j (event.Handle j place) (only m Done) = λ i r small. token_turn (token i r) (gathering i r) (waits_round r) (tokens i r) i w _ (gathers j place p rest parcels key few took keyed) (balanced w s g x h i r small) (h.tokens i r small) in
+    (record { gathering = g; story = story_still w s g j m (event.Handle j place) (only m Done) h y.steps (record { rounds = refl; gathering = refl; awaited = refl; same = same_self; fit = λ k z l. tt; posts = tt }) (record { me = refl; nodes = refl; capacity = refl; inbox = refl; outbox = refl; parcels = refl }) after }, tt)
+story_turn w s g v (answers j answer few ready) x h =
     let n = w.nodes j in
     let o : Outcome = record { node = record n { activity = Free }; answer = answer; entries = []; posts = [] } in
-    let after : TokensAfter w j e o = λ i r small. token_turn (token i r) (gathering i r) (waits_round r) (tokens i r) i w _ (answers j e answer few ready) (balanced w s g x h i r small) (h.tokens i r small) in
-    (record { gathering = g; story = story_still w s g j n e o h (called_steps w s g x h j few) (record { rounds = refl; gathering = refl; awaited = sym (ap round_awaited ready); same = same_self; fit = λ k z l. tt; posts = tt }) (record { me = refl; nodes = refl; capacity = refl; inbox = refl; outbox = refl; parcels = refl }) after }, tt)
-story_turn w s g v (carriage j e p rest few took) x h =
-    let n : Node = note w.events e (record (w.nodes j) { outbox = rest }) in
+    let after : TokensAfter w j (event.Collect j) o = λ i r small. token_turn (token i r) (gathering i r) (waits_round r) (tokens i r) i w _ (answers j answer few ready) (balanced w s g x h i r small) (h.tokens i r small) in
+    (record { gathering = g; story = story_still w s g j n (event.Collect j) o h (called_steps w s g x h j few) (record { rounds = refl; gathering = refl; awaited = sym (ap round_awaited ready); same = same_self; fit = λ k z l. tt; posts = tt }) (record { me = refl; nodes = refl; capacity = refl; inbox = refl; outbox = refl; parcels = refl }) after }, tt)
+story_turn w s g v (carriage j place p rest few took) x h =
+    let n : Node = note w.events (event.Carry j place) (record (w.nodes j) { outbox = rest }) in
     let sent : ℕ → Node = at_node w.nodes j n in
     let stood : (i : ℕ) → i < w.count → Stands g.round s i (sent i) = each_at (λ i m. i < w.count → Stands g.round s i m) w.nodes j n h.each (λ small. record { came = (h.each j small).came; call = (h.each j small).call }) in
     let first : (i : ℕ) → (sent i).gathering ≡ (w.nodes i).gathering = each_at (λ i m. m.gathering ≡ (w.nodes i).gathering) w.nodes j n (λ i. refl) refl in (
@@ -168,13 +169,12 @@ story_turn w s g v (carriage j e p rest few took) x h =
           each = each_at (λ i m. i < w.count → Stands g.round s i m) sent p.message.addressee (put_in p (sent p.message.addressee)) stood (λ small. record { came = (stood p.message.addressee small).came; call = (stood p.message.addressee small).call });
           gathered = h.gathered;
           missing = h.missing;
-          tokens = λ i r small. token_turn (token i r) (gathering i r) (waits_round r) (tokens i r) i w _ (carriage j e p rest few took) (balanced w s g x h i r small) (h.tokens i r small);
-          boxes = boxed_carriage (Kept w.count g.round s) w j e p rest few took h.boxes;
+          tokens = λ i r small. token_turn (token i r) (gathering i r) (waits_round r) (tokens i r) i w _ (carriage j place p rest few took) (balanced w s g x h i r small) (h.tokens i r small);
+          boxes = boxed_carriage (Kept w.count g.round s) w j (event.Carry j place) p rest few took h.boxes;
         };
       },
       tt,
     )
-story_turn w s g v rests x h = (record { gathering = g; story = h }, tt)
 
 -- A run.
 none_begins : (count : ℕ) → 0 < count → all_parts 0 count no_parts ≡ None

@@ -1,15 +1,13 @@
 -- A run that is over: its report.
-use Rattle.std.proofs.Common.{◌≡◌, ◌∙◌, refl, sym, ap, ap₂, ◌*◌, ◌<◌, ◌≤◌, ◌^◌, if◌then◌else◌, ℕ, List, [], ◌++◌, length, subst, append_assoc, arith}
+use Rattle.std.proofs.Common.{◌≡◌, ◌∙◌, refl, sym, ap, ap₂, ◌*◌, ◌<◌, ◌≤◌, ◌^◌, if◌then◌else◌, ℕ, List, [], length, subst, arith}
 use Rattle.std.proofs.Math.Nat.{mul-le-mul_right}
 use Rattle.crl_model.specs.Reports.{Reported}
-use Rattle.crl_model.specs.declared.event.Event.{Event}
-use Rattle.crl_model.specs.declared.event.Event.TheVariants as event
 use Rattle.crl_model.specs.declared.statement.Statement.{Statement}
-use Rattle.crl_protocol.specs.World.{World, new_world, step, world_of, messages_sent, account, account_from}
+use Rattle.crl_protocol.specs.World.{World, new_world, world_of, messages_sent, account}
 use Rattle.crl_protocol.specs.Chosen.{Running, running, always_first}
 use Rattle.crl_protocol.specs.Ends.{report, is_stuck, regions}
-use Rattle.crl_deeds.specs.Laws.{AreStatements, chosen, Follows, ended, changes, calls, happens, next_call}
-use Rattle.crl_deeds.proofs.Laws.{follow_turns, append_nil}
+use Rattle.crl_deeds.specs.Laws.{AreStatements, chosen}
+use Rattle.crl_deeds.proofs.Laws.{follow_turns, follow_account}
 use Rattle.crl_stuck.specs.Ends.{statements_in, most_messages, most_turns}
 use Rattle.crl_stuck.proofs.Laws.{messages_most}
 use Rattle.crl_journal.specs.Told.{AreRecordsOf}
@@ -29,15 +27,6 @@ use Rattle.crl_run.proofs.Taken.{players_begin}
 use Rattle.crl_run.proofs.Playing.{counted, as_many}
 use Rattle.crl_run.proofs.ReportSums.{stuck_same, blocked_same}
 use Rattle.crl_run.proofs.Telling.{told_from, told_by_run, account_told}
-
--- the entries of what follows
-pub follow_account : {r end : Running} {es : List Event} → Follows r es end → end.entries ≡ r.entries ++ account_from r.world es
-follow_account (ended {r = r}) = sym (append_nil r.entries)
-follow_account (changes i s left h n e f) = follow_account f
-follow_account {r = r} (calls {es = es} i s left h n e f) =
-    let done = step (event.Call i (next_call r i s)) r.world in follow_account f ∙ append_assoc r.entries done.entries (account_from done.world es)
-follow_account {r = r} (happens {es = es} i e a b c f) =
-    let done = step e r.world in follow_account f ∙ append_assoc r.entries done.entries (account_from done.world es)
 
 same_reports : (a b : Reported) → a.entries ≡ b.entries → a.regions ≡ b.regions → a.blocked ≡ b.blocked → a.events ≡ b.events → a.messages ≡ b.messages → a ≡ b
 same_reports a b e f g h k = λ i. record { entries = e i; regions = f i; blocked = g i; events = h i; messages = k i }

@@ -1,5 +1,5 @@
 -- A turn has one event at most.
-use Rattle.std.proofs.Common.{◌+◌, ◌≤◌, Bool, true, false, if◌then◌else◌, ℕ, zero, suc, List, [], ◌∷◌, length, arith}
+use Rattle.std.proofs.Common.{◌+◌, ◌≤◌, Bool, true, false, if◌then◌else◌, ℕ, List, [], ◌∷◌, length, arith}
 use Rattle.std.proofs.lemmas.List.{length-append}
 use Rattle.crl_model.specs.declared.choice.Choice.{Choice}
 use Rattle.crl_model.specs.declared.choice.Choice.TheVariants as choice
@@ -8,8 +8,9 @@ use Rattle.crl_model.specs.declared.event.Event.{Event}
 use Rattle.crl_model.specs.declared.event.Event.TheVariants as event
 use Rattle.crl_model.specs.declared.statement.Statement.{Statement}
 use Rattle.crl_protocol.specs.Verdict.{verdict}
-use Rattle.crl_protocol.specs.Chosen.{Running, running, choices, takes_choice, takes_choice_at, takes_statement, makes_call, call_of, goes_on, with_actor, after_change, is_change, is_allowed, turn, turns_from}
+use Rattle.crl_protocol.specs.Chosen.{Running, running, takes_choice, takes_choice_at, takes_statement, makes_call, call_of, goes_on, with_actor, after_change, is_change, is_allowed}
 use Rattle.crl_deeds.specs.Laws.{chosen}
+use Rattle.crl_deeds.proofs.Laws.{turns_bounded}
 
 one_event : (i : ℕ) (e : Event) (r : Running) → length (goes_on i e r).events ≤ length r.events + 1
 one_event i e r = let h = length-append r.events (e ∷ []) in omega arith
@@ -41,12 +42,5 @@ turn_few : (word : ℕ) (cs : List Choice) (r : Running) → length (takes_choic
 turn_few word [] r = omega arith
 turn_few word (c ∷ cs) r = choice_few _ r
 
-turns_few : (words : ℕ → ℕ) (p k : ℕ) (r : Running) → length (turns_from words p k r).events ≤ length r.events + k
-turns_few words p zero r = omega arith
-turns_few words p (suc k) r =
-    let one = turn_few (words p) (choices r) r in
-    let rest = turns_few words (p + 1) k (turn (words p) r) in
-    omega arith
-
 pub chosen_few : (count capacity : ℕ) (blocks : List (List Statement)) (words : ℕ → ℕ) (k : ℕ) → length (chosen count capacity blocks words k).events ≤ k
-chosen_few count capacity blocks words k = let h : length (chosen count capacity blocks words k).events ≤ 0 + k = turns_few words 1 k (running count capacity blocks) in omega arith
+chosen_few count capacity blocks words k = let h : length (chosen count capacity blocks words k).events ≤ 0 + k = turns_bounded words 1 k (running count capacity blocks) in omega arith

@@ -11,12 +11,12 @@ use Rattle.crl_model.specs.declared.statement.Statement.TheVariants as statement
 use Rattle.crl_model.specs.declared.event.Event.{Event}
 use Rattle.crl_protocol.specs.Sections.{Guard, OpenSection, section_of, section_at, section_bytes, count_of, is_writing}
 use Rattle.crl_protocol.specs.Node.{Node, Free}
-use Rattle.crl_protocol.specs.Verdict.{verdict, else_if, refuse_if, of_change, mapped_size}
+use Rattle.crl_protocol.specs.Verdict.{verdict, of_change, mapped_size}
 use Rattle.crl_protocol.specs.Talk.{hears}
 use Rattle.crl_protocol.specs.World.{new_world, world_of, IsRunFrom}
 use Rattle.crl_talk.specs.Guards.{Given, given_yet, without_newest, guards_held, AreGuards, closed, writing, reading, nested, bytes_held}
-use Rattle.crl_talk.proofs.Laws.{sections_are_guards}
-use Rattle.crl_deeds.proofs.Laws.{known_start, known_run, open_size}
+use Rattle.crl_talk.proofs.Laws.{sections_are_guards, bytes_of}
+use Rattle.crl_deeds.proofs.Laws.{known_start, known_run, open_size, not_refused, none_of}
 use Rattle.crl_member.specs.Fitting.{fits_open_read, fits_open_write, fits_reading, fits_writing}
 use Rattle.crl_run.specs.Players.{newest, IsOfKind, CanChange}
 use Rattle.crl_model.specs.declared.call.Call as calls
@@ -28,7 +28,6 @@ use Rattle.crl_run.specs.Hearing.{AreLike, AreShown, HoldsHeard}
 use Rattle.crl_run.proofs.Likeness.{newest_first, first_of}
 use Rattle.crl_run.specs.Fits.{GuardFits}
 use Rattle.crl_run.proofs.ActorLemmas.{newest_named}
-use Rattle.crl_run.proofs.Shown.{began_with}
 
 -- Behind the newest guard there are only those of read sections.
 all_read : (n : ℕ) (gs : List Given) (o : Option OpenSection) → AreGuards n gs o → is_writing (section_of o) ≡ false → AreReads gs
@@ -91,7 +90,7 @@ read_first n (g ∷ gs) hs o (nested h rest count number bytes x same one more) 
   kind = like.0.write;
   node = like.0.node ∙ x;
   fits = both_true _ _ _ refl (eq-eqb _ _ (sym (like.0.number ∙ same)))
-      (let began : bytes ≡ bytes_held (record { write = false; guard = h } ∷ rest) = began_with n _ _ (nested h rest count number bytes x same one more) in
+      (let began : bytes ≡ bytes_held (record { write = false; guard = h } ∷ rest) = bytes_of n _ _ (nested h rest count number bytes x same one more) in
       let shows : g.guard.bytes ≡ bytes = like.0.read like.0.write ∙ shown.0 refl ∙ sym began in
       ap (λ bs. pointwise nat_eq bytes bs) shows ∙ itself bytes);
 }
@@ -117,13 +116,6 @@ unfolding verdict
 same_end_verdict n name after other = refl
 
 -- What a verdict says that refuses nothing.
-none_first : (a b : Option Refusal) → else_if a b ≡ None → (a ≡ None) × (b ≡ None)
-none_first None b e = (refl, e)
-none_first (Some why) b e = cc
-
-not_refused : (b : Bool) (why : Refusal) → refuse_if b why ≡ None → b ≡ false
-not_refused true why e = cc
-not_refused false why e = refl
 
 not_not : (b : Bool) → not b ≡ false → b ≡ true
 not_not true e = refl
@@ -134,23 +126,23 @@ not_zero k e = let ne = eqb-false k 0 e in grind arith
 
 pub may_read : (n : Node) (name : Name) → verdict n (call.EndRead name) ≡ None → 1 ≤ count_of (section_at name n.sections)
 unfolding verdict
-may_read n name e = not_zero _ (not_refused _ refusal.NotReading (none_first _ _ e).1)
+may_read n name e = not_zero _ (not_refused _ refusal.NotReading (none_of _ _ e).1)
 
 pub may_write : (n : Node) (name : Name) (after : List ℕ) → verdict n (call.EndWrite name after) ≡ None → is_writing (section_at name n.sections) ≡ true
 unfolding verdict
-may_write n name after e = not_not _ (not_refused _ refusal.NotWriting (none_first _ _ e).1)
+may_write n name after e = not_not _ (not_refused _ refusal.NotWriting (none_of _ _ e).1)
 
 may_change : (n : Node) (name : Name) (offset len : ℕ) → of_change n name offset len ≡ None → (is_writing (section_at name n.sections) ≡ true) × (nat_lt (mapped_size (n.maps name)) (offset + len) ≡ false)
 may_change n name offset len e =
-    let parts = none_first _ _ e in (not_not _ (not_refused _ refusal.NotWriting parts.0), not_refused _ refusal.OutOfRange parts.1)
+    let parts = none_of _ _ e in (not_not _ (not_refused _ refusal.NotWriting parts.0), not_refused _ refusal.OutOfRange parts.1)
 
 pub may_put : (n : Node) (name : Name) (offset len : ℕ) → verdict n (call.Put name offset len) ≡ None → (is_writing (section_at name n.sections) ≡ true) × (nat_lt (mapped_size (n.maps name)) (offset + len) ≡ false)
 unfolding verdict
-may_put n name offset len e = may_change n name offset len (none_first _ _ e).1
+may_put n name offset len e = may_change n name offset len (none_of _ _ e).1
 
 pub may_add : (n : Node) (name : Name) (offset : ℕ) → verdict n (call.Add name offset) ≡ None → (is_writing (section_at name n.sections) ≡ true) × (nat_lt (mapped_size (n.maps name)) (offset + 8) ≡ false)
 unfolding verdict
-may_add n name offset e = may_change n name offset 8 (none_first _ _ e).1
+may_add n name offset e = may_change n name offset 8 (none_of _ _ e).1
 
 -- A free node of a run, which holds what it was given.
 module _ (count capacity : ℕ) (run : List Event) (r : IsRunFrom (new_world count capacity) run) (i : ℕ) (gs : List Given)

@@ -17,7 +17,7 @@ use Rattle.crl_protocol.specs.Verdict.{verdict, refuses_call}
 use Rattle.crl_protocol.specs.Talk.{Heard, Called, Collected, hears_of, hears}
 use Rattle.crl_protocol.specs.World.{new_world, step, is_enabled, world_of, IsRunFrom}
 use Rattle.crl_talk.specs.Guards.{Given, given_of, is_done, ends_section, without_newest, held_after, guards_held}
-use Rattle.crl_deeds.proofs.Laws.{append_nil}
+use Rattle.crl_deeds.proofs.Laws.{append_nil, hears_grow}
 use Rattle.crl_run.specs.declared.act.Act.{Act}
 use Rattle.crl_run.specs.declared.act.Act.TheVariants as act
 use Rattle.crl_run.specs.Players.{newest, guards_given, guards_without, IsOfKind}
@@ -26,7 +26,7 @@ use Rattle.crl_run.specs.Actors.{guards_of, asked_call, call_made}
 use Rattle.crl_run.specs.Hearing.{AreLike, AreShown, HoldsHeard, Spends}
 use Rattle.crl_run.proofs.Likeness.{like_join, like_rest, like_chain, all_like_self, given_here, guards_join, without_of, held_more}
 use Rattle.crl_run.proofs.ActorLemmas.{newest_named as newest_is}
-use Rattle.crl_run.proofs.Shown.{shown_rest, shown_then, hears_then}
+use Rattle.crl_run.proofs.Shown.{shown_rest, shown_then}
 
 pub none_held : HoldsHeard [] []
 none_held = record { like = λ q. tt; shown = λ q. tt }
@@ -159,7 +159,7 @@ module _ (count capacity : ℕ) (run : List Event) (r : IsRunFrom (new_world cou
   given_then = (step e (world_of count capacity run)).answer
 
   pub hears_nothing : hears_of n e given_then ≡ [] → (gs : List Given) → HoldsHeard told gs → HoldsHeard told_then gs
-  hears_nothing none gs h = subst (λ hs. HoldsHeard hs gs) (sym (hears_then n (new_world count capacity) run e ∙ ap (λ hs. told ++ hs) none ∙ append_nil told)) h
+  hears_nothing none gs h = subst (λ hs. HoldsHeard hs gs) (sym (hears_grow n (new_world count capacity) run e ∙ ap (λ hs. told ++ hs) none ∙ append_nil told)) h
 
   given_like : (q : Name) (new left : List Given) → AreLike (guards_of q new) left → AreLike (guards_of q (guards_given given_then ++ new)) (given_of q given_then ++ left)
   given_like q new left h =
@@ -167,7 +167,7 @@ module _ (count capacity : ℕ) (run : List Event) (r : IsRunFrom (new_world cou
       (like_join (given_of q given_then) (given_of q given_then) (guards_of q new) left (all_like_self (given_of q given_then)) h)
 
   held_then : (q : Name) (h : Heard) → hears_of n e given_then ≡ h ∷ [] → guards_held q [] told_then ≡ held_after q h (guards_held q [] told)
-  held_then q h is = ap (guards_held q []) (hears_then n (new_world count capacity) run e ∙ ap (λ hs. told ++ hs) is) ∙ held_more q [] told h
+  held_then q h is = ap (guards_held q []) (hears_grow n (new_world count capacity) run e ∙ ap (λ hs. told ++ hs) is) ∙ held_more q [] told h
 
   pub hears_answer : hears_of n e given_then ≡ Collected given_then ∷ [] → (gs : List Given) → HoldsHeard told gs → HoldsHeard told_then (guards_given given_then ++ gs)
   hears_answer is gs h = record {

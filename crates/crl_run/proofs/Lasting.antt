@@ -5,11 +5,11 @@ use Rattle.crl_model.specs.declared.event.Event.{Event}
 use Rattle.crl_model.specs.declared.event.Event.TheVariants as event
 use Rattle.crl_model.specs.declared.statement.Statement.{Statement}
 use Rattle.crl_protocol.specs.World.{World, new_world, step, is_enabled, world_after, IsRunFrom}
-use Rattle.crl_protocol.specs.Chosen.{Running, running, choices, turn, turns_from, takes_choice_at, goes_on}
+use Rattle.crl_protocol.specs.Chosen.{Running, running, choices, turn, turns_from, goes_on}
 use Rattle.crl_deeds.specs.Laws.{AreStatements, chosen, Follows, ended, changes, calls, happens, next_call, past_statement}
 use Rattle.crl_deeds.proofs.Laws.{sound_start, follow_runs, follow_turns, follow_world}
 use Rattle.crl_stuck.specs.Ends.{statements_in, most_turns, RunEnds}
-use Rattle.crl_stuck.proofs.Laws.{run_ends}
+use Rattle.crl_stuck.proofs.Laws.{run_ends, rests}
 use Rattle.crl_run.specs.Staging.{IsOnItsWay, CallsMayCome, IsChosenOn}
 use Rattle.crl_run.proofs.Events.{chosen_few}
 
@@ -23,10 +23,6 @@ turns_more words p (suc a) b r =
     let same : suc a + b ≡ suc (a + b) = omega arith in
     let from : (p + 1) + a ≡ p + suc a = omega arith in
     ap (λ k. turns_from words p k r) same ∙ turns_more words (p + 1) a b (turn (words p) r) ∙ ap (λ k. turns_from words k b (turns_from words (p + 1) a (turn (words p) r))) from
-
-rests : (words : ℕ → ℕ) (p k : ℕ) (r : Running) → choices r ≡ [] → turns_from words p k r ≡ r
-rests words p zero r e = refl
-rests words p (suc k) r e = ap (λ x. turns_from words (p + 1) k x) (ap (λ cs. takes_choice_at (words p) cs r) e) ∙ rests words (p + 1) k r e
 
 -- What follows, one after another.
 follows_more : {a b c : Running} {es fs : List Event} → Follows a es b → Follows b fs c → Follows a (es ++ fs) c

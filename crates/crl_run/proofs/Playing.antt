@@ -1,6 +1,6 @@
 -- What a choice of a turn needs of the world, and that the players stand for the run after it.
 use Rattle.std.proofs.Common.{◌≡◌, ◌∙◌, sym, ap, refl, ◌==◌, ◌<◌, ◌≤◌, ◌^◌, Bool, true, false, if◌then◌else◌, Option, Some, None, ℕ, List, [], ◌++◌, length, set, get_or, subst, arith}
-use Rattle.std.proofs.lemmas.Bool.{and_parts, ltb-true, eqb-true, eqb-false}
+use Rattle.std.proofs.lemmas.Bool.{eqb-true, eqb-false}
 use Rattle.std.proofs.lemmas.List.{length-set, get_or-set_same, get_or-set_other}
 use Rattle.crl_model.specs.declared.call.Call.TheVariants as call
 use Rattle.crl_model.specs.declared.choice.Choice.TheVariants as choice
@@ -36,6 +36,7 @@ use Rattle.crl_run.proofs.Counting.{events_counted}
 use Rattle.crl_run.proofs.Heard.{read_answer, write_answer}
 use Rattle.crl_run.proofs.Stages.{collect_stands, handle_stands, carry_stands}
 use Rattle.crl_run.proofs.Taken.{call_answer}
+use Rattle.crl_deeds.proofs.Laws.{collect_node}
 
 -- The end of a section by its guard is the node's call, whose answer gives no guard.
 done_gives : (answer : Answer) (gs : List Given) → answer ≡ Done → gs ≡ guards_given answer ++ gs
@@ -56,19 +57,6 @@ write_made i w v p a g is fits same = subst (λ x. IsMade i (call_made x) w v p.
       place = refl;
       guards = done_gives _ p.guards (call_answer i (call.EndWrite g.name g.bytes) w ∙ write_answer (w.nodes i) g.name g.bytes f.2);
     })
-
--- an event is of a node of the world
-pub collect_node : (i : ℕ) (w : World) → is_enabled (event.Collect i) w ≡ true → i < w.count
-unfolding is_enabled
-collect_node i w may = ltb-true _ _ (and_parts _ _ may).0
-
-pub handle_node : (i place : ℕ) (w : World) → is_enabled (event.Handle i place) w ≡ true → i < w.count
-unfolding is_enabled
-handle_node i place w may = ltb-true _ _ (and_parts _ _ may).0
-
-pub carry_node : (i place : ℕ) (w : World) → is_enabled (event.Carry i place) w ≡ true → i < w.count
-unfolding is_enabled
-carry_node i place w may = ltb-true _ _ (and_parts _ _ may).0
 
 -- The players with another in a place.
 player_put : (players : List PlayerState) (i : ℕ) (q : PlayerState) (j : ℕ) → i < length players → at_node (player_of players) i q j ≡ player_of (set players i q) j

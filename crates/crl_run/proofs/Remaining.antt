@@ -16,7 +16,8 @@ use Rattle.crl_protocol.specs.Chosen.{Actor, Running, block_of, is_change, is_al
 use Rattle.crl_run.specs.PlayerState.{PlayerState}
 use Rattle.crl_run.specs.Playing.{player_of, IsPossible, SomeCanChoose, HasChosen}
 use Rattle.crl_run.specs.Turning.{SayWhatIsLeft, node_of}
-use Rattle.crl_run.proofs.Playing.{collect_node, handle_node, carry_node, counted}
+use Rattle.crl_run.proofs.Playing.{counted}
+use Rattle.crl_deeds.proofs.Laws.{collect_node, handle_node, carry_node}
 
 at_other : {X : Type 0} (f : ℕ → X) (i j : ℕ) (x : X) → (i == j) ≡ false → at_node f i x j ≡ f j
 at_other f i j x other = ap (λ b. if b then x else f j) other

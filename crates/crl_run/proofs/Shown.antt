@@ -1,8 +1,6 @@
 -- What the guards of a region's open sections show, in every run.
 use Rattle.std.proofs.Common.{◌≡◌, ◌∙◌, sym, ap, refl, Bool, true, false, if◌then◌else◌, Option, Some, None, ℕ, List, [], ◌∷◌, ◌++◌, subst}
-use Rattle.std.proofs.lemmas.List.{append_assoc}
 use Rattle.crl_model.specs.declared.name.Name.{Name}
-use Rattle.crl_model.specs.declared.directory.Section.TheVariants as section
 use Rattle.crl_model.specs.declared.event.Event.{Event}
 use Rattle.crl_model.specs.Names.{name_eq}
 use Rattle.crl_model.proofs.Laws.{same_name}
@@ -10,13 +8,13 @@ use Rattle.crl_machine.specs.SingleMachine.{State}
 use Rattle.crl_protocol.specs.Sections.{OpenSection, section_bytes}
 use Rattle.crl_protocol.specs.Node.{Answer, Reading, Writing}
 use Rattle.crl_protocol.specs.Talk.{Heard, hears_of, hears}
-use Rattle.crl_protocol.specs.World.{World, new_world, step, is_enabled, world_after, world_of, IsRunFrom}
+use Rattle.crl_protocol.specs.World.{new_world, step, is_enabled, world_of, IsRunFrom}
 use Rattle.crl_talk.specs.Guards.{Given, given_of, given_yet, without_newest, held_after, guards_held, AreGuards, closed, writing, reading, nested, bytes_held}
-use Rattle.crl_talk.proofs.Laws.{sections_are_guards}
+use Rattle.crl_talk.proofs.Laws.{sections_are_guards, bytes_of}
 use Rattle.crl_rounds.specs.Standing.{machine_of}
 use Rattle.crl_history.specs.Legal.{AnswerShows}
 use Rattle.crl_history.proofs.Laws.{mirrors_in_runs, answers_show, run_then, machine_then}
-use Rattle.crl_deeds.proofs.Laws.{append_nil}
+use Rattle.crl_deeds.proofs.Laws.{hears_grow}
 use Rattle.crl_run.specs.Hearing.{AreShown}
 
 -- The bytes with which a section began are those of the oldest guard.
@@ -28,16 +26,6 @@ none_open n s h = go [] _ h refl refl
     go gs o (writing g x) e k = cc
     go gs o (reading g x) e k = cc
     go gs o (nested g rest c num bs x same some h) e k = cc
-
-pub began_with : (n : ℕ) (gs : List Given) (o : Option OpenSection) → AreGuards n gs o → section_bytes o ≡ bytes_held gs
-began_with n gs o closed = refl
-began_with n gs o (writing g e) = refl
-began_with n gs o (reading g e) = refl
-began_with n gs o (nested g rest count number bytes e same some h) = under rest (began_with n rest (Some (record { section = section.Reading count; number = number; bytes = bytes })) h) h
-  where
-    under : (rest : List Given) → bytes ≡ bytes_held rest → AreGuards n rest (Some (record { section = section.Reading count; number = number; bytes = bytes })) → bytes ≡ bytes_held (record { write = false; guard = g } ∷ rest)
-    under [] w k = none_open n _ k
-    under (x ∷ more) w k = w
 
 oldest_behind : (xs : List Given) (g : Given) (gs : List Given) → bytes_held (xs ++ g ∷ gs) ≡ bytes_held (g ∷ gs)
 oldest_behind [] g gs = refl
@@ -64,7 +52,7 @@ shown_add : (n : ℕ) (yet gs : List Given) (g : Given) (o : Option OpenSection)
 shown_add n yet [] g o bytes h has e k = (λ w. refl, tt)
 shown_add n yet (x ∷ xs) g o bytes h has e k =
     let there = open_with n yet (x ∷ xs) g o h in
-    let began : section_bytes o ≡ bytes_held (x ∷ xs) = began_with n _ o h ∙ oldest_behind yet g (x ∷ xs) in
+    let began : section_bytes o ≡ bytes_held (x ∷ xs) = bytes_of n _ o h ∙ oldest_behind yet g (x ∷ xs) in
     let same : bytes_held (x ∷ xs) ≡ there.0.bytes = sym began ∙ ap section_bytes there.1 in
     (λ w. e ∙ sym (has there.0 there.1) ∙ sym same, k)
 
@@ -89,10 +77,6 @@ shown_answer n q yet gs (Writing g) o s h has e k = go (name_eq g.name q) refl h
 shown_answer n q yet gs _ o s h has e k = k
 
 -- One event more.
-pub hears_then : (n : ℕ) (w : World) (run : List Event) (e : Event) → hears n w (run ++ e ∷ []) ≡ hears n w run ++ hears_of n e (step e (world_after w run)).answer
-hears_then n w [] e = append_nil (hears_of n e (step e w).answer)
-hears_then n w (x ∷ run) e =
-    ap (λ hs. hears_of n x (step x w).answer ++ hs) (hears_then n (step x w).world run e) ∙ sym (append_assoc (hears_of n x (step x w).answer) (hears n (step x w).world run) (hears_of n e (step e (world_after (step x w).world run)).answer))
 
 module _ (count capacity : ℕ) (run : List Event) (r : IsRunFrom (new_world count capacity) run) (e : Event) (may : is_enabled e (world_of count capacity run) ≡ true) (n : ℕ) (q : Name) where
   abbrev held : List Given
@@ -113,7 +97,7 @@ module _ (count capacity : ℕ) (run : List Event) (r : IsRunFrom (new_world cou
   shown_then heard left same after h =
       let w = new_world count capacity in
       let more = run_then w run e r may in
-      let all : guards_held q [] (hears n w (run ++ e ∷ [])) ≡ given_of q answer ++ left = ap (guards_held q []) (hears_then n w run e) ∙ held_join q [] (hears n w run) (hears_of n e answer) ∙ ap (guards_held q held) same ∙ after in
+      let all : guards_held q [] (hears n w (run ++ e ∷ [])) ≡ given_of q answer ++ left = ap (guards_held q []) (hears_grow n w run e) ∙ held_join q [] (hears n w run) (hears_of n e answer) ∙ ap (guards_held q held) same ∙ after in
       let guards = sections_are_guards count capacity (run ++ e ∷ []) more n q in
       let v = world_of count capacity (run ++ e ∷ []) in
       subst (λ gs. AreShown gs) (sym all)

@@ -19,8 +19,8 @@ use Rattle.crl_protocol.specs.Chosen.{Actor, Running, goes_on, with_actor, takes
 use Rattle.crl_talk.specs.Guards.{Given}
 use Rattle.crl_deeds.specs.Deeds.{Cause, Calls, Hears, Copies, Lives, Rounds, Deed}
 use Rattle.crl_deeds.specs.Deeds as deed
-use Rattle.crl_deeds.proofs.Laws.{message_deed}
-use Rattle.crl_history.proofs.Laws.{world_then, run_then}
+use Rattle.crl_deeds.proofs.Laws.{message_deed, world_grows}
+use Rattle.crl_history.proofs.Laws.{run_then}
 use Rattle.crl_run.specs.PlayerState.{PlayerState}
 use Rattle.crl_run.specs.Players.{guards_given}
 use Rattle.crl_run.specs.Actors.{IsActor}
@@ -123,7 +123,7 @@ module _ (count capacity : ℕ) (blocks : List (List Statement)) (r : Running) (
   pub on_way_then : IsOnItsWay count capacity (goes_on i e r)
   on_way_then = record {
     run = run_then (new_world count capacity) r.events e way.run may_there;
-    world = ap (λ (w : World). (step e w).world) way.world ∙ sym (world_then (new_world count capacity) r.events e);
+    world = ap (λ (w : World). (step e w).world) way.world ∙ sym (world_grows (new_world count capacity) r.events e);
   }
 
   -- a node that hears nothing

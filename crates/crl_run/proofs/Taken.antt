@@ -1,11 +1,8 @@
 -- A statement that is taken: the players stand for the run after it.
-use Rattle.std.proofs.Common.{◌≡◌, ◌∙◌, sym, ap, refl, ◌==◌, ◌&&◌, ◌+◌, ◌^◌, ◌%◌, ◌<◌, ◌≤◌, Bool, true, false, if◌then◌else◌, Option, Some, None, ℕ, suc, List, [], ◌∷◌, length, drop, subst, arith}
+use Rattle.std.proofs.Common.{◌≡◌, ◌∙◌, sym, ap, refl, ◌==◌, ◌&&◌, ◌+◌, ◌^◌, ◌%◌, ◌<◌, ◌≤◌, Bool, true, false, if◌then◌else◌, Option, Some, None, ℕ, suc, List, [], ◌∷◌, length, drop, subst}
 use Rattle.std.specs.Int.{to_be_bytes, from_be_bytes, w64}
 use Rattle.std.proofs.lemmas.Bool.{cond-true, cond-false, eq-eqb}
-use Rattle.std.proofs.lemmas.List.{length-append, length-take, length-drop}
 use Rattle.crl_model.specs.declared.call.Call as calls
-use Rattle.crl_model.specs.declared.call.Call.TheVariants as call
-use Rattle.crl_model.specs.declared.call.Refusal.{Refusal}
 use Rattle.crl_model.specs.declared.choice.Choice.TheVariants as choice
 use Rattle.crl_model.specs.declared.event.Event.TheVariants as event
 use Rattle.crl_model.specs.declared.statement.Statement.{Statement}
@@ -17,7 +14,7 @@ use Rattle.crl_protocol.specs.Calls.{node_calls}
 use Rattle.crl_protocol.specs.Verdict.{verdict}
 use Rattle.crl_protocol.specs.Talk.{Heard, hears}
 use Rattle.crl_protocol.specs.World.{World, new_world, step, is_enabled, world_of}
-use Rattle.crl_protocol.specs.Chosen.{Actor, new_actor, Running, running, call_of, draft_of, is_change, is_allowed, after_change, eight_at, with_sum, goes_on, with_actor, makes_call, takes_statement, takes_choice, block_of}
+use Rattle.crl_protocol.specs.Chosen.{Actor, new_actor, Running, running, call_of, is_change, is_allowed, after_change, eight_at, with_sum, goes_on, with_actor, makes_call, takes_statement, takes_choice, block_of}
 use Rattle.crl_talk.specs.Guards.{Given}
 use Rattle.crl_run.specs.declared.act.Act.{Act}
 use Rattle.crl_run.specs.PlayerState.{PlayerState}
@@ -33,10 +30,10 @@ use Rattle.crl_run.proofs.Likeness.{with_of, like_chain, KeepsSize}
 use Rattle.crl_run.proofs.Heard.{none_held, act_spends, SpendsOne}
 use Rattle.crl_run.proofs.Fitting.{can_act, exclusive, act_fits}
 use Rattle.crl_run.proofs.Stages.{call_stands, inside_stands}
+use Rattle.crl_deeds.proofs.Laws.{allowed, put_length}
+use Rattle.crl_talk.proofs.Laws.{call_of_left}
 
 -- A change leaves as many bytes.
-put_length : (offset : ℕ) (bytes old : List ℕ) → offset + length bytes ≤ length old → length (put_at offset bytes old) ≡ length old
-put_length offset bytes old h = simp (length-append, length-take, length-drop) (omega arith)
 
 keeps_size : (f : List ℕ → List ℕ) (end : ℕ) (o : Option Given) → ((bytes : List ℕ) → end ≤ length bytes → length (f bytes) ≡ length bytes) → CanChange end o → KeepsSize f o
 keeps_size f end None h can = tt
@@ -52,27 +49,6 @@ module _ (heard : List Heard) (old : List Given) (h : HoldsHeard heard old) wher
   changed_holds (statement.Add name offset number) does new e can acts =
       with_holds name (with_sum offset number) new (keeps_size _ (offset + 8) (newest name old) (λ b. put_length offset (to_be_bytes w64 ((from_be_bytes w64 (eight_at offset b) + number) % 2 ^ 64)) b) can) acts.1
 
--- The call doesn't go by how many statements are left.
-same_call : (n : Node) (a : Actor) (left : List Statement) (s : Statement) → call_of n (record a { left = left }) s ≡ call_of n a s
-same_call n a left (statement.Put name offset bytes) = refl
-same_call n a left (statement.Add name offset number) = refl
-same_call n a left (statement.Call (call.EndWrite name after)) = go (verdict n (call.EndWrite name after))
-  where
-    go : (o : Option Refusal) → call.EndWrite name (draft_of o name (record a { left = left })) ≡ call.EndWrite name (draft_of o name a)
-    go None = refl
-    go (Some why) = refl
-same_call n a left (statement.Call (call.Create size)) = refl
-same_call n a left (statement.Call (call.Delete name)) = refl
-same_call n a left (statement.Call (call.Map name)) = refl
-same_call n a left (statement.Call (call.Unmap name)) = refl
-same_call n a left (statement.Call (call.StartRead name)) = refl
-same_call n a left (statement.Call (call.EndRead name)) = refl
-same_call n a left (statement.Call (call.StartWrite name)) = refl
-same_call n a left (statement.Call (call.Put name offset len)) = refl
-same_call n a left (statement.Call (call.Add name offset)) = refl
-same_call n a left (statement.Call (call.Flush name)) = refl
-same_call n a left (statement.Call (call.Come part)) = refl
-
 pub call_answer : (i : ℕ) (c : calls.Call) (w : World) → (step (event.Call i c) w).answer ≡ (node_calls c (w.nodes i)).answer
 unfolding step
 call_answer i c w = refl
@@ -82,14 +58,10 @@ by_both true true x y both e = ap (λ k. if k then x else y) e
 by_both true false x y both e = ap (λ k. if k then x else y) e
 by_both false b x y both e = ap (λ k. if k then x else y) e
 
-none_refused : (o : Option Refusal) → is_allowed o ≡ true → o ≡ None
-none_refused None e = refl
-none_refused (Some why) e = cc
-
 none_of_change : (n : Node) (a : Actor) (s : Statement) → (is_change s && is_allowed (verdict n (call_of n a s))) ≡ true → (is_change s ≡ true) × (verdict n (asked_call s) ≡ None)
 none_of_change n a (statement.Call c) e = cc
-none_of_change n a (statement.Put name offset bytes) e = (refl, none_refused _ e)
-none_of_change n a (statement.Add name offset number) e = (refl, none_refused _ e)
+none_of_change n a (statement.Put name offset bytes) e = (refl, allowed _ e)
+none_of_change n a (statement.Add name offset number) e = (refl, allowed _ e)
 
 -- At the start.
 pub players_begin : (count capacity : ℕ) (blocks : List (List Statement)) (players : ℕ → PlayerState) → ((i : ℕ) → i < count → ((players i).place ≡ 0) × ((players i).guards ≡ [])) → AllStand count capacity blocks (running count capacity blocks) players
@@ -147,7 +119,7 @@ module _ (count capacity : ℕ) (blocks : List (List Statement)) (r : Running) (
   unfolding takes_choice
   taken_choice both e =
       let left : (r.actors i).left ≡ s ∷ rest = own.actor.left ∙ next in
-      ap (λ l. takes_statement i l r) left ∙ ap (λ c. makes_call i s c past) (sym (same_call node (r.actors i) rest s))
+      ap (λ l. takes_statement i l r) left ∙ ap (λ c. makes_call i s c past) (sym (call_of_left node (r.actors i) rest s))
       ∙ by_both (is_change s) (is_allowed (verdict node (call_of node actor s))) (with_actor i (after_change s (past.actors i)) past) (goes_on i (event.Call i (call_of node actor s)) past) both e
       ∙ ap (λ a. if both then with_actor i (after_change s a) past else goes_on i (event.Call i (call_of node actor s)) past) past_actor
 
@@ -181,8 +153,8 @@ module _ (count capacity : ℕ) (blocks : List (List Statement)) (r : Running) (
       go : (o : Option calls.Call) → IsTakenBy (block_of blocks i) (suc (players i).place) new node s actor o → AfterMade o
       go None (flag, stands) = ap (λ (x : Running). x.world) (taken_choice true flag)
       go (Some c) (flag, is, stands) =
-          let same : c ≡ next_call r i s = is ∙ same_call node (r.actors i) rest s in
-          let out : is_inside r i s ≡ false = subst (λ d. (is_change s && is_allowed (verdict node d)) ≡ false) (same_call node (r.actors i) rest s) flag in (
+          let same : c ≡ next_call r i s = is ∙ call_of_left node (r.actors i) rest s in
+          let out : is_inside r i s ≡ false = subst (λ d. (is_change s && is_allowed (verdict node d)) ≡ false) (call_of_left node (r.actors i) rest s) flag in (
             ap (λ (x : Running). x.world) (taken_choice false flag ∙ ap (λ d. goes_on i (event.Call i d) past) (sym is)),
             λ come below. subst (λ d. is_enabled (event.Call i d) r.world ≡ true) (sym same) (come i s rest below free (own.actor.left ∙ next) out),
           )

@@ -18,11 +18,10 @@ use Rattle.crl_protocol.specs.World.{World, new_world, step, steps_node, commits
 use Rattle.crl_deeds.specs.Laws.{node_of}
 use Rattle.crl_deeds.specs.Deeds.{Cause, Calls, Hears, Copies, Lives, Rounds, Notes, Deed}
 use Rattle.crl_deeds.specs.Deeds as deed
-use Rattle.crl_deeds.proofs.Laws.{call_deed, message_deed, turn_of, turn_count, append_nil}
+use Rattle.crl_deeds.proofs.Laws.{call_deed, message_deed, turn_of, turn_count, append_nil, turn_events}
 use Rattle.crl_regions.proofs.Laws.{count_in_run}
 use Rattle.crl_world.specs.Records.{records_from, records_by_node}
 use Rattle.crl_journal.specs.Told.{EventEntries, entries_told, records_at, Ascends, AreRecordsOf}
-use Rattle.crl_run.proofs.Counting.{one_more}
 
 -- A deed leaves the records alone.
 copies_records : (n : Node) (cause : Cause) (o : Outcome) → Copies n cause o → o.node.records ≡ n.records
@@ -150,7 +149,7 @@ node_there (event.Carry i place) w may = ltb-true _ _ (and_parts _ _ may).0
 told_ascends : (count p : ℕ) (w : World) (es : List Event) → w.count ≡ count → p ≤ w.events → IsRunFrom w es → Ascends count p (told_from w es)
 told_ascends count p w [] same below r = tt
 told_ascends count p w (e ∷ es) same below r =
-    let one = one_more e w r.0 in (
+    let one = turn_events w _ (turn_of w e r.0) in (
       subst (λ n. node_of e < n) same (node_there e w r.0),
       below,
       told_ascends count (w.events + 1) (step e w).world es (turn_count w _ (turn_of w e r.0) ∙ same) (omega arith) r.1,

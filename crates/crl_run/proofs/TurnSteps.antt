@@ -51,7 +51,7 @@ choices_all r =
     (subst (λ cs. AllByRecursion (IsPossible r) cs) (sym (carries_gather r 0 r.world.count))
     (all_gathered (IsPossible r) _ 0 r.world.count r.world.count (omega arith) (λ j h. carries_all r j 0 (r.world.nodes j).outbox h (omega arith)))))
 
-at_get : {A : Type 0} (P : A → Type 0) (xs : List A) (k : ℕ) (x : A) → AllByRecursion P xs → slice_get xs k ≡ Some x → P x
+pub at_get : {A : Type 0} (P : A → Type 0) (xs : List A) (k : ℕ) (x : A) → AllByRecursion P xs → slice_get xs k ≡ Some x → P x
 at_get P [] k x h e = cc
 at_get P (y ∷ xs) zero x h e = subst P (inside e) h.0
   where

@@ -5,6 +5,7 @@ use Rattle.std.proofs.lemmas.Bool.{cond_both}
 use Rattle.crl_model.specs.declared.name.Name.{Name}
 use Rattle.crl_model.specs.declared.collective.Fold.{Fold}
 use Rattle.crl_model.specs.declared.event.Event.{Event}
+use Rattle.crl_model.specs.declared.event.Event.TheVariants as event
 use Rattle.crl_model.specs.declared.message.Message.{Message}
 use Rattle.crl_model.specs.declared.message.Kind.TheVariants as kind
 use Rattle.crl_model.specs.Names.{at_node}
@@ -17,7 +18,7 @@ use Rattle.crl_protocol.specs.Remote.{Remote, remote_flushes}
 use Rattle.crl_protocol.specs.World.{World, WorldStep, new_world, world_of, world_after, step, steps_node, IsRunFrom}
 use Rattle.crl_deeds.specs.Deeds.{Cause, parting, Copies, Lives, Rounds, Deed}
 use Rattle.crl_deeds.specs.Deeds as deed
-use Rattle.crl_deeds.specs.Turns.{Turn, calls, hears, gathers, answers, carriage, rests}
+use Rattle.crl_deeds.specs.Turns.{noted_as, Turn, calls, hears, gathers, answers, carriage}
 use Rattle.crl_deeds.proofs.Laws.{turn_of, deed_frame, each_at, all_append, all_took}
 
 -- What a node sends is its own.
@@ -120,15 +121,14 @@ sends_deed w i n e cause o d s h =
       outbox = all_append (IsBy i) o.node.outbox (pieces_in o.posts) (subst (AllByRecursion (IsBy i)) (sym frame.outbox) s.outbox) (pieces_by i o.posts (subst (λ j. AreFrom j o.posts) s.me (deed_from n cause o d)));
     })
 
-sends_turn : (w : World) (v : WorldStep) → Turn w v → AllSend w → AllSend v.world
-sends_turn w v (calls i e c o few free may d) h = sends_deed w i (w.nodes i) e _ o d (h i) h
-sends_turn w v (hears i e p rest parcels part o few took d) h = sends_deed w i (record (w.nodes i) { inbox = rest; parcels = parcels }) e _ o d (record { me = (h i).me; outbox = (h i).outbox }) h
-sends_turn w v (gathers i e p rest parcels key few took keyed) h = each_at Sends w.nodes i _ h (record { me = (h i).me; outbox = all_append (IsBy i) (w.nodes i).outbox [] (h i).outbox tt })
-sends_turn w v (answers i e answer few ready) h = each_at Sends w.nodes i _ h (record { me = (h i).me; outbox = all_append (IsBy i) (w.nodes i).outbox [] (h i).outbox tt })
-sends_turn w v (carriage i e p rest few took) h =
+sends_turn : (w : World) (v : WorldStep) {e : Event} → Turn w e v → AllSend w → AllSend v.world
+sends_turn w v (calls i c o few free may d) h = sends_deed w i (w.nodes i) (noted_as w i c) _ o d (h i) h
+sends_turn w v (hears i place p rest parcels part o few took d) h = sends_deed w i (record (w.nodes i) { inbox = rest; parcels = parcels }) (event.Handle i place) _ o d (record { me = (h i).me; outbox = (h i).outbox }) h
+sends_turn w v (gathers i place p rest parcels key few took keyed) h = each_at Sends w.nodes i _ h (record { me = (h i).me; outbox = all_append (IsBy i) (w.nodes i).outbox [] (h i).outbox tt })
+sends_turn w v (answers i answer few ready) h = each_at Sends w.nodes i _ h (record { me = (h i).me; outbox = all_append (IsBy i) (w.nodes i).outbox [] (h i).outbox tt })
+sends_turn w v (carriage i place p rest few took) h =
     let sent : AllSend (record w { nodes = at_node w.nodes i _ }) = each_at Sends w.nodes i _ h (record { me = (h i).me; outbox = (all_took (IsBy i) took (h i).outbox).1 }) in
     let to = p.message.addressee in each_at Sends _ to _ sent (record { me = (sent to).me; outbox = (sent to).outbox })
-sends_turn w v rests h = h
 
 sends_run : (w : World) (es : List Event) → IsRunFrom w es → AllSend w → AllSend (world_after w es)
 sends_run w [] r h = h

@@ -33,7 +33,7 @@ abbrev pub TablesFit : ℕ → Node → Type 0
 TablesFit count n = (q : Name) (h : Home) → home_of n q ≡ Some h → TableFits count h
 
 -- Lists.
-put_length : {A : Type 0} (k : ℕ) (v : Option A) (xs : List (Option A)) → k < length xs → length (put k v xs) ≡ length xs
+pub put_length : {A : Type 0} (k : ℕ) (v : Option A) (xs : List (Option A)) → k < length xs → length (put k v xs) ≡ length xs
 put_length k v [] l = absurd (omega arith)
 put_length zero v (x ∷ xs) l = refl
 put_length (suc k) v (x ∷ xs) l = let h = put_length k v xs (omega arith) in omega arith

@@ -12,10 +12,7 @@ use Rattle.crl_protocol.specs.Node.{Activity, Awaited, Free, Waiting, Ready}
 use Rattle.crl_protocol.specs.World.{World, boxes_from, pieces_in_boxes, is_free}
 use Rattle.crl_protocol.specs.Chosen.{Running, next_of, nexts_from, handles_of, handles_from, carries_of, carries_from, choices}
 use Rattle.crl_protocol.specs.Ends.{blocked_while, is_finished, IsTrulyStuck}
-
-pub both_empty : {A : Type 0} (xs ys : List A) → xs ++ ys ≡ [] → (xs ≡ []) × (ys ≡ [])
-both_empty [] ys e = (refl, e)
-both_empty (x ∷ xs) ys e = cc
+use Rattle.crl_regions.proofs.Laws.{left_none}
 
 join_empty : {A : Type 0} (xs ys : List A) → xs ≡ [] → ys ≡ [] → xs ++ ys ≡ []
 join_empty xs ys e f = ap (λ l. l ++ ys) e ∙ f
@@ -32,15 +29,15 @@ carries_none i place (m ∷ ms) e = cc
 boxes_none : (r : Running) (i k : ℕ) → handles_from i k r ≡ [] → carries_from i k r ≡ [] → boxes_from i k r.world.nodes ≡ []
 boxes_none r i zero e f = refl
 boxes_none r i (suc k) e f =
-    let a = both_empty (handles_of i 0 (r.world.nodes i).inbox) (handles_from (i + 1) k r) e in
-    let b = both_empty (carries_of i 0 (r.world.nodes i).outbox) (carries_from (i + 1) k r) f in
+    let a = left_none (handles_of i 0 (r.world.nodes i).inbox) (handles_from (i + 1) k r) e in
+    let b = left_none (carries_of i 0 (r.world.nodes i).outbox) (carries_from (i + 1) k r) f in
     join_empty _ _ (join_empty _ _ (handles_none i 0 _ a.0) (carries_none i 0 _ b.0)) (boxes_none r (i + 1) k a.1 b.1)
 
 handles_back : (r : Running) (i k : ℕ) → boxes_from i k r.world.nodes ≡ [] → (handles_from i k r ≡ []) × (carries_from i k r ≡ [])
 handles_back r i zero e = (refl, refl)
 handles_back r i (suc k) e =
-    let a = both_empty ((r.world.nodes i).inbox ++ (r.world.nodes i).outbox) (boxes_from (i + 1) k r.world.nodes) e in
-    let b = both_empty (r.world.nodes i).inbox (r.world.nodes i).outbox a.0 in
+    let a = left_none ((r.world.nodes i).inbox ++ (r.world.nodes i).outbox) (boxes_from (i + 1) k r.world.nodes) e in
+    let b = left_none (r.world.nodes i).inbox (r.world.nodes i).outbox a.0 in
     let rest = handles_back r (i + 1) k a.1 in
     (join_empty _ _ (ap (λ ms. handles_of i 0 ms) b.0) rest.0, join_empty _ _ (ap (λ ms. carries_of i 0 ms) b.1) rest.1)
 
@@ -50,7 +47,7 @@ Next r i = next_of i (r.actors i).left (r.world.nodes i).activity
 
 nexts_none : (r : Running) (i k j : ℕ) → i ≤ j → j < i + k → nexts_from i k r ≡ [] → Next r j ≡ []
 nexts_none r i zero j l h e = absurd (omega arith)
-nexts_none r i (suc k) j l h e = let a = both_empty (Next r i) (nexts_from (i + 1) k r) e in go (cases_eq i j) a.0 (λ lower. nexts_none r (i + 1) k j lower (omega arith) a.1)
+nexts_none r i (suc k) j l h e = let a = left_none (Next r i) (nexts_from (i + 1) k r) e in go (cases_eq i j) a.0 (λ lower. nexts_none r (i + 1) k j lower (omega arith) a.1)
   where
     go : (i ≡ j) ⊎ (i ≡ j → ⊥) → Next r i ≡ [] → (i + 1 ≤ j → Next r j ≡ []) → Next r j ≡ []
     go (inl same) x y = subst (λ m. Next r m ≡ []) same x
@@ -67,8 +64,8 @@ pub record NoChoice (r : Running) : Type 0 where
 
 pub no_choice : (r : Running) → choices r ≡ [] → NoChoice r
 no_choice r e =
-    let a = both_empty (nexts_from 0 r.world.count r) (handles_from 0 r.world.count r ++ carries_from 0 r.world.count r) e in
-    let b = both_empty (handles_from 0 r.world.count r) (carries_from 0 r.world.count r) a.1 in
+    let a = left_none (nexts_from 0 r.world.count r) (handles_from 0 r.world.count r ++ carries_from 0 r.world.count r) e in
+    let b = left_none (handles_from 0 r.world.count r) (carries_from 0 r.world.count r) a.1 in
     record { boxes = boxes_none r 0 r.world.count b.0 b.1; nexts = λ j h. nexts_none r 0 r.world.count j (omega arith) (omega arith) a.0 }
 
 -- a node that has no next and isn't finished waits

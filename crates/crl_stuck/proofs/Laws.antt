@@ -2,4 +2,4 @@
 pub use Rattle.crl_stuck.proofs.Choices.{stuck_has_none}
 pub use Rattle.crl_stuck.proofs.Waiters.{waiters, ends_stuck}
 pub use Rattle.crl_stuck.proofs.Reports.{names_stuck}
-pub use Rattle.crl_stuck.proofs.RunsEnd.{stuck_chosen, run_ends, one_end, messages_most}
+pub use Rattle.crl_stuck.proofs.RunsEnd.{stuck_chosen, run_ends, one_end, messages_most, rests}

@@ -9,16 +9,15 @@ use Rattle.crl_model.specs.declared.choice.Choice.TheVariants as choice
 use Rattle.crl_model.specs.declared.event.Event.{Event}
 use Rattle.crl_model.specs.declared.event.Event.TheVariants as event
 use Rattle.crl_model.specs.declared.statement.Statement.{Statement}
-use Rattle.crl_model.specs.declared.statement.Statement.TheVariants as statement
 use Rattle.crl_model.specs.Names.{at_node}
 use Rattle.crl_protocol.specs.Parcels.{Piece}
 use Rattle.crl_protocol.specs.Places.{Taken, take_out}
-use Rattle.crl_protocol.specs.Node.{Answer, Activity, Free, Waiting, Ready, Writing}
+use Rattle.crl_protocol.specs.Node.{Activity, Free, Waiting, Ready}
 use Rattle.crl_protocol.specs.Verdict.{verdict}
 use Rattle.crl_protocol.specs.World.{World, step, handles_at, carries}
 use Rattle.crl_protocol.specs.Chosen.{Actor, Running, next_of, nexts_from, handles_of, handles_from, carries_of, carries_from, choices, call_of, after_change, is_change, is_allowed, takes_guard, goes_on, with_actor, takes_statement, takes_choice, takes_choice_at, turn, turns_from}
 use Rattle.crl_deeds.specs.Laws.{past_statement}
-use Rattle.crl_deeds.proofs.Laws.{all_append, all_gathered, chosen_is, nexts_gather, handles_gather, carries_gather}
+use Rattle.crl_deeds.proofs.Laws.{all_append, all_gathered, chosen_is, nexts_gather, handles_gather, carries_gather, given_left, changed_left}
 use Rattle.crl_bound.specs.Counters.{count_calls}
 use Rattle.crl_stuck.specs.Ends.{statements_from}
 
@@ -48,15 +47,6 @@ left_taken i (suc k) j a b l h e = go (cases_eq j i) (λ lower. left_taken (i + 
     go (inr other) later =
         let here = ap (λ (x : Actor). length x.left) (cond-false (j == i) b (a i) (ne_eqb j i other)) in
         let rest = later (omega arith) in omega arith
-
-changed_left : (s : Statement) (a : Actor) → (after_change s a).left ≡ a.left
-changed_left (statement.Call c) a = refl
-changed_left (statement.Put name offset bytes) a = refl
-changed_left (statement.Add name offset number) a = refl
-
-guarded_left : (answer : Answer) (a : Actor) → (takes_guard answer a).left ≡ a.left
-guarded_left (Writing guard) a = refl
-guarded_left _ a = refl
 
 -- The world's nodes are the same.
 handled_count : (i : ℕ) (e : Event) (o : Option (Taken Piece)) (w : World) → (handles_at i e o w).world.count ≡ w.count
@@ -90,7 +80,7 @@ pub record Took (count k : ℕ) (r v : Running) : Type 0 where
 
 event_took : (count i : ℕ) (e : Event) (r : Running) → count_calls (e ∷ []) ≡ 0 → Took count 1 r (goes_on i e r)
 event_took count i e r none =
-    let left = same_left 0 count (goes_on i e r).actors r.actors (at_same r.actors i (takes_guard (step e r.world).answer (r.actors i)) (guarded_left (step e r.world).answer (r.actors i))) in
+    let left = same_left 0 count (goes_on i e r).actors r.actors (at_same r.actors i (takes_guard (step e r.world).answer (r.actors i)) (given_left (step e r.world).answer (r.actors i))) in
     let more = length-append r.events (e ∷ []) in
     let called = calls_append r.events (e ∷ []) in
     record { turns = omega arith; calls = omega arith; nodes = step_count e r.world }
@@ -107,7 +97,7 @@ call_took count r i s left c n =
     let p = past_statement r i left in
     let e = event.Call i c in
     let past = past_left count r i s left n in
-    let same = same_left 0 count (goes_on i e p).actors p.actors (at_same p.actors i (takes_guard (step e p.world).answer (p.actors i)) (guarded_left (step e p.world).answer (p.actors i))) in
+    let same = same_left 0 count (goes_on i e p).actors p.actors (at_same p.actors i (takes_guard (step e p.world).answer (p.actors i)) (given_left (step e p.world).answer (p.actors i))) in
     let more = length-append r.events (e ∷ []) in
     let called = calls_append r.events (e ∷ []) in
     record { turns = omega arith; calls = omega arith; nodes = step_count e p.world }

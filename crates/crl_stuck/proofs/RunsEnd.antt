@@ -37,7 +37,7 @@ events_bounded count capacity run calls r few =
     by_numbers events a b calls sent bound x y h k l m n o = omega arith
 
 -- where no choice is left nothing changes, so a run has one end
-rests : (words : ℕ → ℕ) (p k : ℕ) (r : Running) → choices r ≡ [] → turns_from words p k r ≡ r
+pub rests : (words : ℕ → ℕ) (p k : ℕ) (r : Running) → choices r ≡ [] → turns_from words p k r ≡ r
 rests words p zero r e = refl
 rests words p (suc k) r e = ap (λ x. turns_from words (p + 1) k x) (ap (λ cs. takes_choice_at (words p) cs r) e) ∙ rests words (p + 1) k r e
 

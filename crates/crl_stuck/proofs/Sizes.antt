@@ -26,7 +26,7 @@ use Rattle.crl_protocol.specs.Node.{Node, Outcome}
 use Rattle.crl_protocol.specs.Talk.{size_in, created_size, pieces_or_one, created_pieces, bound_of, bound_at, bound_from}
 use Rattle.crl_protocol.specs.World.{World, WorldStep, step, IsRunFrom}
 use Rattle.crl_deeds.specs.Deeds.{Cause, EndsCall, a_read, a_write, Copies, home_opens, home_waits, side_opens, side_waits, home_ends, side_ends, side_flushes, home_serves, home_serves_own, grant_comes, side_called, Lives, made, used_up, map_asks, map_comes, map_denied, deletes_alone, delete_asks, deletes_alone_for, delete_comes, dooms, drops, warns, counts_off, Rounds, comes_away, comes_home, comes_last, part_comes, part_last, part_last_idle, result_comes, Notes, ends_nowhere, Deed, copies, lives, rounds, notes, refuses, idles}
-use Rattle.crl_deeds.specs.Turns.{Turn, calls, hears, gathers, answers, carriage, rests}
+use Rattle.crl_deeds.specs.Turns.{Turn, calls, hears, gathers, answers, carriage}
 use Rattle.crl_deeds.proofs.Laws.{all_append, create_fits, turn_of, turn_count}
 use Rattle.crl_bound.specs.Counters.{count_calls}
 use Rattle.crl_stuck.specs.Ends.{most_messages}
@@ -101,13 +101,12 @@ small_deed n cause o (notes {m = m} c) = (small_notes n _ _ m c, tt)
 small_deed n cause o (refuses c why v) = (tt, tt)
 small_deed n cause o (idles h) = tt
 
-small_turn : (w : World) (v : WorldStep) → Turn w v → AllSmall v.entries
-small_turn w v (calls i e c o few free may d) = small_deed (w.nodes i) _ o d
-small_turn w v (hears i e p rest parcels part o few took d) = small_deed _ _ o d
-small_turn w v (gathers i e p rest parcels key few took keyed) = tt
-small_turn w v (answers i e answer few ready) = tt
-small_turn w v (carriage i e p rest few took) = tt
-small_turn w v rests = tt
+small_turn : (w : World) (v : WorldStep) {e : Event} → Turn w e v → AllSmall v.entries
+small_turn w v (calls i c o few free may d) = small_deed (w.nodes i) _ o d
+small_turn w v (hears i place p rest parcels part o few took d) = small_deed _ _ o d
+small_turn w v (gathers i place p rest parcels key few took keyed) = tt
+small_turn w v (answers i answer few ready) = tt
+small_turn w v (carriage i place p rest few took) = tt
 
 -- so many bytes have at most so many pieces
 count_few : (size : ℕ) → size ≤ REGION_LIMIT → count size ≤ PIECES_LIMIT

@@ -28,7 +28,7 @@ use Rattle.crl_protocol.specs.Verdict.{refuse_if, of_part, word_of, place_of, ve
 use Rattle.crl_protocol.specs.World.{is_call}
 use Rattle.crl_deeds.specs.Deeds.{Calls, StartsCall, EndsCall, IsNowhere, Idles, Copies, Lives, Rounds, Notes, Deed}
 use Rattle.crl_deeds.specs.NodeFacts.{OwnFits, seen, MappedHere, Fits}
-use Rattle.crl_deeds.proofs.Laws.{call_deed, none_of}
+use Rattle.crl_deeds.proofs.Laws.{call_deed}
 use Rattle.crl_deeds.specs.Deeds as deed
 use Rattle.crl_talk.proofs.Asking.{AskedAs, home_waits_as, side_waits_as}
 use Rattle.crl_talk.proofs.Effects.{own_line, own_two, stage_here}
@@ -105,7 +105,7 @@ notes_answered n m c w k (deed.flushes_own name mine can) me free = done c (λ z
 notes_answered n m c w k (deed.flushes_nowhere name mine e can) me free = done c (λ z. cc) free (own n m w me)
 
 -- What is mapped has a table or a side.
-mapped_some : (o : Option Mapping) → refuse_if (map_count o == 0) refusal.NotMapped ≡ None → (x : Mapping) × (o ≡ Some x)
+mapped_some : (o : Option Mapping) → (map_count o == 0) ≡ false → (x : Mapping) × (o ≡ Some x)
 mapped_some None e = cc
 mapped_some (Some x) e = (x, refl)
 
@@ -116,13 +116,12 @@ somewhere j m name {A = A} x e none fits sided = go (is_mine m name) refl
     go true w = absurd (subst (λ h. MappedHere (Some x) h) none.0 (subst (λ y. MappedHere y (home_of m name)) e (subst (λ b. OwnFits b (seen m name)) w (fits.each name).own).mapped))
     go false w = let s = sided.mapped name x w e in let z = none.1 in cc
 
-idle_answered : (n j : ℕ) (m : Node) (c : Call) (o : Outcome) → Idles (Calls c) m → verdict m c ≡ None → is_call m c None ≡ true → Fits j m → Sided m → Answered n m o c
-unfolding verdict
-idle_answered n j m (call.Put name offset len) o h v may fits sided = cc
-idle_answered n j m (call.Add name offset) o h v may fits sided = cc
-idle_answered n j m (call.StartRead name) o h v may fits sided = let x = mapped_some (m.maps name) (none_of _ _ v).0 in somewhere j m name x.0 x.1 h fits sided
-idle_answered n j m (call.StartWrite name) o h v may fits sided = let x = mapped_some (m.maps name) (none_of _ _ v).0 in somewhere j m name x.0 x.1 h fits sided
-idle_answered n j m _ o h v may fits sided = absurd h
+idle_answered : (n j : ℕ) (m : Node) (c : Call) (o : Outcome) → Idles (Calls c) m → is_call m c None ≡ true → Fits j m → Sided m → Answered n m o c
+idle_answered n j m (call.Put name offset len) o h may fits sided = cc
+idle_answered n j m (call.Add name offset) o h may fits sided = cc
+idle_answered n j m (call.StartRead name) o h may fits sided = let x = mapped_some (m.maps name) h.0.mapped in somewhere j m name x.0 x.1 h.1 fits sided
+idle_answered n j m (call.StartWrite name) o h may fits sided = let x = mapped_some (m.maps name) h.0.mapped in somewhere j m name x.0 x.1 h.1 fits sided
+idle_answered n j m _ o h may fits sided = absurd h
 
 allowed_answered : (n j : ℕ) (m : Node) (c : Call) (o : Outcome) → Deed m (Calls c) o → m.me ≡ n → m.activity ≡ Free → verdict m c ≡ None → is_call m c None ≡ true → Fits j m → Sided m → Answered n m o c
 allowed_answered n j m c o (deed.copies d) me free v may fits sided = copies_answered n j m c o d me free fits
@@ -130,7 +129,7 @@ allowed_answered n j m c o (deed.lives d) me free v may fits sided = lives_answe
 allowed_answered n j m c o (deed.rounds d) me free v may fits sided = rounds_answered n m c o d me free
 allowed_answered n j m c o (deed.notes d) me free v may fits sided = notes_answered n m c _ _ d me free
 allowed_answered n j m c o (deed.refuses x why w) me free v may fits sided = cc
-allowed_answered n j m c o (deed.idles h) me free v may fits sided = idle_answered n j m c o h v may fits sided
+allowed_answered n j m c o (deed.idles h) me free v may fits sided = idle_answered n j m c o h may fits sided
 
 -- A call that its node refuses.
 part_refused : (n : ℕ) (p : Part) (round : ℕ) (why : Refusal) → (why ≡ refusal.Mixed → ⊥) → AreRound n p (Refused why) (what.Refused (word_of (call.Come p)) (Round round) why ∷ [])

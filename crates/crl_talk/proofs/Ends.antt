@@ -13,7 +13,8 @@ use Rattle.crl_protocol.specs.Talk.{Heard, hears}
 use Rattle.crl_protocol.specs.World.{World, new_world, is_enabled, IsRunFrom, world_of}
 use Rattle.crl_deeds.specs.Entries.{entries_of_call}
 use Rattle.crl_talk.specs.Guards.{Given, given_yet, guards_held, AreGuards, closed, writing, reading, nested, SectionsAreGuards, bytes_held, EndsShowGuards}
-use Rattle.crl_talk.proofs.Heard.{may_call, ground_start, ground_run, sections_are_guards}
+use Rattle.crl_talk.proofs.Heard.{ground_start, ground_run, sections_are_guards}
+use Rattle.crl_deeds.proofs.Laws.{may_call}
 
 -- without a guard no section is open
 none_open : (n count number : ℕ) (bytes : List ℕ) {A : Type 0} → AreGuards n [] (Some (record { section = section.Reading count; number = number; bytes = bytes })) → A
@@ -26,7 +27,7 @@ none_open n count number bytes h = go [] _ h refl refl
     go gs o (nested g rest k num bs x same some h) e s = cc
 
 -- the bytes of an open section
-bytes_of : (n : ℕ) (gs : List Given) (o : Option OpenSection) → AreGuards n gs o → section_bytes o ≡ bytes_held gs
+pub bytes_of : (n : ℕ) (gs : List Given) (o : Option OpenSection) → AreGuards n gs o → section_bytes o ≡ bytes_held gs
 bytes_of n gs o closed = refl
 bytes_of n gs o (writing g e) = refl
 bytes_of n gs o (reading g e) = refl

@@ -1,6 +1,6 @@
 -- What each event of a run means for node n: where its call stands then, and which lines it records.
 use Rattle.std.proofs.Common.{◌≡◌, ℕ, ◌+◌, ◌<◌, ◌==◌, Bool, true, false, List, [], ◌∷◌, if◌then◌else◌, refl, ap, sym, ◌∙◌, subst, arith}
-use Rattle.std.proofs.lemmas.Bool.{cond-true, cond-false, eqb-true, eq-eqb, ltb-true, and_parts}
+use Rattle.std.proofs.lemmas.Bool.{cond-true, cond-false, eqb-true, eq-eqb}
 use Rattle.crl_model.specs.declared.stage.Stage.TheVariants as stage
 use Rattle.crl_model.specs.declared.call.Call.{Call}
 use Rattle.crl_model.specs.declared.call.Call.TheVariants as call
@@ -15,13 +15,15 @@ use Rattle.crl_protocol.specs.Verdict.{verdict}
 use Rattle.crl_protocol.specs.World.{World, WorldStep, step, is_enabled, is_ready, is_call, collects, noted_call, commits, steps_node}
 use Rattle.crl_deeds.specs.Deeds.{Calls, Deed}
 use Rattle.crl_deeds.specs.Tokens.{weigh, of_name}
-use Rattle.crl_deeds.proofs.Laws.{call_deed, deed_frame}
+use Rattle.crl_deeds.specs.Turns.{Turn}
+use Rattle.crl_deeds.specs.Turns as turn
+use Rattle.crl_deeds.proofs.Laws.{call_deed, deed_frame, turn_of, with_rest, collect_node, may_call, may_collect}
 use Rattle.crl_talk.proofs.Answered.{Answered, done, waits_section, waits_map, waits_delete, deletes, comes, answered}
 use Rattle.crl_talk.proofs.Asking.{AskedAs}
 use Rattle.crl_talk.proofs.Effects.{Lasts, same, marked, effect, other_calls}
 use Rattle.crl_talk.proofs.Going.{goes_effect, idle_effect}
-use Rattle.crl_talk.proofs.Heard.{Ground, with_rest, is_away, may_call}
-use Rattle.crl_talk.proofs.Moves.{Moves, hears as heard_by, gathers, carriage, rests, handle_moves, carry_moves}
+use Rattle.crl_talk.proofs.Heard.{Ground, is_away}
+use Rattle.crl_talk.proofs.Moves.{is_move}
 use Rattle.crl_talk.proofs.Pending.{map_asked, delete_asked, Pending, for_section, for_map, for_delete, going, for_round, Goes, Waits, Calm, goes_calm, one_name}
 use Rattle.crl_talk.proofs.Sides.{Sided}
 use Rattle.crl_talk.proofs.Stepping.{other_calm, gather_calm, carried_calm, hearing}
@@ -49,22 +51,24 @@ lasts_as : {a b : Activity} → Lasts a b → ((x : Awaited) → a ≡ Waiting x
 lasts_as same h = refl
 lasts_as (marked {q = q} {x = x}) h = absurd (h _ refl)
 
-moves_goes : (n : ℕ) (w : World) (s : WorldStep) (c : Call) (front : List What) → Moves w s → Facts n w → Pending n w c front → Goes n c front s.world (lines_of_node n s.entries)
-moves_goes n w s c front (heard_by i e p rest parcels part o few took d) f x =
-    goes_effect n w _ i _ _ o rest parcels c front (hearing n w i e p rest parcels part o few took d f.ground f.waiting)
+moves_goes : (n : ℕ) (w : World) (s : WorldStep) (c : Call) (front : List What) {e : Event} → Turn w e s → is_move e ≡ true → Facts n w → Pending n w c front → Goes n c front s.world (lines_of_node n s.entries)
+moves_goes n w s c front (turn.hears i place p rest parcels part o few took d) moves f x =
+    goes_effect n w _ i _ _ o rest parcels c front (hearing n w i (event.Handle i place) p rest parcels part o few took d f.ground f.waiting)
     (effect n i (record (w.nodes i) { inbox = rest; parcels = parcels }) _ _ o d (with_rest i (w.nodes i) p rest parcels took (f.ground.known.fits i)) (is_away i (w.nodes i) p rest part took (f.ground.known.fits i))) x
-moves_goes n w s c front (gathers i e p rest parcels key few took keyed) f x = goes_calm n w _ c front [] refl (gather_calm n w i e p rest parcels key few took keyed) x
-moves_goes n w s c front (carriage i e p rest few took) f x = goes_calm n w _ c front [] refl (carried_calm n w i e p rest few took f.ground) x
-moves_goes n w s c front rests f x = goes_calm n w w c front [] refl (record { count = refl; act = same; asked = λ write q y a. a; going = λ q y. y; kept = λ k q y some. some }) x
+moves_goes n w s c front (turn.gathers i place p rest parcels key few took keyed) moves f x = goes_calm n w _ c front [] refl (gather_calm n w i (event.Handle i place) p rest parcels key few took keyed) x
+moves_goes n w s c front (turn.carriage i place p rest few took) moves f x = goes_calm n w _ c front [] refl (carried_calm n w i (event.Carry i place) p rest few took f.ground) x
+moves_goes n w s c front (turn.calls i call o few free may d) moves f x = cc
+moves_goes n w s c front (turn.answers i answer few ready) moves f x = cc
 
-moves_idle : (n : ℕ) (w : World) (s : WorldStep) → Moves w s → Facts n w → ((b : Awaited) → (w.nodes n).activity ≡ Waiting b → ⊥) → (lines_of_node n s.entries ≡ []) × ((s.world.nodes n).activity ≡ (w.nodes n).activity)
-moves_idle n w s (heard_by i e p rest parcels part o few took d) f h =
-    let x = idle_effect n w _ i _ _ o rest parcels (hearing n w i e p rest parcels part o few took d f.ground f.waiting)
+moves_idle : (n : ℕ) (w : World) (s : WorldStep) {e : Event} → Turn w e s → is_move e ≡ true → Facts n w → ((b : Awaited) → (w.nodes n).activity ≡ Waiting b → ⊥) → (lines_of_node n s.entries ≡ []) × ((s.world.nodes n).activity ≡ (w.nodes n).activity)
+moves_idle n w s (turn.hears i place p rest parcels part o few took d) moves f h =
+    let x = idle_effect n w _ i _ _ o rest parcels (hearing n w i (event.Handle i place) p rest parcels part o few took d f.ground f.waiting)
     (effect n i (record (w.nodes i) { inbox = rest; parcels = parcels }) _ _ o d (with_rest i (w.nodes i) p rest parcels took (f.ground.known.fits i)) (is_away i (w.nodes i) p rest part took (f.ground.known.fits i))) h in
     (x.0, lasts_as x.1 h)
-moves_idle n w s (gathers i e p rest parcels key few took keyed) f h = (refl, lasts_as (gather_calm n w i e p rest parcels key few took keyed).act h)
-moves_idle n w s (carriage i e p rest few took) f h = (refl, lasts_as (carried_calm n w i e p rest few took f.ground).act h)
-moves_idle n w s rests f h = (refl, refl)
+moves_idle n w s (turn.gathers i place p rest parcels key few took keyed) moves f h = (refl, lasts_as (gather_calm n w i (event.Handle i place) p rest parcels key few took keyed).act h)
+moves_idle n w s (turn.carriage i place p rest few took) moves f h = (refl, lasts_as (carried_calm n w i (event.Carry i place) p rest few took f.ground).act h)
+moves_idle n w s (turn.calls i call o few free may d) moves f h = cc
+moves_idle n w s (turn.answers i answer few ready) moves f h = cc
 
 -- What an event means for node n, by what n is at.
 pub data FreeStep (n : ℕ) (v : World) : List Heard → List What → Type 0 where
@@ -117,14 +121,6 @@ own_call n w e c o d f a = by a
         (going q (now _ act) (subst (λ i. i < w.count) (sym home) f.few) (subst (λ i. (lifetime_of (v.nodes i) q).stage ≡ stage.Going n) (sym home) (ap (λ (m : Node). (lifetime_of m q).stage) there ∙ g)))
     by (comes part round wait act lines) = begun (call.Come part) (what.Come part ∷ []) wait lines (for_round part round (now _ act))
 
-may_be : (i : ℕ) (c : Call) (w : World) → is_enabled (event.Call i c) w ≡ true → is_call (w.nodes i) c (verdict (w.nodes i) c) ≡ true
-unfolding is_enabled
-may_be i c w may = (and_parts _ _ (and_parts _ _ may).1).1
-
-may_collect : (i : ℕ) (w : World) → is_enabled (event.Collect i) w ≡ true → is_ready (w.nodes i).activity ≡ true
-unfolding is_enabled
-may_collect i w may = (and_parts _ _ may).1
-
 ready_is : (a : Activity) → is_ready a ≡ true → (answer : Answer) × (a ≡ Ready answer)
 ready_is Free e = cc
 ready_is (Waiting awaited) e = cc
@@ -158,10 +154,6 @@ taken_calm : (n i : ℕ) (w : World) (e : Event) (answer : Answer) → i < w.cou
 taken_calm n i w e answer few apart =
     other_calm n w i e (record { node = record (w.nodes i) { activity = Free }; answer = answer; entries = []; posts = [] }) few (record { me = refl; nodes = refl; capacity = refl; inbox = refl; outbox = refl; parcels = refl }) (not_same i n apart) (λ q g. g)
 
-few_collect : (i : ℕ) (w : World) → is_enabled (event.Collect i) w ≡ true → i < w.count
-unfolding is_enabled
-few_collect i w may = ltb-true _ _ (and_parts _ _ may).0
-
 pub waits_step : (n : ℕ) (w : World) (e : Event) (c : Call) (front : List What) → is_enabled e w ≡ true → Facts n w → Pending n w c front → (hears_of n e (step e w).answer ≡ []) × Goes n c front (step e w).world (lines_of_node n (step e w).entries)
 unfolding step
 waits_step n w (event.Call i c) k front may f p = go (i == n) refl
@@ -169,7 +161,7 @@ waits_step n w (event.Call i c) k front may f p = go (i == n) refl
     go : (b : Bool) → (i == n) ≡ b → ((if b then Called c (node_calls c (w.nodes i)).answer ∷ [] else []) ≡ []) × Goes n k front (steps_node i (event.Call i (noted_call (verdict (w.nodes i) c) c)) (node_calls c (w.nodes i)) w).world (lines_of_node n (node_calls c (w.nodes i)).entries)
     go true x = let free = ap (λ j. (w.nodes j).activity) (sym (eqb-true i n x)) ∙ (may_call i c w may).1 in let q = (pending_waits n w k front p).1 in cc
     go false x = (refl, other_goes n i w _ c k front _ (may_call i c w may).0 (call_deed (w.nodes i) c) f x p)
-waits_step n w (event.Collect i) k front may f p = over (w.nodes i).activity refl (may_collect i w may)
+waits_step n w (event.Collect i) k front may f p = over (w.nodes i).activity refl (may_collect i w may).1
   where
     over : (a : Activity) → (w.nodes i).activity ≡ a → is_ready a ≡ true
         → ((if i == n then Collected (collects a (w.nodes i)).answer ∷ [] else []) ≡ []) × Goes n k front (steps_node i (event.Collect i) (collects a (w.nodes i)) w).world (lines_of_node n (collects a (w.nodes i)).entries)
@@ -179,9 +171,9 @@ waits_step n w (event.Collect i) k front may f p = over (w.nodes i).activity ref
       where
         go : (b : Bool) → (i == n) ≡ b → ((if b then Collected answer ∷ [] else []) ≡ []) × Goes n k front (steps_node i (event.Collect i) (collects (Ready answer) (w.nodes i)) w).world []
         go true x = let now = ap (λ j. (w.nodes j).activity) (sym (eqb-true i n x)) ∙ e in let q = (pending_waits n w k front p).1 in cc
-        go false x = (refl, goes_calm n w _ k front [] refl (taken_calm n i w _ answer (few_collect i w may) x) p)
-waits_step n w (event.Handle i place) k front may f p = (refl, moves_goes n w _ k front (handle_moves w i place may) f p)
-waits_step n w (event.Carry i place) k front may f p = (refl, moves_goes n w _ k front (carry_moves w i place may) f p)
+        go false x = (refl, goes_calm n w _ k front [] refl (taken_calm n i w _ answer (collect_node i w may) x) p)
+waits_step n w (event.Handle i place) k front may f p = (refl, moves_goes n w _ k front (turn_of w (event.Handle i place) may) refl f p)
+waits_step n w (event.Carry i place) k front may f p = (refl, moves_goes n w _ k front (turn_of w (event.Carry i place) may) refl f p)
 
 -- Where it is free.
 stays_free : (n : ℕ) (w v : World) (new : List What) → Now n w Free → (new ≡ []) × ((v.nodes n).activity ≡ (w.nodes n).activity) → FreeStep n v [] new
@@ -195,9 +187,9 @@ free_step n w (event.Call i c) may f free = go (i == n) refl
     go true x =
         subst (λ j. FreeStep n (steps_node j (event.Call j (noted_call (verdict (w.nodes j) c) c)) (node_calls c (w.nodes j)) w).world (Called c (node_calls c (w.nodes j)).answer ∷ []) (lines_of_node n (node_calls c (w.nodes j)).entries)) (sym (eqb-true i n x))
         (own_call n w _ c _ (call_deed (w.nodes n) c) f
-        (answered n n (w.nodes n) c (f.ground.known.fits n).me free (subst (λ j. is_call (w.nodes j) c (verdict (w.nodes j) c) ≡ true) (eqb-true i n x) (may_be i c w may)) (f.ground.known.fits n) (f.sided n)))
+        (answered n n (w.nodes n) c (f.ground.known.fits n).me free (subst (λ j. is_call (w.nodes j) c (verdict (w.nodes j) c) ≡ true) (eqb-true i n x) (may_call i c w may).2) (f.ground.known.fits n) (f.sided n)))
     go false x = stays_free n w _ _ free (other_idle n i w _ c _ (call_deed (w.nodes i) c) f x)
-free_step n w (event.Collect i) may f free = over (w.nodes i).activity refl (may_collect i w may)
+free_step n w (event.Collect i) may f free = over (w.nodes i).activity refl (may_collect i w may).1
   where
     over : (a : Activity) → (w.nodes i).activity ≡ a → is_ready a ≡ true
         → FreeStep n (steps_node i (event.Collect i) (collects a (w.nodes i)) w).world (if i == n then Collected (collects a (w.nodes i)).answer ∷ [] else []) (lines_of_node n (collects a (w.nodes i)).entries)
@@ -208,8 +200,8 @@ free_step n w (event.Collect i) may f free = over (w.nodes i).activity refl (may
         go : (b : Bool) → (i == n) ≡ b → FreeStep n (steps_node i (event.Collect i) (collects (Ready answer) (w.nodes i)) w).world (if b then Collected answer ∷ [] else []) []
         go true x = let now = ap (λ j. (w.nodes j).activity) (sym (eqb-true i n x)) ∙ e in cc
         go false x = stays (ap (λ (m : Node). m.activity) (cond-false (i == n) _ _ x) ∙ free)
-free_step n w (event.Handle i place) may f free = stays_free n w _ _ free (moves_idle n w _ (handle_moves w i place may) f (not_waiting n w Free free (λ b x. cc)))
-free_step n w (event.Carry i place) may f free = stays_free n w _ _ free (moves_idle n w _ (carry_moves w i place may) f (not_waiting n w Free free (λ b x. cc)))
+free_step n w (event.Handle i place) may f free = stays_free n w _ _ free (moves_idle n w _ (turn_of w (event.Handle i place) may) refl f (not_waiting n w Free free (λ b x. cc)))
+free_step n w (event.Carry i place) may f free = stays_free n w _ _ free (moves_idle n w _ (turn_of w (event.Carry i place) may) refl f (not_waiting n w Free free (λ b x. cc)))
 
 -- Where it is ready.
 ready_same : (x y : Answer) → ◌≡◌ {A = Activity} (Ready x) (Ready y) → x ≡ y
@@ -225,7 +217,7 @@ ready_step n w (event.Call i c) answer may f now = go (i == n) refl
     go : (b : Bool) → (i == n) ≡ b → ReadyStep n (steps_node i (event.Call i (noted_call (verdict (w.nodes i) c) c)) (node_calls c (w.nodes i)) w).world answer (if b then Called c (node_calls c (w.nodes i)).answer ∷ [] else []) (lines_of_node n (node_calls c (w.nodes i)).entries)
     go true x = let free = ap (λ j. (w.nodes j).activity) (sym (eqb-true i n x)) ∙ (may_call i c w may).1 in cc
     go false x = stays_ready n w _ answer _ now (other_idle n i w _ c _ (call_deed (w.nodes i) c) f x)
-ready_step n w (event.Collect i) answer may f now = over (w.nodes i).activity refl (may_collect i w may)
+ready_step n w (event.Collect i) answer may f now = over (w.nodes i).activity refl (may_collect i w may).1
   where
     over : (a : Activity) → (w.nodes i).activity ≡ a → is_ready a ≡ true
         → ReadyStep n (steps_node i (event.Collect i) (collects a (w.nodes i)) w).world answer (if i == n then Collected (collects a (w.nodes i)).answer ∷ [] else []) (lines_of_node n (collects a (w.nodes i)).entries)
@@ -238,5 +230,5 @@ ready_step n w (event.Collect i) answer may f now = over (w.nodes i).activity re
             let same : x ≡ answer = ready_same x answer (sym (ap (λ j. (w.nodes j).activity) (sym (eqb-true i n s)) ∙ e) ∙ now) in
             subst (λ y. ReadyStep n (steps_node i (event.Collect i) (collects (Ready x) (w.nodes i)) w).world answer (Collected y ∷ []) []) (sym same) (takes (ap (λ (m : Node). m.activity) (cond-true (i == n) _ _ s)))
         go false s = keeps (ap (λ (m : Node). m.activity) (cond-false (i == n) _ _ s) ∙ now)
-ready_step n w (event.Handle i place) answer may f now = stays_ready n w _ answer _ now (moves_idle n w _ (handle_moves w i place may) f (not_waiting n w (Ready answer) now (λ b x. cc)))
-ready_step n w (event.Carry i place) answer may f now = stays_ready n w _ answer _ now (moves_idle n w _ (carry_moves w i place may) f (not_waiting n w (Ready answer) now (λ b x. cc)))
+ready_step n w (event.Handle i place) answer may f now = stays_ready n w _ answer _ now (moves_idle n w _ (turn_of w (event.Handle i place) may) refl f (not_waiting n w (Ready answer) now (λ b x. cc)))
+ready_step n w (event.Carry i place) answer may f now = stays_ready n w _ answer _ now (moves_idle n w _ (turn_of w (event.Carry i place) may) refl f (not_waiting n w (Ready answer) now (λ b x. cc)))

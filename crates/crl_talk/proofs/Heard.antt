@@ -1,28 +1,28 @@
 -- The sections that are open at a node are those of its guards: in every run.
-use Rattle.std.proofs.Common.{◌≡◌, ℕ, ◌<◌, ◌==◌, Bool, true, false, List, [], ◌∷◌, ◌++◌, if◌then◌else◌, refl, ap, sym, ◌∙◌, subst}
-use Rattle.std.proofs.lemmas.Bool.{and_parts, eqb-true, ltb-true}
+use Rattle.std.proofs.Common.{◌≡◌, ℕ, ◌==◌, Bool, true, false, List, [], ◌∷◌, ◌++◌, if◌then◌else◌, refl, ap, sym, ◌∙◌, subst}
+use Rattle.std.proofs.lemmas.Bool.{and_parts, eqb-true}
 use Rattle.crl_model.specs.declared.name.Name.{Name}
 use Rattle.crl_model.specs.declared.call.Call.{Call}
 use Rattle.crl_model.specs.declared.event.Event.{Event}
 use Rattle.crl_model.specs.declared.event.Event.TheVariants as event
-use Rattle.crl_protocol.specs.Parcels.{Piece, with_load, PartsGathered}
+use Rattle.crl_protocol.specs.Parcels.{Piece, with_load}
 use Rattle.crl_protocol.specs.Places.{Took}
 use Rattle.crl_protocol.specs.Sections.{section_at}
 use Rattle.crl_protocol.specs.Node.{Node, Activity, Free, Waiting, Ready, Outcome}
 use Rattle.crl_protocol.specs.Calls.{node_calls}
 use Rattle.crl_protocol.specs.Talk.{Heard, Called, Collected, hears_of, hears}
 use Rattle.crl_protocol.specs.Verdict.{verdict}
-use Rattle.crl_protocol.specs.World.{World, WorldStep, new_world, step, is_enabled, is_free, is_ready, collects, noted_call, commits, IsRunFrom, world_after, world_of}
+use Rattle.crl_protocol.specs.World.{World, WorldStep, new_world, step, is_enabled, is_ready, collects, noted_call, commits, IsRunFrom, world_after, world_of}
 use Rattle.crl_deeds.specs.Counts.{Known}
 use Rattle.crl_deeds.specs.Deeds.{Cause, Calls, Hears, FreeIf, Deed}
 use Rattle.crl_deeds.specs.NodeFacts.{ComesIn, IsAway, Leaves, Fits}
-use Rattle.crl_deeds.specs.Turns.{Came, Kept}
-use Rattle.crl_deeds.proofs.Laws.{call_deed, deed_frame, turn_of, all_took, away_load, kept_turn, known_start, known_step}
+use Rattle.crl_deeds.specs.Turns.{Turn, Came, Kept}
+use Rattle.crl_deeds.proofs.Laws.{call_deed, deed_frame, turn_of, all_took, away_load, kept_turn, known_start, known_step, with_rest, may_call}
 use Rattle.crl_talk.specs.Guards.{Given, given_of, given_yet, held_after, guards_held, AreGuards, SectionsAreGuards}
 use Rattle.crl_talk.specs.Guards as guards
 use Rattle.crl_talk.proofs.Asking.{hears_as}
 use Rattle.crl_talk.proofs.Guards.{Asks, Yet, Holds, hear_held, hear_back, call_held, call_yet, call_begins, can_open}
-use Rattle.crl_talk.proofs.Moves.{Moves, each_moved, handle_moves, carry_moves}
+use Rattle.crl_talk.proofs.Moves.{is_move, each_moved}
 
 -- What a node that waits for a section has asked for.
 asks_deed : (j : ℕ) (n : Node) (cause : Cause) (o : Outcome) → Deed n cause o → Fits j n → Came Leaves n.me cause → FreeIf cause n → Asks n → Asks o.node
@@ -56,20 +56,8 @@ pub ground_run : (es : List Event) (w : World) → IsRunFrom w es → Ground w �
 ground_run [] w r g = g
 ground_run (e ∷ es) w r g = ground_run es (step e w).world r.1 (ground_step w e r.0 g)
 
-pub with_rest : (j : ℕ) (n : Node) (p : Piece) (rest : List Piece) (parcels : PartsGathered) → Took p n.inbox rest → Fits j n → Fits j (record n { inbox = rest; parcels = parcels })
-with_rest j n p rest parcels took f = record { me = f.me; each = f.each; cache = f.cache; fresh = f.fresh; inbox = (all_took (ComesIn n.me) took f.inbox).1; outbox = f.outbox }
-
 pub is_away : (j : ℕ) (n : Node) (p : Piece) (rest : List Piece) (part : List ℕ) → Took p n.inbox rest → Fits j n → IsAway p.message.sender n.me (with_load part p.message.kind)
 is_away j n p rest part took f = subst (λ (y : Type 0). y) (away_load p.message.sender n.me part p.message.kind) (all_took (ComesIn n.me) took f.inbox).0
-
-pub is_free_at : (a : Activity) → is_free a ≡ true → a ≡ Free
-is_free_at Free e = refl
-is_free_at (Waiting awaited) e = cc
-is_free_at (Ready answer) e = cc
-
-pub may_call : (i : ℕ) (c : Call) (w : World) → is_enabled (event.Call i c) w ≡ true → (i < w.count) × ((w.nodes i).activity ≡ Free)
-unfolding is_enabled
-may_call i c w may = let parts = and_parts _ _ may in (ltb-true _ _ parts.0, is_free_at (w.nodes i).activity (and_parts _ _ parts.1).0)
 
 -- An event. The guards that node n holds are given by what it hears with it.
 abbrev YetAt : ℕ → (Name → List Given) → Node → Type 0
@@ -81,9 +69,9 @@ After n f heard w = YetAt n (λ q. guards_held q (f q) heard) (w.nodes n)
 of_me : (n : ℕ) (f : Name → List Given) (m : Node) → m.me ≡ n → YetAt n f m → Yet f m
 of_me n f m e h q = subst (λ k. AreGuards k (given_yet q m.activity ++ f q) (m.sections.records q)) (sym e) (h q)
 
-moved_held : (n : ℕ) (f : Name → List Given) (w : World) (v : WorldStep) → Moves w v → Ground w → YetAt n f (w.nodes n) → YetAt n f (v.world.nodes n)
-moved_held n f w v m g h =
-    each_moved (λ j x. j ≡ n → YetAt n f x) (λ i x inbox outbox parcels records notes posted k. k) w v m
+moved_held : (n : ℕ) (f : Name → List Given) (w : World) (v : WorldStep) {e : Event} → Turn w e v → is_move e ≡ true → Ground w → YetAt n f (w.nodes n) → YetAt n f (v.world.nodes n)
+moved_held n f w v t moves g h =
+    each_moved (λ j x. j ≡ n → YetAt n f x) (λ i x inbox outbox parcels records notes posted k. k) w v t moves
     (λ i p rest parcels part o took d k e. (let x = w.nodes i in
     let me : x.me ≡ n = (g.known.fits i).me ∙ e in
     let s = g.known.sections i in
@@ -127,8 +115,8 @@ guards_event n f w (event.Collect i) may g h = over (w.nodes i).activity refl (a
         go true x = λ q. subst (λ k. AreGuards n (given_of q answer ++ f q) ((w.nodes k).sections.records q)) (sym (eqb-true i n x))
             (subst (λ (a : Activity). AreGuards n (given_yet q a ++ f q) ((w.nodes n).sections.records q)) (ap (λ k. (w.nodes k).activity) (sym (eqb-true i n x)) ∙ e) (h q))
         go false x = h
-guards_event n f w (event.Handle i place) may g h = moved_held n f w _ (handle_moves w i place may) g h
-guards_event n f w (event.Carry i place) may g h = moved_held n f w _ (carry_moves w i place may) g h
+guards_event n f w (event.Handle i place) may g h = moved_held n f w _ (turn_of w (event.Handle i place) may) refl g h
+guards_event n f w (event.Carry i place) may g h = moved_held n f w _ (turn_of w (event.Carry i place) may) refl g h
 
 -- A run.
 held_append : (q : Name) (gs : List Given) (xs ys : List Heard) → guards_held q gs (xs ++ ys) ≡ guards_held q (guards_held q gs xs) ys

@@ -17,6 +17,7 @@ use Rattle.crl_protocol.specs.Chosen.{Actor, block_of, Running, running, call_of
 use Rattle.crl_deeds.specs.Laws.{IsNext, next_call, is_inside, node_of, is_call_event, Follows, ended, changes, calls, happens}
 use Rattle.crl_talk.specs.Script.{Drafts, no_drafts, drafts_given, Changes, puts, adds, IsPlain, CallsFor, plain, leaves, cant_leave, cant_change, calls_at, CallsAre, CallsAreThose}
 use Rattle.crl_talk.specs.Script as script
+use Rattle.crl_deeds.proofs.Laws.{allowed, given_left}
 
 -- of an actor's statements these are the last, and the others make the calls
 record Says (n : ℕ) (w : World) (a : Actor) (last : List Statement) (es : List Event) : Type 0 where
@@ -30,10 +31,6 @@ here f i n x e = cond-true (i == n) x (f n) e
 other : (f : ℕ → Actor) (i n : ℕ) (x : Actor) → (i == n) ≡ false → at_node f i x n ≡ f n
 other f i n x e = cond-false (i == n) x (f n) e
 
-allowed : (o : Option Refusal) → is_allowed o ≡ true → o ≡ None
-allowed None e = refl
-allowed (Some why) e = cc
-
 -- A statement that is an allowed change, and one that is a call.
 change_of : (n : Node) (a : Actor) (s : Statement) → (is_change s && is_allowed (verdict n (call_of n a s))) ≡ true
     → Changes a.drafts s (call_of n a s) (after_change s a).drafts × (verdict n (call_of n a s) ≡ None) × ((after_change s a).left ≡ a.left)
@@ -41,12 +38,12 @@ change_of n a (statement.Call c) h = cc
 change_of n a (statement.Put name offset bytes) h = (puts name offset bytes, allowed _ h, refl)
 change_of n a (statement.Add name offset number) h = (adds name offset number, allowed _ h, refl)
 
-end_of : (n : Node) (a : Actor) (name : Name) (after : List ℕ) (o : Option Refusal) → verdict n (call.EndWrite name after) ≡ o
+pub end_of : (n : Node) (a : Actor) (name : Name) (after : List ℕ) (o : Option Refusal) → verdict n (call.EndWrite name after) ≡ o
     → CallsFor n a.drafts (statement.Call (call.EndWrite name after)) (call.EndWrite name (draft_of o name a))
 end_of n a name after None e = leaves name after e
 end_of n a name after (Some why) e = cant_leave name after why e
 
-plain_of : (n : Node) (a : Actor) (c : Call) → CallsFor n a.drafts (statement.Call c) (call_with n a c)
+pub plain_of : (n : Node) (a : Actor) (c : Call) → CallsFor n a.drafts (statement.Call c) (call_with n a c)
 plain_of n a (call.EndWrite name after) = end_of n a name after (verdict n (call.EndWrite name after)) refl
 plain_of n a (call.Create size) = plain (call.Create size) tt
 plain_of n a (call.Delete name) = plain (call.Delete name) tt
@@ -60,25 +57,21 @@ plain_of n a (call.Add name offset) = plain (call.Add name offset) tt
 plain_of n a (call.Flush name) = plain (call.Flush name) tt
 plain_of n a (call.Come part) = plain (call.Come part) tt
 
-refused : (n : Node) (d after : Drafts) (s : Statement) (c : Call) → Changes d s c after → (o : Option Refusal) → verdict n c ≡ o → is_allowed o ≡ false → CallsFor n d s c
+pub refused : (n : Node) (d after : Drafts) (s : Statement) (c : Call) → Changes d s c after → (o : Option Refusal) → verdict n c ≡ o → is_allowed o ≡ false → CallsFor n d s c
 refused n d after s c x None e h = cc
 refused n d after s c x (Some why) e h = cant_change why x e
 
-call_for : (n : Node) (a : Actor) (s : Statement) → (is_change s && is_allowed (verdict n (call_of n a s))) ≡ false → CallsFor n a.drafts s (call_of n a s)
+pub call_for : (n : Node) (a : Actor) (s : Statement) → (is_change s && is_allowed (verdict n (call_of n a s))) ≡ false → CallsFor n a.drafts s (call_of n a s)
 call_for n a (statement.Call c) h = plain_of n a c
 call_for n a (statement.Put name offset bytes) h = refused n a.drafts _ _ _ (puts name offset bytes) (verdict n (call.Put name offset (length bytes))) refl h
 call_for n a (statement.Add name offset number) h = refused n a.drafts _ _ _ (adds name offset number) (verdict n (call.Add name offset)) refl h
 
 -- what an answer gives
-drafts_same : (answer : Answer) (a : Actor) → (takes_guard answer a).drafts ≡ drafts_given answer a.drafts
+pub drafts_same : (answer : Answer) (a : Actor) → (takes_guard answer a).drafts ≡ drafts_given answer a.drafts
 drafts_same (Writing guard) a = refl
 drafts_same _ a = refl
 
-left_same : (answer : Answer) (a : Actor) → (takes_guard answer a).left ≡ a.left
-left_same (Writing guard) a = refl
-left_same _ a = refl
-
-call_of_left : (n : Node) (a : Actor) (left : List Statement) (s : Statement) → call_of n (record a { left = left }) s ≡ call_of n a s
+pub call_of_left : (n : Node) (a : Actor) (left : List Statement) (s : Statement) → call_of n (record a { left = left }) s ≡ call_of n a s
 call_of_left n a left (statement.Call (call.EndWrite name after)) = go (verdict n (call.EndWrite name after))
   where
     go : (o : Option Refusal) → call.EndWrite name (draft_of o name (record a { left = left })) ≡ call.EndWrite name (draft_of o name a)
@@ -103,7 +96,7 @@ said_passes n r i e es last f same own apart b k h = record { reached = h.reache
     mine x = ap f x ∙ same
 
     left : (b : Bool) → (i == n) ≡ b → (r.actors n).left ≡ after.left
-    left true k = sym (ap (λ (a : Actor). a.left) (here f i n (takes_guard answer (f i)) k) ∙ left_same answer (f i) ∙ ap (λ (a : Actor). a.left) (mine (eqb-true i n k)))
+    left true k = sym (ap (λ (a : Actor). a.left) (here f i n (takes_guard answer (f i)) k) ∙ given_left answer (f i) ∙ ap (λ (a : Actor). a.left) (mine (eqb-true i n k)))
     left false k = sym (ap (λ (a : Actor). a.left) (other f i n (takes_guard answer (f i)) k ∙ same))
 
     drafts : (b : Bool) → (i == n) ≡ b → after.drafts ≡ (if node_of e == n then drafts_given answer (r.actors n).drafts else (r.actors n).drafts)
@@ -118,7 +111,7 @@ said_call : (r : Running) (i : ℕ) (s : Statement) (left : List Statement) (es 
     → Says i r.world (r.actors i) last (event.Call i (next_call r i s) ∷ es)
 said_call r i s left es last next out a same h = record {
   reached = s ∷ h.reached;
-  parts = next.0 ∙ ap (λ ss. s ∷ ss) (sym (left_same done.answer a ∙ ap (λ (x : Actor). x.left) same) ∙ h.parts);
+  parts = next.0 ∙ ap (λ ss. s ∷ ss) (sym (given_left done.answer a ∙ ap (λ (x : Actor). x.left) same) ∙ h.parts);
   calls = script.made s (next_call r i s) next.1 (call_for (r.world.nodes i) (r.actors i) s out)
       (subst (λ d. CallsAre i done.world d h.reached es) (drafts_same done.answer a ∙ ap (λ (x : Actor). drafts_given done.answer x.drafts) same) h.calls);
 }

@@ -3,7 +3,7 @@ use Rattle.std.proofs.Common.{◌≡◌, ℕ, ◌≤◌, ◌<◌, true, List, []
 use Rattle.crl_model.specs.declared.event.Event.{Event}
 use Rattle.crl_protocol.specs.World.{World, new_world, step, is_enabled, IsRunFrom, IsRun, world_of, world_after}
 use Rattle.crl_deeds.specs.Tokens.{map_token}
-use Rattle.crl_deeds.proofs.Laws.{turn_of, turn_count, kept_turn, who_maps_has_one, who_deletes_has_one, boxed_sum}
+use Rattle.crl_deeds.proofs.Laws.{turn_of, turn_count, kept_turn, who_maps_has_one, who_deletes_has_one, boxed_sum, world_grows}
 use Rattle.crl_talk.specs.Calls.{CallsStandOnce}
 use Rattle.crl_talk.proofs.Heard.{Ground, ground_start, ground_step}
 use Rattle.crl_talk.proofs.Pending.{Waits}
@@ -12,9 +12,6 @@ use Rattle.crl_talk.proofs.Events.{Runs}
 use Rattle.crl_talk.proofs.Talked.{rests_of}
 
 -- What is known of each world of a run.
-world_grows : (w : World) (run : List Event) (e : Event) → world_after w (run ++ e ∷ []) ≡ (step e (world_after w run)).world
-world_grows w [] e = refl
-world_grows w (x ∷ run) e = world_grows (step x w).world run e
 
 run_before : (w : World) (xs ys : List Event) → IsRunFrom w (xs ++ ys) → IsRunFrom w xs
 run_before w [] ys r = tt

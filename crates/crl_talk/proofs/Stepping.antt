@@ -14,10 +14,10 @@ use Rattle.crl_deeds.specs.Counts.{Plain}
 use Rattle.crl_deeds.specs.Deeds.{Hears, Deed}
 use Rattle.crl_deeds.specs.Tokens.{on_piece, NoMail}
 use Rattle.crl_deeds.specs.Turns.{Frame, HeldIn, HeldOut}
-use Rattle.crl_deeds.proofs.Laws.{deed_frame, all_took, each_at, weigh_took, keyed_none, part_same}
+use Rattle.crl_deeds.proofs.Laws.{deed_frame, all_took, each_at, weigh_took, keyed_none, part_same, with_rest}
 use Rattle.crl_talk.proofs.Asking.{AskedAs, hears_as}
 use Rattle.crl_talk.proofs.Effects.{KeepsGoing, Lasts, same}
-use Rattle.crl_talk.proofs.Heard.{Ground, with_rest, is_away}
+use Rattle.crl_talk.proofs.Heard.{Ground, is_away}
 use Rattle.crl_talk.proofs.Pending.{Waits, Calm, Hearing}
 use Rattle.crl_talk.proofs.Weights.{nothing, removed, sum_rest, sum_le, table_le, sum_stepped, sum_carried, token, token_mail, token_whole, token_near}
 

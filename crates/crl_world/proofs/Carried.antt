@@ -1,5 +1,5 @@
 -- A piece that a member carried, as what the world did.
-use Rattle.std.proofs.Common.{◌≡◌, ◌≢◌, ℕ, ◌+◌, ◌<◌, ◌≤◌, ◌^◌, ◌==◌, ◌++◌, take, drop, if◌then◌else◌, true, List, length, set, refl, ap, ap₂, sym, ◌∙◌, subst, map, Option, Some, None, ne_eqb, ltb-true}
+use Rattle.std.proofs.Common.{◌≡◌, ◌≢◌, ℕ, ◌+◌, ◌<◌, ◌≤◌, ◌^◌, ◌==◌, ◌++◌, take, drop, if◌then◌else◌, true, List, length, set, refl, ap, ap₂, sym, ◌∙◌, subst, map, Option, Some, None, ne_eqb}
 use Rattle.std.proofs.lemmas.List.{length-map, length-set, get_or_default}
 use Rattle.std.specs.List.{refill}
 use Rattle.std.proofs.Math.Seq.{take-append_seam}
@@ -13,20 +13,16 @@ use Rattle.crl_member.specs.Members.{addressee_of, TakenIsInTable}
 use Rattle.crl_world.specs.Members.{Members}
 use Rattle.crl_world.specs.Seen.{node_in, node_at, world_of_nodes, world_seen, IsKept}
 use Rattle.crl_world.specs.Stepping.{EventIsDone, GoesElsewhere, nodes_after_sent, nodes_after_carry}
-use Rattle.crl_world.proofs.Doing.{both, Stands, old, seen, below, to_node}
-use Rattle.crl_world.proofs.Events.{is_there}
+use Rattle.crl_world.proofs.Doing.{Stands, old, seen, below, to_node}
 use Rattle.crl_world.proofs.Keeping.{kept_step}
 use Rattle.crl_world.proofs.Nodes.{put_at_node, same_world}
+use Rattle.crl_deeds.proofs.Laws.{taken_there, may_carry}
 
 pub at_is_in : (capacity k : ℕ) (ns : List Node) → k < length ns → node_at k ns ≡ node_in capacity ns k
 at_is_in capacity k ns lt = get_or_default ns k _ _ lt
 
 at_other : (f : ℕ → Node) (i j : ℕ) (n : Node) → i ≢ j → at_node f i n j ≡ f j
 at_other f i j n apart = ap (λ b. if b then n else f j) (ne_eqb i j apart)
-
-pub carry_there : (i place : ℕ) (w : World) → is_enabled (event.Carry i place) w ≡ true → place < length (w.nodes i).outbox
-unfolding is_enabled
-carry_there i place w may = ltb-true _ _ (both _ _ may).1
 
 module _ (ns : List Node) (events capacity i place : ℕ) (lt : i < length ns) where
   abbrev pub before : World
@@ -61,7 +57,7 @@ module _ (ns : List Node) (events capacity i place : ℕ) (lt : i < length ns) w
       let same : take_out place (node_at i ns).outbox ≡ o = ap (λ (n : Node). take_out place n.outbox) sent in
       ap (λ l. world_of_nodes l (events + 1) capacity) (is ∙ ap (λ k. nodes_after_carry events i k place ns) (to ∙ ap addressee_of same)
       ∙ ap₂ (λ (n : Node) (x : Option (Taken Piece)). nodes_after_sent events i (addressee_of o) (event.Carry n.me place) x ns) sent same)
-      ∙ carried_nodes o (is_there place (before.nodes i).outbox there) away me
+      ∙ carried_nodes o (taken_there place (before.nodes i).outbox there) away me
 
 refilled : {A : Type 0} (len : ℕ) (items vs : List A) → length vs ≡ len → refill len items vs ≡ vs
 refilled len items vs long = ap (λ n. take n (vs ++ drop (length vs) items)) (sym long) ∙ take-append_seam vs (drop (length vs) items)
@@ -82,7 +78,7 @@ module _ {N : Type 0} {state : N → Node} {xs : List N} {events capacity i : �
   to_old = to_node b (λ m. j ≡ addressee_of (take_out place m.outbox)) to
 
   there_old : place < length ((old b).nodes i).outbox
-  there_old = carry_there i place (old b) may_old
+  there_old = (may_carry i place (old b) may_old).1
 
   below_old : i < length (map state xs)
   below_old = subst (λ k. i < k) (sym (length-map xs state)) (below b)
@@ -92,7 +88,7 @@ module _ {N : Type 0} {state : N → Node} {xs : List N} {events capacity i : �
 
   pub carry_places : (ys : List N) → ys ≡ xs → (i < length ys) × (j < length ys) × (i ≢ j)
   carry_places ys is =
-      let go = away_of i (length (map state xs)) (take_out place ((old b).nodes i).outbox) (is_there place ((old b).nodes i).outbox there_old) away_old in
+      let go = away_of i (length (map state xs)) (take_out place ((old b).nodes i).outbox) (taken_there place ((old b).nodes i).outbox there_old) away_old in
       let long : length (map state xs) ≡ length ys = length-map xs state ∙ ap length (sym is) in
       (subst (λ k. i < k) long below_old, subst (λ k. j < k) long (subst (λ k. k < length (map state xs)) (sym to_old) go.0), λ same. go.1 (sym to_old ∙ sym same))
 

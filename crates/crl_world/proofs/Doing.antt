@@ -1,5 +1,5 @@
 -- What a member did, as what the world did.
-use Rattle.std.proofs.Common.{◌≡◌, ℕ, ◌+◌, ◌<◌, ◌^◌, ◌&&◌, true, false, Bool, List, length, get_or, set, refl, ap, sym, ◌∙◌, subst, arith, map, ltb-true}
+use Rattle.std.proofs.Common.{◌≡◌, ℕ, ◌+◌, ◌<◌, ◌^◌, true, false, List, length, get_or, set, refl, ap, sym, ◌∙◌, subst, arith, map}
 use Rattle.std.proofs.lemmas.List.{length-map}
 use Rattle.crl_model.specs.declared.call.Call.{Call}
 use Rattle.crl_model.specs.declared.event.Event.{Event}
@@ -7,7 +7,7 @@ use Rattle.crl_model.specs.declared.event.Event.TheVariants as event
 use Rattle.crl_protocol.specs.Node.{Node, Answer}
 use Rattle.crl_protocol.specs.Verdict.{verdict}
 use Rattle.crl_protocol.specs.Calls.{node_calls}
-use Rattle.crl_protocol.specs.World.{World, step, is_enabled, is_free, is_ready, is_call, collects}
+use Rattle.crl_protocol.specs.World.{World, step, is_enabled, collects}
 use Rattle.crl_safety.specs.Safety.{IsSafe}
 use Rattle.crl_member.specs.Fitting.{MayCall, goes_by_guard}
 use Rattle.crl_member.specs.Members.{CallIsDone, CollectIsDone, node_after_handle}
@@ -17,28 +17,7 @@ use Rattle.crl_world.specs.Stepping.{StepIsDone, EventIsDone, IsRefusedForMemory
 use Rattle.crl_world.proofs.Keeping.{kept_step}
 use Rattle.crl_world.proofs.Nodes.{node_of_value, world_stays}
 use Rattle.crl_world.proofs.Events as of
-
--- both of two tests
-pub both : (a b : Bool) → (a && b) ≡ true → (a ≡ true) × (b ≡ true)
-both true b e = (refl, e)
-both false b e = cc
-
--- what an event that may come needs of its node
-pub call_free : (i : ℕ) (c : Call) (w : World) → is_enabled (event.Call i c) w ≡ true → is_free (w.nodes i).activity ≡ true
-unfolding is_enabled
-call_free i c w may = (both _ _ (both _ _ may).1).0
-
-pub call_may : (i : ℕ) (c : Call) (w : World) → is_enabled (event.Call i c) w ≡ true → is_call (w.nodes i) c (verdict (w.nodes i) c) ≡ true
-unfolding is_enabled
-call_may i c w may = (both _ _ (both _ _ may).1).1
-
-pub collect_ready : (i : ℕ) (w : World) → is_enabled (event.Collect i) w ≡ true → is_ready (w.nodes i).activity ≡ true
-unfolding is_enabled
-collect_ready i w may = (both _ _ may).1
-
-pub handle_there : (i place : ℕ) (w : World) → is_enabled (event.Handle i place) w ≡ true → place < length (w.nodes i).inbox
-unfolding is_enabled
-handle_there i place w may = ltb-true _ _ (both _ _ may).1
+use Rattle.crl_deeds.proofs.Laws as enabled
 
 call_answer : (i : ℕ) (c : Call) (w : World) → (node_calls c (w.nodes i)).answer ≡ (step (event.Call i c) w).answer
 unfolding step
@@ -83,7 +62,7 @@ module _ {N : Type 0} {state : N → Node} {xs : List N} {events capacity i : �
   has_room full = let few = b.kept.events in omega arith
 
   pub may_call : (c : Call) → is_enabled (event.Call i c) (world_seen state s) ≡ true → goes_by_guard c (verdict ((world_seen state s).nodes i) c) ≡ false → MayCall (state n) c
-  may_call c may free = of_node (λ m. MayCall m c) (record { enabled = call_may i c (world_seen state s) may; unguarded = free })
+  may_call c may free = of_node (λ m. MayCall m c) (record { enabled = (enabled.may_call i c (world_seen state s) may).2; unguarded = free })
 
   -- the member is another one now
   module _ (x : N) where
@@ -130,7 +109,7 @@ module _ {N : Type 0} {state : N → Node} {xs : List N} {events capacity i : �
     -- a piece that is handled
     pub handle_step : (place : ℕ) → is_enabled (event.Handle i place) (world_seen state s) ≡ true → state x ≡ node_after_handle events place (state n) → new ≡ (step (event.Handle i place) old).world
     handle_step place may is =
-        of.handle_world state xs events capacity i x below (b.kept.numbered i) place (handle_there i place old (ap (is_enabled (event.Handle i place)) seen ∙ may))
+        of.handle_world state xs events capacity i x below (b.kept.numbered i) place (enabled.may_handle i place old (ap (is_enabled (event.Handle i place)) seen ∙ may)).1
         (to_node (λ m. state x ≡ node_after_handle events place m) is)
 
     pub handle_done : (place : ℕ) → is_enabled (event.Handle i place) (world_seen state s) ≡ true → events < 2 ^ 62 → state x ≡ node_after_handle events place (state n) → EventIsDone (event.Handle i place) (world_seen state s) new

@@ -1,11 +1,11 @@
 -- The event of one member is the step of the world.
-use Rattle.std.proofs.Common.{◌≡◌, ℕ, zero, suc, ◌+◌, ◌<◌, List, [], ◌∷◌, length, set, refl, ap, sym, ◌∙◌, arith, map, Option, Some, None}
+use Rattle.std.proofs.Common.{◌≡◌, ℕ, ◌+◌, ◌<◌, List, length, set, refl, ap, sym, ◌∙◌, map, Option, Some, None}
 use Rattle.crl_model.specs.Names.{at_node}
 use Rattle.crl_model.specs.declared.call.Call.{Call}
 use Rattle.crl_model.specs.declared.event.Event.{Event}
 use Rattle.crl_model.specs.declared.event.Event.TheVariants as event
 use Rattle.crl_protocol.specs.Parcels.{Piece}
-use Rattle.crl_protocol.specs.Places.{Taken, take_out, behind}
+use Rattle.crl_protocol.specs.Places.{Taken, take_out}
 use Rattle.crl_protocol.specs.Node.{Node, Outcome}
 use Rattle.crl_protocol.specs.Verdict.{verdict}
 use Rattle.crl_protocol.specs.Calls.{node_calls}
@@ -14,16 +14,7 @@ use Rattle.crl_protocol.specs.World.{World, commits, steps_node, step, noted_cal
 use Rattle.crl_member.specs.Members.{node_after_call, node_after_handle, after_taken}
 use Rattle.crl_world.specs.Seen.{node_in, world_of_nodes}
 use Rattle.crl_world.proofs.Nodes.{world_put}
-
-behind_some : {A : Type 0} (x : A) (o : Option (Taken A)) → behind x o ≡ None → o ≡ None
-behind_some x None e = refl
-behind_some x (Some t) e = cc
-
--- what is at a place below the length can be taken out
-pub is_there : {A : Type 0} (k : ℕ) (xs : List A) → k < length xs → take_out k xs ≡ None → ⊥
-is_there k [] lt e = omega arith
-is_there zero (x ∷ xs) lt e = cc
-is_there (suc k) (x ∷ xs) lt e = is_there k xs (omega arith) (behind_some x (take_out k xs) e)
+use Rattle.crl_deeds.proofs.Laws.{taken_there}
 
 module _ {N : Type 0} (state : N → Node) (xs : List N) (events capacity i : ℕ) (x : N) (lt : i < length xs) (me : (node_in capacity (map state xs) i).me ≡ i) where
   abbrev pub old : World
@@ -58,4 +49,4 @@ module _ {N : Type 0} (state : N → Node) (xs : List N) (events capacity i : �
 
   pub handle_world : (place : ℕ) → place < length node.inbox → state x ≡ node_after_handle events place node → new ≡ (step (event.Handle i place) old).world
   unfolding step
-  handle_world place there is = handle_taken place (take_out place node.inbox) (is_there place node.inbox there) is
+  handle_world place there is = handle_taken place (take_out place node.inbox) (taken_there place node.inbox there) is

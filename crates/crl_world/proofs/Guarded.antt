@@ -1,6 +1,6 @@
 -- The end of a section by its guard, as what the world did.
 use Rattle.std.proofs.Common.{◌≡◌, ℕ, ◌<◌, ◌^◌, ◌==◌, ◌&&◌, true, false, Bool, List, length, refl, ap, sym, ◌∙◌, subst, map, Option, Some, None, ltb-true}
-use Rattle.std.proofs.lemmas.Bool.{lt-ltb}
+use Rattle.std.proofs.lemmas.Bool.{lt-ltb, and_parts}
 use Rattle.std.proofs.lemmas.List.{length-map}
 use Rattle.crl_model.specs.declared.call.Call.{Call}
 use Rattle.crl_model.specs.declared.event.Event.TheVariants as event
@@ -13,7 +13,7 @@ use Rattle.crl_member.specs.Members.{node_after_read, node_after_write}
 use Rattle.crl_world.specs.Members.{Members}
 use Rattle.crl_world.specs.Seen.{world_seen, IsKept}
 use Rattle.crl_world.specs.Stepping.{EndIsDone, MayEnd, reading_fits, writing_fits, end_of_reading, end_of_writing}
-use Rattle.crl_world.proofs.Doing.{both, Stands, old, seen, below, to_node, new, kept_event}
+use Rattle.crl_world.proofs.Doing.{Stands, old, seen, below, to_node, new, kept_event}
 use Rattle.crl_world.proofs.Events as of
 
 both_of : (a b : Bool) → a ≡ true → b ≡ true → (a && b) ≡ true
@@ -27,17 +27,17 @@ end_enabled i c w lt free allowed fits =
 
 -- the guard's node is one of the world
 pub reading_below : {N : Type 0} (state : N → Node) (s : Members N) (g : Guard) (i : ℕ) → i ≡ g.node → reading_fits g (world_seen state s) ≡ true → i < length s.nodes
-reading_below state s g i is fit = subst (λ k. i < k) (length-map s.nodes state) (subst (λ k. k < length (map state s.nodes)) (sym is) (ltb-true _ _ (both _ _ fit).0))
+reading_below state s g i is fit = subst (λ k. i < k) (length-map s.nodes state) (subst (λ k. k < length (map state s.nodes)) (sym is) (ltb-true _ _ (and_parts _ _ fit).0))
 
 pub writing_below : {N : Type 0} (state : N → Node) (s : Members N) (g : Guard) (i : ℕ) → i ≡ g.node → writing_fits g (world_seen state s) ≡ true → i < length s.nodes
-writing_below state s g i is fit = subst (λ k. i < k) (length-map s.nodes state) (subst (λ k. k < length (map state s.nodes)) (sym is) (ltb-true _ _ (both _ _ fit).0))
+writing_below state s g i is fit = subst (λ k. i < k) (length-map s.nodes state) (subst (λ k. k < length (map state s.nodes)) (sym is) (ltb-true _ _ (and_parts _ _ fit).0))
 
 same_length : (g : Guard) (o : Option OpenSection) → fits_open_write g o ≡ true → (length g.bytes == length (section_bytes o)) ≡ true
 same_length g None h = cc
-same_length g (Some r) h = (both _ _ (both _ _ h).1).1
+same_length g (Some r) h = (and_parts _ _ (and_parts _ _ h).1).1
 
 may_write : (g : Guard) (w : World) → writing_fits g w ≡ true → is_call (w.nodes g.node) (end_of_writing g) None ≡ true
-may_write g w fit = same_length g ((w.nodes g.node).sections.records g.name) (both _ _ (both _ _ fit).1).1
+may_write g w fit = same_length g ((w.nodes g.node).sections.records g.name) (and_parts _ _ (and_parts _ _ fit).1).1
 
 module _ {N : Type 0} {state : N → Node} {xs : List N} {events capacity i : ℕ} {n : N} {s : Members N} (b : Stands state xs events capacity i n s) (x : N) (g : Guard) (is : i ≡ g.node) where
   at_guard : (P : ℕ → Type 0) → P g.node → P i

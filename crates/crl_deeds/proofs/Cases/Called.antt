@@ -145,16 +145,16 @@ unmap_deed n name m e some closed =
     evicts (Some old) one other sound w = subst Leaves (sym (forgets_is _ old)) (deed.lives (deed.unmaps_evicting name m old e one other sound closed w))
 
 -- the start of a section
-nowhere : (n : Node) (c : Call) (write : Bool) (name : Name) → StartsCall c write name → home_of n name ≡ None → n.remotes name ≡ None → Idles (Calls c) n
-nowhere n c write name (deed.to_read q) e f = (e, f)
-nowhere n c write name (deed.to_write q) e f = (e, f)
+nowhere : (n : Node) (c : Call) (write : Bool) (name : Name) → StartsCall c write name → CanStart n write name → home_of n name ≡ None → n.remotes name ≡ None → Idles (Calls c) n
+nowhere n c write name (deed.to_read q) v e f = (v, (e, f))
+nowhere n c write name (deed.to_write q) v e f = (v, (e, f))
 
 start_deed : (n : Node) (c : Call) (write : Bool) (name : Name) → StartsCall c write name → CanStart n write name → Deed n (Calls c) (starts write name n)
 unfolding section_opens
 start_deed n c write name is v = go (home_of n name) refl
   where
     there : (r : Option Remote) → home_of n name ≡ None → n.remotes name ≡ r → Deed n (Calls c) (starts_over_remote write name r n)
-    there None e f = deed.idles (nowhere n c write name is e f)
+    there None e f = deed.idles (nowhere n c write name is v e f)
     there (Some r) e f = deed_if n (Calls c) (remote_starts write r).opened _ _ (λ o. deed.copies (deed.side_opens c write name r is e f v o)) (λ o. deed.copies (deed.side_waits c write name r is e f v o))
 
     go : (h : Option Home) → home_of n name ≡ h → Deed n (Calls c) (starts_over_home write name h n)

@@ -204,8 +204,8 @@ nowhere me write q h r e f = sym (ap (λ x. entries_of_start (opens_at_once me w
 of_idles : (n : Node) (cause : Cause) → Idles cause n → [] ≡ Table n cause
 of_idles n (Calls (call.Put q offset len)) h = refl
 of_idles n (Calls (call.Add q offset)) h = refl
-of_idles n (Calls (call.StartRead q)) h = nowhere n.me false q _ _ h.0 h.1
-of_idles n (Calls (call.StartWrite q)) h = nowhere n.me true q _ _ h.0 h.1
+of_idles n (Calls (call.StartRead q)) h = nowhere n.me false q _ _ h.1.0 h.1.1
+of_idles n (Calls (call.StartWrite q)) h = nowhere n.me true q _ _ h.1.0 h.1.1
 of_idles n (Calls _) h = absurd h
 of_idles n (Hears from (kind.InfoAsk q)) h = absurd h
 of_idles n (Hears from (kind.DeleteAsk q)) h = absurd h

@@ -138,10 +138,10 @@ refused_for n (call.Flush q) why e = mapped_first n _ q _ why (flush q) (λ mapp
 refused_for n (call.Come p) why e = by_part n p why e
 
 -- What a call finds that isn't refused.
-is_closed_so : (s : Section) → is_closed s ≡ true → s ≡ section.Closed
-is_closed_so section.Closed e = refl
-is_closed_so (section.Reading count) e = cc
-is_closed_so section.Writing e = cc
+pub closed_is : (s : Section) → is_closed s ≡ true → s ≡ section.Closed
+closed_is section.Closed e = refl
+closed_is (section.Reading count) e = cc
+closed_is section.Writing e = cc
 
 is_writing_so : (s : Section) → is_writing s ≡ true → s ≡ section.Writing
 is_writing_so section.Closed e = cc
@@ -152,7 +152,7 @@ pub is_mapped_by : (o : Option Mapping) → (map_count o == 0) ≡ false → 1 �
 is_mapped_by o e = let ne = eqb-false (map_count o) 0 e in grind arith
 
 pub write_starts_closed : (n : Node) (q : Name) → CanStart n true q → section_at q n.sections ≡ section.Closed
-write_starts_closed n q can = is_closed_so _ (not_not _ (not_refused _ refusal.SectionOpen can.section))
+write_starts_closed n q can = closed_is _ (not_not _ (not_refused _ refusal.SectionOpen can.section))
 
 pub read_starts_below : (n : Node) (q : Name) → CanStart n false q → (is_writing (section_at q n.sections) ≡ false) × ((count_of (section_at q n.sections) == COUNT_LIMIT) ≡ false)
 read_starts_below n q can = let parts = none_of _ _ can.section in (not_refused _ refusal.SectionOpen parts.0, not_refused _ refusal.TooMany parts.1)

@@ -50,7 +50,7 @@ writing_size i n d name e w f k =
     let size = open_size (n.sections.records name) (n.maps name) w (f.each name).sections in writing_draft n d name e w k ∙ size.2 ∙ sym (ap mapped_size size.1)
 
 -- A change keeps the draft's length.
-put_length : (offset : ℕ) (bytes old : List ℕ) → offset + length bytes ≤ length old → length (put_at offset bytes old) ≡ length old
+pub put_length : (offset : ℕ) (bytes old : List ℕ) → offset + length bytes ≤ length old → length (put_at offset bytes old) ≡ length old
 put_length offset bytes old h = simp (length-append, length-take, length-drop) (omega arith)
 
 same_length : (s : Section) (a b c : ℕ) → a ≡ b → LengthFits s b c → LengthFits s a c
@@ -83,7 +83,7 @@ unfolding verdict
 in_range_added n name offset v =
     let parts = none_of _ _ (none_of _ _ v).1 in (not-false _ (allowed_by _ _ parts.0), ltb-false _ _ (allowed_by _ _ parts.1))
 
-allowed : (o : Option Refusal) → is_allowed o ≡ true → o ≡ None
+pub allowed : (o : Option Refusal) → is_allowed o ≡ true → o ≡ None
 allowed None e = refl
 allowed (Some why) e = cc
 
@@ -102,7 +102,7 @@ fits_changed i n a (statement.Add name offset number) free h f k =
     draft_put n a.drafts name (with_sum offset number (a.drafts name)) free
     (put_length offset (to_be_bytes w64 ((from_be_bytes w64 (eight_at offset (a.drafts name)) + number) % 2 ^ 64)) (a.drafts name) within) k
 
-changed_left : (s : Statement) (a : Actor) → (after_change s a).left ≡ a.left
+pub changed_left : (s : Statement) (a : Actor) → (after_change s a).left ≡ a.left
 changed_left (statement.Call c) a = refl
 changed_left (statement.Put name offset bytes) a = refl
 changed_left (statement.Add name offset number) a = refl

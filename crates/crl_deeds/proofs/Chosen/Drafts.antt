@@ -38,9 +38,10 @@ use Rattle.crl_deeds.proofs.Cases.Called.{call_deed}
 use Rattle.crl_deeds.proofs.Cases.Heard.{message_deed}
 use Rattle.crl_deeds.proofs.Fits.Names.{by_name}
 use Rattle.crl_deeds.proofs.Fits.Waits.{own_waits, grant_waits}
-use Rattle.crl_deeds.proofs.Fits.Worlds.{by_node, is_freed, away_load, fits_parcels, all_taken, fits_start, fits_event}
+use Rattle.crl_deeds.proofs.Fits.Worlds.{by_node, away_load, fits_parcels, all_taken, fits_start, fits_event}
 use Rattle.crl_deeds.proofs.Tokens.Maps.{going_own}
 use Rattle.crl_deeds.specs.Deeds as deed
+use Rattle.crl_deeds.proofs.Runs.Enabled.{free_is}
 
 -- The drafts after an answer, and those that a node's actor will have once it has the answer that is ready.
 abbrev pub begins : Answer → (Name → List ℕ) → Name → List ℕ
@@ -222,7 +223,7 @@ given_drafts (Came round fold) a = refl
 given_drafts (Refused why) a = refl
 given_drafts Wait a = refl
 
-given_left : (answer : Answer) (a : Actor) → (takes_guard answer a).left ≡ a.left
+pub given_left : (answer : Answer) (a : Actor) → (takes_guard answer a).left ≡ a.left
 given_left (Made name) a = refl
 given_left (Mapped name size) a = refl
 given_left (Reading guard) a = refl
@@ -281,7 +282,7 @@ drafts_event : (r : Running) (e : Event) → is_enabled e r.world ≡ true → S
 unfolding step is_enabled
 drafts_event r (event.Call i c) h s =
     let parts = and_parts _ _ (and_parts _ _ h).1 in
-    drafts_stepped r i _ (event.Call i c) (node_calls c (r.world.nodes i)) (drafts_deed i (r.world.nodes i) _ _ _ (call_deed (r.world.nodes i) c) (s.fits i) tt (is_freed _ parts.0) (s.drafts i)) s.drafts
+    drafts_stepped r i _ (event.Call i c) (node_calls c (r.world.nodes i)) (drafts_deed i (r.world.nodes i) _ _ _ (call_deed (r.world.nodes i) c) (s.fits i) tt (free_is _ parts.0) (s.drafts i)) s.drafts
 drafts_event r (event.Collect i) h s =
     drafts_stepped r i _ (event.Collect i) (collects (r.world.nodes i).activity (r.world.nodes i)) (drafts_collected (r.world.nodes i) (r.world.nodes i).activity (r.actors i).drafts refl (s.drafts i)) s.drafts
 drafts_event r (event.Handle i place) h s = drafts_handled r i place (event.Handle i place) (event.Handle i place) (take_out place (r.world.nodes i).inbox) refl s

@@ -167,7 +167,7 @@ all_results count n round fold few all = results_plain count n 1 (n.nodes - 1) r
 abbrev Member : (ℕ → Bool) → ℕ → ℕ → Type 0
 Member set count j = (set j ≡ true) × (j < count)
 
-members_are : (set : ℕ → Bool) (count m k : ℕ) → m + k ≤ count → AllByRecursion (Member set count) (members_from m k set)
+pub members_are : (set : ℕ → Bool) (count m k : ℕ) → m + k ≤ count → AllByRecursion (Member set count) (members_from m k set)
 members_are set count m zero few = tt
 members_are set count m (suc k) few =
     let h = members_are set count (m + 1) k (omega arith) in cond_both (set m) _ _ (AllByRecursion (Member set count)) (λ e. ((e, omega arith), h)) (λ e. h)

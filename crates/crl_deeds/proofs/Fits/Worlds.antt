@@ -18,7 +18,7 @@ use Rattle.crl_protocol.specs.Home.{Home}
 use Rattle.crl_protocol.specs.Lifetimes.{no_lifetime}
 use Rattle.crl_protocol.specs.Node.{Node, new_node, Activity, Free, Waiting, Ready, Outcome}
 use Rattle.crl_protocol.specs.Calls.{node_calls}
-use Rattle.crl_protocol.specs.World.{World, commits, steps_node, collects, handles_at, put_in, carries, note, step, is_enabled, is_free, IsRunFrom, world_after, IsRun, new_world, world_of}
+use Rattle.crl_protocol.specs.World.{World, commits, steps_node, collects, handles_at, put_in, carries, note, step, is_enabled, IsRunFrom, world_after, IsRun, new_world, world_of}
 use Rattle.crl_deeds.specs.NodeFacts.{seen, OwnFits, Holds, Comes, Leaves, IsAway, Fits, AllFit}
 use Rattle.crl_deeds.proofs.Chosen.Lists.{all_append}
 use Rattle.crl_deeds.proofs.Fits.AllCalls.{good_call}
@@ -26,6 +26,7 @@ use Rattle.crl_deeds.proofs.Fits.CopyMessages.{fits_as}
 use Rattle.crl_deeds.proofs.Fits.Fields.{fits_turn}
 use Rattle.crl_deeds.proofs.Fits.OtherMessages.{good_message}
 use Rattle.crl_deeds.proofs.Fits.Parts.{Good, good_only}
+use Rattle.crl_deeds.proofs.Runs.Enabled.{free_is}
 
 -- what holds at a node and at all others, where a value was changed at the node
 by_test : (i j : ℕ) (P : Bool → ℕ → Type 0) (b : Bool) → (i == j) ≡ b → P true i → ((i == j) ≡ false → P false j) → P b j
@@ -186,17 +187,12 @@ fits_carried w i place e (Some t) out s = arrived
     arrived = by_node t.taken.message.addressee (λ b j. Fits j (if b then put_in t.taken (between t.taken.message.addressee) else between j))
         (put t.taken.message.addressee (between t.taken.message.addressee) refl (left_there t.taken.message.addressee)) left_there
 
-pub is_freed : (a : Activity) → is_free a ≡ true → a ≡ Free
-is_freed Free e = refl
-is_freed (Waiting awaited) e = cc
-is_freed (Ready answer) e = cc
-
 -- any event that may come
 pub fits_event : (w : World) (e : Event) → is_enabled e w ≡ true → AllFit w → AllFit (step e w).world
 unfolding step is_enabled
 fits_event w (event.Call i c) h s =
     let parts = and_parts _ _ (and_parts _ _ h).1 in
-    fits_stepped w i _ (node_calls c (w.nodes i)) (good_call i (w.nodes i) c (is_freed (w.nodes i).activity parts.0) parts.1 (s i)) s
+    fits_stepped w i _ (node_calls c (w.nodes i)) (good_call i (w.nodes i) c (free_is (w.nodes i).activity parts.0) parts.1 (s i)) s
 fits_event w (event.Collect i) h s = fits_stepped w i _ (collects (w.nodes i).activity (w.nodes i)) (good_collected i (w.nodes i) (w.nodes i).activity refl (s i)) s
 fits_event w (event.Handle i place) h s = fits_handled w i place _ (take_out place (w.nodes i).inbox) refl s
 fits_event w (event.Carry i place) h s = fits_carried w i place _ (take_out place (w.nodes i).outbox) refl s

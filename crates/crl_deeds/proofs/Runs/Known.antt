@@ -30,7 +30,7 @@ use Rattle.crl_deeds.proofs.Tokens.Sums.{weigh_took, sum_part, token_turn}
 use Rattle.crl_deeds.specs.Deeds as deed
 use Rattle.crl_protocol.specs.Home.{new_home}
 
-length_end : {A : Type 0} (xs : List A) (x : A) → length (xs ++ x ∷ []) ≡ length xs + 1
+pub length_end : {A : Type 0} (xs : List A) (x : A) → length (xs ++ x ∷ []) ≡ length xs + 1
 length_end [] x = refl
 length_end (y ∷ xs) x = let h = length_end xs x in omega arith
 

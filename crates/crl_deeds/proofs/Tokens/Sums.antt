@@ -3,6 +3,7 @@ use Rattle.std.proofs.Common.{◌≡◌, ℕ, zero, suc, ◌+◌, ◌≤◌, ◌
 use Rattle.std.proofs.lemmas.Bool.{cond-true, cond-false, eqb-true, eqb-false, ne_eqb, cases_lt}
 use Rattle.std.proofs.Math.Logic.{◌⊎◌, inl, inr}
 use Rattle.crl_model.specs.declared.event.Event.{Event}
+use Rattle.crl_model.specs.declared.event.Event.TheVariants as event
 use Rattle.crl_model.specs.declared.message.Message.{Message}
 use Rattle.crl_model.specs.Names.{at_node}
 use Rattle.crl_protocol.specs.Parcels.{Piece, pieces_of, pieces_in}
@@ -11,7 +12,7 @@ use Rattle.crl_protocol.specs.Node.{Node, new_node, Done, Activity, Free, Outcom
 use Rattle.crl_protocol.specs.World.{World, WorldStep, new_world, boxes_from, pieces_in_boxes, note, put_in, commits, steps_node, carries}
 use Rattle.crl_deeds.specs.Tokens.{sum_from, sum, weigh, on_piece, weighs, Whole, load, waited, Tokens, Balance, Balanced}
 use Rattle.crl_deeds.specs.Turns.{Frame, Turn}
-use Rattle.crl_deeds.specs.Turns.{calls, hears, gathers, answers, carriage, rests}
+use Rattle.crl_deeds.specs.Turns.{calls, hears, gathers, answers, carriage}
 use Rattle.crl_deeds.proofs.Cases.Turns.{deed_frame, each_at}
 
 at_other : (nodes : ℕ → Node) (n : Node) (i j : ℕ) → (j ≡ i → ⊥) → at_node nodes j n i ≡ nodes i
@@ -149,30 +150,29 @@ carried_activity w i j e p rest =
     each_at (λ k n. n.activity ≡ (w.nodes k).activity) f p.message.addressee (put_in p (f p.message.addressee)) sent (sent p.message.addressee) j
 
 -- Where every outcome is balanced, there are as many tokens as are waited for.
-pub token_turn : (f : Message → ℕ) (g : Node → ℕ) (waits : Activity → ℕ) → Tokens f g waits → (i : ℕ) (w : World) (v : WorldStep) → Turn w v → Balanced f g waits i w → sum (load f g) w ≡ waits (w.nodes i).activity → sum (load f g) v.world ≡ waits (v.world.nodes i).activity
-token_turn f g waits t i w v (calls j e c o few free may d) b one = token_outcome f g waits t i w j (w.nodes j) e 0 o few (deed_frame _ _ _ d) (b.me j) refl (omega arith) (b.calls j c o few free d) one
-token_turn f g waits t i w v (hears j e p rest parcels part o few took d) b one =
+pub token_turn : (f : Message → ℕ) (g : Node → ℕ) (waits : Activity → ℕ) → Tokens f g waits → (i : ℕ) (w : World) (v : WorldStep) {e : Event} → Turn w e v → Balanced f g waits i w → sum (load f g) w ≡ waits (w.nodes i).activity → sum (load f g) v.world ≡ waits (v.world.nodes i).activity
+token_turn f g waits t i w v (calls j c o few free may d) b one = token_outcome f g waits t i w j (w.nodes j) _ 0 o few (deed_frame _ _ _ d) (b.me j) refl (omega arith) (b.calls j c o few free d) one
+token_turn f g waits t i w v (hears j place p rest parcels part o few took d) b one =
     let took_out = weigh_took (on_piece f) took in
     let n = w.nodes j in
     let kept = t.blind n rest n.outbox parcels n.records n.notes n.posted in
-    token_outcome f g waits t i w j (record n { inbox = rest; parcels = parcels }) e (f p.message) o few (deed_frame _ _ _ d) (b.me j) refl (omega arith) (b.hears j p rest parcels part o few took d) one
-token_turn f g waits t i w v (gathers j e p rest parcels key few took keyed) b one =
+    token_outcome f g waits t i w j (record n { inbox = rest; parcels = parcels }) _ (f p.message) o few (deed_frame _ _ _ d) (b.me j) refl (omega arith) (b.hears j p rest parcels part o few took d) one
+token_turn f g waits t i w v (gathers j place p rest parcels key few took keyed) b one =
     let took_out = weigh_took (on_piece f) took in
     let n = w.nodes j in
     let kept = t.blind n rest n.outbox parcels n.records n.notes n.posted in
     let none = b.gathers p key keyed in
     let m : Node = record n { inbox = rest; parcels = parcels } in
-    token_outcome f g waits t i w j m e 0 (only m Done) few (record { me = refl; nodes = refl; capacity = refl; inbox = refl; outbox = refl; parcels = refl }) (b.me j) refl (omega arith) refl one
-token_turn f g waits t i w v (answers j e answer few ready) b one =
+    token_outcome f g waits t i w j m _ 0 (only m Done) few (record { me = refl; nodes = refl; capacity = refl; inbox = refl; outbox = refl; parcels = refl }) (b.me j) refl (omega arith) refl one
+token_turn f g waits t i w v (answers j answer few ready) b one =
     let n = w.nodes j in
     let o : Outcome = record { node = record n { activity = Free }; answer = answer; entries = []; posts = [] } in
     let kept = t.answered n in
     let was : waited waits i n ≡ 0 = ap (λ x. if n.me == i then x else 0) (ap waits ready ∙ t.ready answer) ∙ none_to (n.me == i) 0 in
     let now : waited waits i o.node ≡ 0 = ap (λ x. if n.me == i then x else 0) t.free ∙ none_to (n.me == i) 0 in
-    token_outcome f g waits t i w j n e 0 o few (record { me = refl; nodes = refl; capacity = refl; inbox = refl; outbox = refl; parcels = refl }) (b.me j) refl (omega arith) (omega arith) one
-token_turn f g waits t i w v (carriage j e p rest few took) b one =
-    sum_carried f g waits t w j e p rest few took (b.carriage j p rest few took) ∙ one ∙ sym (ap waits (carried_activity w j i e p rest))
-token_turn f g waits t i w v rests b one = one
+    token_outcome f g waits t i w j n _ 0 o few (record { me = refl; nodes = refl; capacity = refl; inbox = refl; outbox = refl; parcels = refl }) (b.me j) refl (omega arith) (omega arith) one
+token_turn f g waits t i w v (carriage j place p rest few took) b one =
+    sum_carried f g waits t w j (event.Carry j place) p rest few took (b.carriage j p rest few took) ∙ one ∙ sym (ap waits (carried_activity w j i (event.Carry j place) p rest))
 
 -- it is the weight of the pieces in the boxes
 boxed_from : (f : Message → ℕ) (i k : ℕ) (nodes : ℕ → Node) → weighs f (boxes_from i k nodes) ≡ sum_from (load f (λ n. 0)) i k nodes

@@ -1,8 +1,7 @@
 use Rattle.std.proofs.Common.{ap, sym, ◌∙◌}
 use Rattle.crl_protocol.specs.World.{account}
 use Rattle.crl_protocol.specs.Chosen.{Running}
-use Rattle.crl_deeds.proofs.Laws.{follow_world}
-use Rattle.crl_plays.proofs.Following.{follow_events}
+use Rattle.crl_deeds.proofs.Laws.{follow_world, follow_events}
 use Rattle.crl_plays.proofs.Runs.{plays_follow}
 use Rattle.crl_plays.proofs.plays_are_runs.Goals as goal
 

@@ -2,8 +2,9 @@ use Rattle.std.proofs.Common.{◌<◌, subst}
 use Rattle.std.proofs.lemmas.List.{length-map}
 use Rattle.crl_model.specs.declared.event.Event.TheVariants as event
 use Rattle.crl_world.specs.Seen.{world_seen}
-use Rattle.crl_node_tests.proofs.Reaching.{carry_node, piece_leaves, piece_framed, passed_reached}
+use Rattle.crl_node_tests.proofs.Reaching.{piece_leaves, piece_framed, passed_reached}
 use Rattle.crl_node_tests.proofs.driving.carry.Goals as goal
+use Rattle.crl_deeds.proofs.Laws.{carry_node}
 
 pub carry-requires-clause-node : goal.carry-requires-clause-node
 carry-requires-clause-node g c =

@@ -2,8 +2,9 @@ use Rattle.std.proofs.Common.{◌<◌, subst}
 use Rattle.std.proofs.lemmas.List.{length-map}
 use Rattle.crl_model.specs.declared.event.Event.TheVariants as event
 use Rattle.crl_world.specs.Seen.{world_seen}
-use Rattle.crl_node_tests.proofs.Reaching.{handle_node, piece_safe, passed_reached}
+use Rattle.crl_node_tests.proofs.Reaching.{piece_safe, passed_reached}
 use Rattle.crl_node_tests.proofs.driving.handle.Goals as goal
+use Rattle.crl_deeds.proofs.Laws.{handle_node}
 
 pub handle-requires-clause-node : goal.handle-requires-clause-node
 handle-requires-clause-node g c =

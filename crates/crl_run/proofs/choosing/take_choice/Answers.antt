@@ -5,9 +5,9 @@ use Rattle.crl_model.specs.declared.event.Event.TheVariants as event
 use Rattle.crl_run.specs.Making.{IsKeptFrom}
 use Rattle.crl_run.specs.PlayerState.{PlayerState}
 use Rattle.crl_world.specs.Seen.{world_seen}
-use Rattle.crl_run.proofs.Playing.{collect_node, handle_node, carry_node}
 use Rattle.crl_run.proofs.Choices.{some_counted, some_safe, some_piece, some_leaves, some_framed, collect_may, handle_may, carry_may, answer_chosen, handle_chosen, carry_chosen}
 use Rattle.crl_run.proofs.choosing.take_choice.Goals as goal
+use Rattle.crl_deeds.proofs.Laws.{collect_node, handle_node, carry_node}
 
 pub bounds-players-i : goal.bounds-players-i
 bounds-players-i g c =

@@ -1,11 +1,12 @@
-use Rattle.std.proofs.Common.{◌≡◌, true}
+use Rattle.std.proofs.Common.{◌≡◌, true, ap}
 use Rattle.crl_protocol.specs.World.{is_free}
-use Rattle.crl_world.proofs.Doing.{Stands, call_free, of_node, has_room, may_call, kept_stays, not_done, call_kept, call_done}
+use Rattle.crl_world.proofs.Doing.{Stands, of_node, has_room, may_call, kept_stays, not_done, call_kept, call_done}
+use Rattle.crl_deeds.proofs.Laws as enabled
 use Rattle.crl_world.proofs.world.World.call_judged.Goals as goal
 
 pub call_judged-requires-clause-free : goal.call_judged-requires-clause-free
 call_judged-requires-clause-free g c =
-    of_node (record { is = c.self.view_is; below = c.requires.node; here = c.index_mut.ensures.value; kept = c.self.invariant }) (λ m. is_free m.activity ≡ true) (call_free _ _ _ c.requires.enabled)
+    of_node (record { is = c.self.view_is; below = c.requires.node; here = c.index_mut.ensures.value; kept = c.self.invariant }) (λ m. is_free m.activity ≡ true) (ap is_free (enabled.may_call _ _ _ c.requires.enabled).1)
 
 pub call_judged-requires-clause-may : goal.call_judged-requires-clause-may
 call_judged-requires-clause-may g c =

@@ -1,13 +1,14 @@
 use Rattle.std.proofs.Common.{◌<◌, length, ◌∙◌}
 use Rattle.crl_world.proofs.Doing.{Stands, of_node, has_room}
-use Rattle.crl_world.proofs.Carried.{carry_there, carry_places, carry_piece, carry_framed, carry_done_refilled}
+use Rattle.crl_world.proofs.Carried.{carry_places, carry_piece, carry_framed, carry_done_refilled}
+use Rattle.crl_deeds.proofs.Laws.{may_carry}
 use Rattle.crl_world.proofs.world.World.carry.Goals as goal
 
 pub addressee-j-requires : goal.addressee-j-requires
 addressee-j-requires g c =
     let b : Stands g.N.Member.state c.self.inside.nodes.items c.self.inside.events c.self.inside.capacity c.args.i c.index.result.now c.args.self.now =
     record { is = c.self.view_is; below = c.requires.node; here = c.index.ensures; kept = c.self.invariant } in
-    of_node b (λ m. c.args.place < length m.outbox) (carry_there _ _ _ c.requires.enabled)
+    of_node b (λ m. c.args.place < length m.outbox) (may_carry _ _ _ c.requires.enabled).1
 
 pub carry_between-requires-clause-places : goal.carry_between-requires-clause-places
 carry_between-requires-clause-places g c =

@@ -1,12 +1,13 @@
 use Rattle.std.proofs.Common.{◌<◌, length}
-use Rattle.crl_world.proofs.Doing.{Stands, handle_there, of_node, has_room, kept_stays, not_done, handle_kept, handle_done}
+use Rattle.crl_world.proofs.Doing.{Stands, of_node, has_room, kept_stays, not_done, handle_kept, handle_done}
+use Rattle.crl_deeds.proofs.Laws as enabled
 use Rattle.crl_world.proofs.world.World.handle.Goals as goal
 
 pub handle-requires-clause-there : goal.handle-requires-clause-there
 handle-requires-clause-there g c =
     let b : Stands g.N.Member.state c.self.inside.nodes.items c.self.inside.events c.self.inside.capacity c.args.i c.index_mut.result.now c.args.self.now =
     record { is = c.self.view_is; below = c.requires.node; here = c.index_mut.ensures.value; kept = c.self.invariant } in
-    of_node b (λ m. c.args.place < length m.inbox) (handle_there _ _ _ c.requires.enabled)
+    of_node b (λ m. c.args.place < length m.inbox) (enabled.may_handle _ _ _ c.requires.enabled).1
 
 pub invariant_of-self : goal.invariant_of-self
 invariant_of-self g c =
