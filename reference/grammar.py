@@ -13,7 +13,7 @@ from machine import Machine
 
 LINE_LIMIT = 140_000
 NODE_LIMIT = 64
-ACCOUNT_LIMIT = 2**24
+ACCOUNT_LIMIT = 2**28
 LAST_U16, LAST_U32, LAST_U64 = (2**bits - 1 for bits in (16, 32, 64))
 
 # ---------------------------------------------------------------------------------------------- lines

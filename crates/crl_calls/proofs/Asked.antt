@@ -19,7 +19,7 @@ use Rattle.crl_calls.specs.declared.caller.Caller.{Caller}
 use Rattle.crl_calls.specs.declared.faults.CallFault.{CallFault}
 use Rattle.crl_calls.specs.declared.faults.CallFault.TheVariants as fault
 use Rattle.crl_calls.specs.Answers.{may_refuse}
-use Rattle.crl_calls.specs.Callers.{knows, IsCallerOf, IsAnswered, IsFaulted, IsSpent}
+use Rattle.crl_calls.specs.Callers.{knows, IsCallerOf, IsSpent, Tells}
 use Rattle.crl_calls.specs.Trails.{Walks, AnswersCall, unmade}
 use Rattle.crl_calls.specs.Tries.{is_full, IsNever, IsGiven}
 use Rattle.crl_calls.proofs.Walking.{walk_none}
@@ -61,7 +61,7 @@ asked_caller cluster s c old new r is here node spent told =
 
 pub asked_told : {Out : Type 0} (s : Shape) (c : Call) (gives : Out → Answer → Type 0) (word : CallKind) (old new : Caller) (r : Result Told Never) (q : Result Out CallFault)
     → word ≡ word_of c → old.spent ≡ false → new.node ≡ old.node → new.spent ≡ is_full r → CallTold s old.node c (knows old) (knows new) r → IsGiven gives word r q
-    → MatchResult q (λ out. IsAnswered s c old (λ _ answer. gives out answer) new) (λ why. IsFaulted s c old why new)
+    → Tells s c old gives q new
 asked_told s c gives word old new (Ok told) (Ok out) same awake node spent is given =
     record { awake = record { node = node; before = awake; after = spent }; later = told.later; answer = told.answer; gives = given; call = is }
 asked_told s c gives word old new (Ok told) (Err (fault.Refused why)) same awake node spent is given = record {

@@ -32,7 +32,7 @@ use Rattle.crl_calls.specs.declared.ending.Ended.TheVariants as ended
 use Rattle.crl_calls.specs.declared.faults.EndFault.{EndFault}
 use Rattle.crl_calls.specs.declared.faults.EndWhy.{EndWhy}
 use Rattle.crl_calls.specs.declared.faults.EndWhy.TheVariants as end
-use Rattle.crl_calls.specs.Callers.{knows, IsCallerOf, EndsSection, IsSpentBefore, IsNotEnded, is_allowed}
+use Rattle.crl_calls.specs.Callers.{knows, IsCallerOf, IsSpentBefore, IsNotEnded, TellsEnd, is_allowed}
 use Rattle.crl_calls.specs.Trails.{Walks, Moves, Does}
 use Rattle.crl_calls.specs.Tries.{ended_of, stops, is_full_end, EndsHeld, DoesEnd, IsNeverEnded, IsEnded}
 use Rattle.crl_calls.proofs.Walking.{last_event, last_around, walk_event, walk_undone, walk_around}
@@ -154,7 +154,7 @@ not_ended s may_end old new end.Spent awake node spent is =
 
 pub ended_told : {G : Type 0} (s : Shape) (c : Call) (may_end : Node → Bool) (guard : G) (old new : Caller) (r : Result (Unit {0}) (EndFault G)) → old.spent ≡ false → new.node ≡ old.node → new.spent ≡ is_full_end r
     → EndTold s old.node c may_end guard (knows old) (knows new) r
-    → MatchResult r (λ _. EndsSection s c may_end old new) (λ back. (back.guard ≡ guard) × IsNotEnded s may_end old back.why new)
+    → TellsEnd s c may_end old guard r new
 ended_told s c may_end guard old new (Ok done) awake node spent is =
     let made = answered_at_once s old.node c (knows old) Done (knows new) is.does in
     record { answered = record { awake = record { node = node; before = awake; after = spent }; later = false; answer = Done; gives = (refl, refl); call = made }; may = is.may }

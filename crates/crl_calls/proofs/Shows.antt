@@ -2,7 +2,7 @@
 use Rattle.std.proofs.Common.{◌≡◌, List, sym, ap, ◌∙◌, subst}
 use Rattle.crl_model.specs.declared.event.Event.{Event}
 use Rattle.crl_machine.specs.SingleMachine.{after_all}
-use Rattle.std.specs.Prelude.{MatchResult, IfOk}
+use Rattle.std.specs.Prelude.{IfOk}
 use Rattle.std.specs.declared.result.Result.{Result}
 use Rattle.std.specs.declared.result.Result.TheVariants.{Ok, Err}
 use Rattle.crl_model.specs.declared.call.Call.{Call}
@@ -18,7 +18,7 @@ use Rattle.crl_cluster.specs.Standing.{world_at}
 use Rattle.crl_calls.specs.Trails.{Ends}
 use Rattle.crl_calls.specs.declared.caller.Caller.{Caller}
 use Rattle.crl_calls.specs.declared.faults.CallFault.{CallFault}
-use Rattle.crl_calls.specs.Callers.{knows, IsAnswered}
+use Rattle.crl_calls.specs.Callers.{knows, Tells}
 use Rattle.crl_calls.specs.Shown.{machine_at, ShowsArray, AnswerShowsArray}
 
 pub shows_array : (s : Shape) (e : Event) (answer : Answer) (front : List Event) → Ends s e answer front → AnswerShowsArray s front answer
@@ -30,12 +30,12 @@ shows_array s e answer front ends =
     let here : AnswerShows after answer = subst (λ a. AnswerShows after a) (sym ends.answer_is) shown in
     subst (λ t. AnswerShows t answer) (sym at_last) here
 
-pub shown_read : (s : Shape) (c : Call) (old new : Caller) (name : Name) (Q : CallFault → Type 0) (r : Result Guard CallFault)
-    → MatchResult r (λ guard. IsAnswered s c old (λ _ answer. (guard.name ≡ name) × (answer ≡ Reading guard)) new) Q → IfOk r (λ guard. ShowsArray s (knows new).front guard)
-shown_read s c old new name Q (Ok guard) is = subst (λ a. AnswerShowsArray s (knows new).front a) is.gives.1 (shows_array s _ is.answer (knows new).front is.call.ends)
-shown_read s c old new name Q (Err why) is = tt
+pub shown_read : (s : Shape) (c : Call) (old new : Caller) (name : Name) (r : Result Guard CallFault)
+    → Tells s c old (λ guard answer. (guard.name ≡ name) × (answer ≡ Reading guard)) r new → IfOk r (λ guard. ShowsArray s (knows new).front guard)
+shown_read s c old new name (Ok guard) is = subst (λ a. AnswerShowsArray s (knows new).front a) is.gives.1 (shows_array s _ is.answer (knows new).front is.call.ends)
+shown_read s c old new name (Err why) is = tt
 
-pub shown_write : (s : Shape) (c : Call) (old new : Caller) (name : Name) (Q : CallFault → Type 0) (r : Result Guard CallFault)
-    → MatchResult r (λ guard. IsAnswered s c old (λ _ answer. (guard.name ≡ name) × (answer ≡ Writing guard)) new) Q → IfOk r (λ guard. ShowsArray s (knows new).front guard)
-shown_write s c old new name Q (Ok guard) is = subst (λ a. AnswerShowsArray s (knows new).front a) is.gives.1 (shows_array s _ is.answer (knows new).front is.call.ends)
-shown_write s c old new name Q (Err why) is = tt
+pub shown_write : (s : Shape) (c : Call) (old new : Caller) (name : Name) (r : Result Guard CallFault)
+    → Tells s c old (λ guard answer. (guard.name ≡ name) × (answer ≡ Writing guard)) r new → IfOk r (λ guard. ShowsArray s (knows new).front guard)
+shown_write s c old new name (Ok guard) is = subst (λ a. AnswerShowsArray s (knows new).front a) is.gives.1 (shows_array s _ is.answer (knows new).front is.call.ends)
+shown_write s c old new name (Err why) is = tt

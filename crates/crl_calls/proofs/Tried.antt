@@ -1,5 +1,5 @@
 -- What one try tells, and tries one after another.
-use Rattle.std.proofs.Common.{◌≡◌, ℕ, refl, subst}
+use Rattle.std.proofs.Common.{◌≡◌, ℕ, refl, sym, subst}
 use Rattle.std.specs.Prelude.{MatchResult, OnErr}
 use Rattle.std.specs.declared.result.Result.{Result}
 use Rattle.std.specs.declared.result.Result.TheVariants.{Ok, Err}
@@ -16,9 +16,9 @@ use Rattle.crl_cluster.specs.declared.faults.TryFault.TheVariants.{Busy, Nothing
 use Rattle.crl_cluster.specs.Acting.{Comes, IsDone}
 use Rattle.crl_cluster.specs.Trying.{Alone, IsNotTried, IsCarried, IsNotCarried, HasNoPiece}
 use Rattle.crl_calls.specs.Trails.{Moves, MovesToTheEnd, Does}
-use Rattle.crl_calls.specs.Tries.{tried_of, taken_of, IsTried, IsTaken}
+use Rattle.crl_calls.specs.Tries.{never_of, IsNever}
 use Rattle.crl_calls.proofs.Walking.{walk_untried, walk_handled, walk_carried, walk_uncarried, walk_done, full_untried, full_uncarried, ends_alone, last_alone}
-use Rattle.crl_calls.proofs.Telling.{moves_walk, moves_one, does_now}
+use Rattle.crl_calls.proofs.Telling.{moves_walk, moves_one, moves_then, does_now, full_unmade}
 
 abbrev HandleTold : Shape → ℕ → ℕ → View → View → Result (Unit {0}) TryFault → Type 0
 HandleTold s node place old new r = MatchResult r (λ _. Alone s node old new (Comes s (event.Handle node place))) (λ why. IsNotTried s node (HasNoPiece node place) old why new)
@@ -50,18 +50,25 @@ carried_told s node place old new r (Err full) told on =
 pub tried_does : (s : Shape) (node : ℕ) (e : Event) (answer : Answer) (old new : View) → Alone s node old new (λ held done. IsDone s e held answer done) → Does s e old answer new
 tried_does s node e answer old new alone = does_now s e old answer new (walk_done s node e answer old new alone) (ends_alone s node e answer old new alone) (last_alone s node e answer old new alone)
 
-pub tried_not : (s : Shape) (node : ℕ) (c back : Call) (HasNothing : World → Type 0) (old new : View) (why : TryFault) → back ≡ c → IsNotTried s node HasNothing old why new → IsTried s node c old (tried_of why back) new
-tried_not s node c back HasNothing old new (Busy out) same is = (same, moves_walk old new (walk_untried s node HasNothing old new (Busy out) is))
-tried_not s node c back HasNothing old new Nothing same is = (same, moves_walk old new (walk_untried s node HasNothing old new Nothing is))
-tried_not s node c back HasNothing old new (Step fault.OutOfMemory) same is = moves_walk old new (walk_untried s node HasNothing old new (Step fault.OutOfMemory) is)
-tried_not s node c back HasNothing old new (Step (fault.Moved saw found)) same is = (same, moves_walk old new (walk_untried s node HasNothing old new (Step (fault.Moved saw found)) is))
-tried_not s node c back HasNothing old new (Step fault.Spent) same is =
-    (moves_walk old new (walk_untried s node HasNothing old new (Step fault.Spent) is), full_untried s node HasNothing old new is)
+-- a call that was not made at a try, after pieces were moved
+pub untried : (s : Shape) (node : ℕ) (c : Call) (HasNothing : World → Type 0) (old mid new : View) (why : TryFault) → Moves old mid → IsNotTried s node HasNothing mid why new
+    → MatchResult (never_of why) (λ _. Moves old new) (λ never. IsNever node c old never new)
+untried s node c HasNothing old mid new why first is =
+    told why is (moves_then old mid new first (moves_walk mid new (walk_untried s node HasNothing mid new why is))) where
+      told : (why : TryFault) → IsNotTried s node HasNothing mid why new → Moves old new → MatchResult (never_of why) (λ _. Moves old new) (λ never. IsNever node c old never new)
+      told (Busy out) is moves = moves
+      told Nothing is moves = moves
+      told (Step fault.OutOfMemory) is moves = moves
+      told (Step (fault.Moved saw found)) is moves = moves
+      told (Step fault.Spent) is moves = full_unmade node c old new (moves, full_untried s node HasNothing mid new is)
 
-pub taken_not : (s : Shape) (node : ℕ) (HasNothing : World → Type 0) (old new : View) (why : TryFault) → IsNotTried s node HasNothing old why new → IsTaken s node old (taken_of why) new
-taken_not s node HasNothing old new (Busy out) is = moves_walk old new (walk_untried s node HasNothing old new (Busy out) is)
-taken_not s node HasNothing old new Nothing is = moves_walk old new (walk_untried s node HasNothing old new Nothing is)
-taken_not s node HasNothing old new (Step fault.OutOfMemory) is = moves_walk old new (walk_untried s node HasNothing old new (Step fault.OutOfMemory) is)
-taken_not s node HasNothing old new (Step (fault.Moved saw found)) is = moves_walk old new (walk_untried s node HasNothing old new (Step (fault.Moved saw found)) is)
-taken_not s node HasNothing old new (Step fault.Spent) is =
-    (moves_walk old new (walk_untried s node HasNothing old new (Step fault.Spent) is), full_untried s node HasNothing old new is)
+-- an answer that was not taken at a try
+pub untaken : (s : Shape) (node : ℕ) (HasNothing : World → Type 0) (old mid new : View) (why : TryFault) → Moves old mid → IsNotTried s node HasNothing mid why new → Moves old new
+untaken s node HasNothing old mid new why first is = moves_then old mid new first (moves_walk mid new (walk_untried s node HasNothing mid new why is))
+
+pub untaken_at_the_end : (s : Shape) (node : ℕ) (HasNothing : World → Type 0) (old mid new : View) (why : TryFault) (r : Result (Unit {0}) TryFault)
+    → Moves old mid → IsNotTried s node HasNothing mid why new → r ≡ Err why → r ≡ Err (Step fault.Spent) → MovesToTheEnd old new
+untaken_at_the_end s node HasNothing old mid new why r first is same spent =
+    let of_err : MatchResult r (λ _. Unit {0}) (λ w. IsNotTried s node HasNothing mid w new) = subst (λ r. MatchResult r (λ _. Unit {0}) (λ w. IsNotTried s node HasNothing mid w new)) (sym same) is in
+    let full : IsNotTried s node HasNothing mid (Step fault.Spent) new = subst (λ r. MatchResult r (λ _. Unit {0}) (λ w. IsNotTried s node HasNothing mid w new)) spent of_err in
+    (untaken s node HasNothing old mid new why first is, full_untried s node HasNothing mid new full)

@@ -1,7 +1,8 @@
 -- What the calls of a program tell.
-use Rattle.std.specs.Prelude.{◌≡◌, ℕ, ◌<◌, ◌^◌, Bool, true, false, ◌&&◌, List, [], length, slice_get, Some}
+use Rattle.std.specs.Prelude.{◌≡◌, ℕ, ◌<◌, ◌^◌, Bool, true, false, ◌&&◌, List, [], length, slice_get, Some, MatchResult}
 use Rattle.std.specs.declared.option.Option.{Option}
 use Rattle.std.specs.declared.option.Option.TheVariants.{None}
+use Rattle.std.specs.declared.result.Result.{Result}
 use Rattle.crl_model.specs.declared.call.Call.{Call}
 use Rattle.crl_model.specs.declared.call.Call.TheVariants as call
 use Rattle.crl_model.specs.declared.call.Refusal.{Refusal}
@@ -21,6 +22,7 @@ use Rattle.crl_cluster.specs.Starting.{shape_with}
 use Rattle.crl_calls.specs.declared.caller.Caller.{Caller}
 use Rattle.crl_calls.specs.declared.faults.CallFault.{CallFault}
 use Rattle.crl_calls.specs.declared.faults.CallFault.TheVariants as fault
+use Rattle.crl_calls.specs.declared.faults.EndFault.{EndFault}
 use Rattle.crl_calls.specs.declared.faults.EndWhy.{EndWhy}
 use Rattle.crl_calls.specs.declared.faults.EndWhy.TheVariants as end
 use Rattle.crl_calls.specs.Answers.{may_refuse}
@@ -100,6 +102,10 @@ IsFaulted s c old (fault.Refused why) new = IsRefused s c old why new
 IsFaulted s c old fault.OutOfMemory new = IsUnmade old new
 IsFaulted s c old fault.Spent new = IsSpent c old new
 
+-- What a call tells: that it was answered, and how its answer gives the result; or why it has no answer that is Ok.
+abbrev pub Tells : {Out : Type 0} → Shape → Call → Caller → (Out → Answer → Type 0) → Result Out CallFault → Caller → Type 0
+Tells s c old gives result new = MatchResult result (λ out. IsAnswered s c old (λ _ answer. gives out answer) new) (λ why. IsFaulted s c old why new)
+
 -- A guard that ends its section: it is of a section that is open at the node, and that may end.
 abbrev pub is_allowed : Option Refusal → Bool
 is_allowed None = true
@@ -120,3 +126,7 @@ pub record EndsSection (s : Shape) (c : Call) (may_end : Node → Bool) (old new
 abbrev pub IsNotEnded : Shape → (Node → Bool) → Caller → EndWhy → Caller → Type 0
 IsNotEnded s may_end old end.Foreign new = IsUnmade old new × (may_end ((world_at s (knows new).front).nodes old.node) ≡ false)
 IsNotEnded s may_end old end.Spent new = IsSpentBefore old new
+
+-- What the end of a section tells: that it was ended; or why not, and the guard came back.
+abbrev pub TellsEnd : {G : Type 0} → Shape → Call → (Node → Bool) → Caller → G → Result (Unit {0}) (EndFault G) → Caller → Type 0
+TellsEnd s c may_end old guard result new = MatchResult result (λ _. EndsSection s c may_end old new) (λ back. (back.guard ≡ guard) × IsNotEnded s may_end old back.why new)

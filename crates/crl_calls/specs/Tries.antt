@@ -17,11 +17,7 @@ use Rattle.crl_cluster.specs.Acting.{IsDone}
 use Rattle.crl_cluster.specs.Standing.{world_at}
 use Rattle.crl_calls.specs.declared.asking.Never.{Never}
 use Rattle.crl_calls.specs.declared.asking.Never.TheVariants as never
-use Rattle.crl_calls.specs.declared.asking.Taken.{Taken}
-use Rattle.crl_calls.specs.declared.asking.Taken.TheVariants as taken
 use Rattle.crl_calls.specs.declared.asking.Told.{Told}
-use Rattle.crl_calls.specs.declared.asking.Tried.{Tried}
-use Rattle.crl_calls.specs.declared.asking.Tried.TheVariants as tried
 use Rattle.crl_calls.specs.declared.ending.Ended.{Ended}
 use Rattle.crl_calls.specs.declared.ending.Ended.TheVariants as ended
 use Rattle.crl_calls.specs.declared.faults.CallFault.{CallFault}
@@ -32,34 +28,14 @@ use Rattle.crl_calls.specs.declared.faults.EndWhy.TheVariants as end
 use Rattle.crl_calls.specs.Answers.{may_refuse}
 use Rattle.crl_calls.specs.Trails.{Moves, MovesToTheEnd, EndsWhere, Does, RunsFull}
 
--- How a try ended, by why nothing was done. What passes: a turn that is out, a node that isn't free or ready yet, a count
--- that had moved on; and for an answer that is to be taken, want of memory.
-abbrev pub tried_of : TryFault → Call → Tried
-tried_of (Busy node) back = tried.Again back
-tried_of Nothing back = tried.Again back
-tried_of (Step step.OutOfMemory) back = tried.OutOfMemory
-tried_of (Step (step.Moved saw found)) back = tried.Again back
-tried_of (Step step.Spent) back = tried.Full
-
-abbrev pub taken_of : TryFault → Taken
-taken_of (Busy node) = taken.Again
-taken_of Nothing = taken.Again
-taken_of (Step step.OutOfMemory) = taken.Again
-taken_of (Step (step.Moved saw found)) = taken.Again
-taken_of (Step step.Spent) = taken.Full
-
--- what a try tells to make a call
-abbrev pub IsTried : Shape → ℕ → Call → View → Tried → View → Type 0
-IsTried s node c old (tried.Answered answer) new = Does s (event.Call node c) old answer new
-IsTried s node c old (tried.Again back) new = (back ≡ c) × Moves old new
-IsTried s node c old tried.OutOfMemory new = Moves old new
-IsTried s node c old tried.Full new = MovesToTheEnd old new
-
--- and what one tells to take its answer
-abbrev pub IsTaken : Shape → ℕ → View → Taken → View → Type 0
-IsTaken s node old (taken.Answered answer) new = Does s (event.Collect node) old answer new
-IsTaken s node old taken.Again new = Moves old new
-IsTaken s node old taken.Full new = MovesToTheEnd old new
+-- Why a call that was not made never will be. What else was in its way passes: a turn that is out, a node that isn't free, a
+-- count that had moved on.
+abbrev pub never_of : TryFault → Result (Unit {0}) Never
+never_of (Busy node) = Ok tt
+never_of Nothing = Ok tt
+never_of (Step step.OutOfMemory) = Err never.OutOfMemory
+never_of (Step (step.Moved saw found)) = Ok tt
+never_of (Step step.Spent) = Err never.Full
 
 -- what a call tells that gets no answer
 abbrev pub IsNever : ℕ → Call → View → Never → View → Type 0

@@ -5,20 +5,20 @@ ghost use Rattle.crl_model.specs.declared.event.Event.TheVariants as event;
 ghost use Rattle.crl_protocol.specs.Verdict.{word_of};
 ghost use Rattle.crl_cluster.specs.Clusters.{view_of, shape_of, node_count, IsOf};
 ghost use Rattle.crl_calls.specs.Trails.{Does, MovesToTheEnd, AnswersCall};
-ghost use Rattle.crl_calls.specs.Tries.{tried_of, taken_of, is_full, IsTried, IsTaken, IsNever, IsGiven};
-ghost use Rattle.crl_calls.specs.Callers.{IsCallerOf, IsAnswered, IsFaulted};
+ghost use Rattle.crl_calls.specs.Tries.{never_of, is_full, IsNever, IsGiven};
+ghost use Rattle.crl_calls.specs.Callers.{IsCallerOf, Tells};
 
 use crate::caller::Caller;
 use crate::faults::CallFault;
 use crate::forms::Form;
-use crate::moving::{Full, move_all};
+use crate::moving::{Full, full_if, move_all};
 use crate::refusals::may_refuse;
 use crl_cluster::{Cluster, Pass, StepFault, TryFault};
-use crl_guard::{Reading, Writing};
+use crl_guard::{Reading, Standing, Writing};
 use crl_member::Member;
 use crl_model::NodeNo;
 use crl_model::activity::Answer;
-use crl_model::call::Call;
+use crl_model::call::{Call, CallKind};
 use std::sync::Wait;
 use std::thread;
 
@@ -31,76 +31,23 @@ pub(crate) enum Never {
     Full,
 }
 
-/// How a try to make a call ended.
-enum Tried {
-    Answered(Answer<Reading, Writing>),
-    /// It can be tried again.
-    Again(Call),
-    OutOfMemory,
-    Full,
-}
-
-/// How a try to take an answer ended.
-enum Taken {
-    Answered(Answer<Reading, Writing>),
-    /// It can be tried again.
-    Again,
-    Full,
-}
-
 /// An answer, and whether it was collected.
 struct Told {
     answer: Answer<Reading, Writing>,
     later: bool,
 }
 
-/// How the try to make this call ended, that was not made.
-fn not_made(why: TryFault, back: Call) -> Tried
-    ensures { result ≡ tried_of why back }
+/// Why a call that was not made never will be. What else was in its way passes: a turn that is out, a node that isn't free, a
+/// count that had moved on.
+fn never_if(why: TryFault) -> Result<(), Never>
+    ensures { result ≡ never_of why }
 {
     match why {
-        TryFault::Step(StepFault::OutOfMemory) => {
-            drop(back);
-            Tried::OutOfMemory
-        }
-        TryFault::Step(StepFault::Spent) => {
-            drop(back);
-            Tried::Full
-        }
+        TryFault::Step(StepFault::OutOfMemory) => Err(Never::OutOfMemory),
+        TryFault::Step(StepFault::Spent) => Err(Never::Full),
         TryFault::Step(StepFault::Moved { saw: _, found: _ })
         | TryFault::Busy { node: _ }
-        | TryFault::Nothing => Tried::Again(back),
-    }
-}
-
-/// How the try to take an answer ended, that was not taken. Want of memory passes.
-fn not_taken(why: TryFault) -> Taken
-    ensures { result ≡ taken_of why }
-{
-    match why {
-        TryFault::Step(StepFault::Spent) => Taken::Full,
-        TryFault::Step(StepFault::OutOfMemory)
-        | TryFault::Step(StepFault::Moved { saw: _, found: _ })
-        | TryFault::Busy { node: _ }
-        | TryFault::Nothing => Taken::Again,
-    }
-}
-
-/// The node makes the call, if it can now.
-fn call_once<N: Member>(
-    cluster: &Cluster<N, ()>,
-    pass: &mut Pass,
-    node: NodeNo,
-    call: Call,
-) -> Tried
-    requires here { IsOf cluster.now pass.old }
-    requires node { node < node_count cluster.now }
-    ensures here { IsOf cluster.now pass.new }
-    ensures told { IsTried (shape_of cluster.now) node call (view_of pass.old) result (view_of pass.new) }
-{
-    match cluster.try_call(pass, node, call) {
-        Ok(answer) => Tried::Answered(answer),
-        Err(refused) => not_made(refused.why, refused.back),
+        | TryFault::Nothing => Ok(()),
     }
 }
 
@@ -121,11 +68,15 @@ fn call_at_last<R: Wait, N: Member>(
 {
     let mut call = call;
     for _ in rt.forever() {
-        match call_once(cluster, pass, node, call) {
-            Tried::Answered(answer) => return Ok(answer),
-            Tried::Again(back) => call = back,
-            Tried::OutOfMemory => return Err(Never::OutOfMemory),
-            Tried::Full => return Err(Never::Full),
+        match cluster.try_call(pass, node, call) {
+            Ok(answer) => return Ok(answer),
+            Err(refused) => {
+                if let Err(never) = never_if(refused.why) {
+                    drop(refused.back);
+                    return Err(never);
+                }
+                call = refused.back;
+            }
         }
         if let Err(Full) = move_all(cluster, pass) {
             drop(call);
@@ -133,19 +84,6 @@ fn call_at_last<R: Wait, N: Member>(
         }
     }
     unreachable!()
-}
-
-/// The node takes its answer, if it has one now.
-fn collect_once<N: Member>(cluster: &Cluster<N, ()>, pass: &mut Pass, node: NodeNo) -> Taken
-    requires here { IsOf cluster.now pass.old }
-    requires node { node < node_count cluster.now }
-    ensures here { IsOf cluster.now pass.new }
-    ensures told { IsTaken (shape_of cluster.now) node (view_of pass.old) result (view_of pass.new) }
-{
-    match cluster.try_collect(pass, node) {
-        Ok(answer) => Taken::Answered(answer),
-        Err(why) => not_taken(why),
-    }
 }
 
 /// The node takes the answer for which it waits. Want of memory passes.
@@ -163,10 +101,13 @@ fn collect_at_last<R: Wait, N: Member>(
         (λ _. MovesToTheEnd (view_of pass.old) (view_of pass.new)) }
 {
     for _ in rt.forever() {
-        match collect_once(cluster, pass, node) {
-            Taken::Answered(answer) => return Ok(answer),
-            Taken::Again => (),
-            Taken::Full => return Err(Full),
+        match cluster.try_collect(pass, node) {
+            Ok(answer) => return Ok(answer),
+            Err(why) => {
+                if let Err(Full) = full_if(Err(why)) {
+                    return Err(Full);
+                }
+            }
         }
         if let Err(Full) = move_all(cluster, pass) {
             return Err(Full);
@@ -206,14 +147,21 @@ fn answer_to<R: Wait, N: Member>(
     }
 }
 
+/// Lets an answer go. A guard in it is discarded.
+fn let_go(answer: Answer<Reading, Writing>) {
+    let mut standing = Standing::new();
+    standing.ready(answer);
+}
+
 /// What the answer gives by its form, or that it is a refusal which the call may meet. An answer that is neither is
 /// another's: then it doesn't return.
 fn given<R: Wait, F: Form>(
     rt: &R,
+    word: CallKind,
     form: &F,
     answer: Result<Told, Never>,
 ) -> Result<F::Out, CallFault>
-    ensures { IsGiven (F.gives form.now) (F.word form.now) answer result }
+    ensures { IsGiven (F.gives form.now) word answer result }
 {
     match answer {
         Ok(
@@ -222,13 +170,14 @@ fn given<R: Wait, F: Form>(
                 later,
             },
         ) => {
-            if may_refuse(form.word(), later, why) {
+            if may_refuse(word, later, why) {
                 return Err(CallFault::Refused(why));
             }
         }
         Ok(Told { answer, later: _ }) => {
-            if let Some(out) = form.take(answer) {
-                return Ok(out);
+            match form.take(answer) {
+                Ok(out) => return Ok(out),
+                Err(other) => let_go(other),
             }
         }
         Err(Never::OutOfMemory) => return Err(CallFault::OutOfMemory),
@@ -258,18 +207,18 @@ pub(crate) fn ask<R: Wait, N: Member, F: Form>(
     cluster: &Cluster<N, ()>,
     who: &mut Caller,
     call: Call,
+    word: CallKind,
     form: F,
 ) -> Result<F::Out, CallFault>
     requires caller { IsCallerOf cluster.now who.old }
-    requires word { F.word form ≡ word_of call }
+    requires word { word ≡ word_of call }
     ensures caller { IsCallerOf cluster.now who.new }
-    ensures told { let s = shape_of cluster.now in
-        MatchResult result (λ out. IsAnswered s call who.old (λ _ answer. F.gives form out answer) who.new) (λ why. IsFaulted s call who.old why who.new) }
+    ensures told { Tells (shape_of cluster.now) call who.old (F.gives form) result who.new }
 {
     if who.spent {
         return Err(CallFault::Spent);
     }
     let answer = answer_to(rt, cluster, &mut who.pass, who.node, call);
     who.spent = finds_full(&answer);
-    given(rt, &form, answer)
+    given(rt, word, &form, answer)
 }

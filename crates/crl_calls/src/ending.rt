@@ -7,7 +7,7 @@ ghost use Rattle.crl_protocol.specs.Verdict.{verdict};
 ghost use Rattle.crl_protocol.specs.World.{is_free};
 ghost use Rattle.crl_cluster.specs.Clusters.{view_of, shape_of, node_count, IsOf, IsHeld, IsSameHeld};
 ghost use Rattle.crl_cluster.specs.Acting.{IsDone, IsUndone};
-ghost use Rattle.crl_calls.specs.Callers.{IsCallerOf, EndsSection, IsNotEnded, is_allowed};
+ghost use Rattle.crl_calls.specs.Callers.{IsCallerOf, TellsEnd, is_allowed};
 ghost use Rattle.crl_calls.specs.Tries.{ended_of, is_full_end, EndsHeld, DoesEnd, IsEnded, IsNeverEnded};
 
 use crate::caller::Caller;
@@ -255,10 +255,7 @@ pub(crate) fn end_at_last<R: Wait, N: Member, G: Ending>(
 ) -> Result<(), EndFault<G>>
     requires caller { IsCallerOf cluster.now who.old }
     ensures caller { IsCallerOf cluster.now who.new }
-    ensures told { let s = shape_of cluster.now in
-        let c = G.call guard in
-        MatchResult result (λ _. EndsSection s c (λ n. G.may_end n guard) who.old who.new)
-        (λ back. (back.guard ≡ guard) × IsNotEnded s (λ n. G.may_end n guard) who.old back.why who.new) }
+    ensures told { TellsEnd (shape_of cluster.now) (G.call guard) (λ n. G.may_end n guard) who.old guard result who.new }
 {
     if who.spent {
         return Err(EndFault {

@@ -1,40 +1,27 @@
 //! What a call gives where it is not refused, by the form of its answer.
-ghost use Rattle.std.specs.Prelude.{◌≡◌, IfSome};
+ghost use Rattle.std.specs.Prelude.{◌≡◌, ℕ, List, IfOk};
+ghost use Rattle.crl_model.specs.declared.collective.Fold.TheVariants as fold;
+ghost use Rattle.crl_protocol.specs.Node as node;
 
 use crate::names::Mapped;
-use crl_guard::{Reading, Standing, Writing};
+use crl_guard::{Reading, Writing};
 use crl_model::activity::Answer;
 use crl_model::bytes::Bytes;
-use crl_model::call::CallKind;
 use crl_model::collective::Fold;
 use crl_model::name::Name;
 
 /// What a call gives where it is not refused.
 pub(crate) trait Form: Drop {
-    ghost use Rattle.crl_model.specs.declared.call.CallKind.{CallKind};
     ghost use Rattle.crl_protocol.specs.Node.{Answer};
 
     type Out;
 
-    // The word of the call.
-    ghost word: { Self → CallKind };
-
     // The answer gives this.
     ghost gives: { Self → Self.Out → Answer → Type 0 };
 
-    /// The word of the call.
-    fn word(&self) -> CallKind
-        ensures { result ≡ word self.now };
-
-    /// What the answer gives. None, and the answer is let go, where it is not of the form.
-    fn take(&self, answer: Answer<Reading, Writing>) -> Option<Self::Out>
-        ensures { IfSome result (λ out. gives self.now out answer) };
-}
-
-/// Lets an answer go. A guard in it is discarded.
-fn let_go(answer: Answer<Reading, Writing>) {
-    let mut standing = Standing::new();
-    standing.ready(answer);
+    /// What the answer gives. An answer that is not of the form comes back.
+    fn take(&self, answer: Answer<Reading, Writing>) -> Result<Self::Out, Answer<Reading, Writing>>
+        ensures { IfOk result (λ out. gives self.now out answer) };
 }
 
 /// A create gives the name.
@@ -42,27 +29,14 @@ fn let_go(answer: Answer<Reading, Writing>) {
 pub(crate) struct Creates;
 
 impl Form for Creates {
-    ghost use Rattle.std.specs.Prelude.{◌≡◌};
-    ghost use Rattle.crl_model.specs.declared.call.CallKind.TheVariants as kind;
-    ghost use Rattle.crl_protocol.specs.Node.{Made};
-
     type Out = Name;
 
-    ghost word = { λ _. kind.Create };
+    ghost gives = { λ _ name answer. answer ≡ node.Made name };
 
-    ghost gives = { λ _ name answer. answer ≡ Made name };
-
-    fn word(&self) -> CallKind {
-        CallKind::Create
-    }
-
-    fn take(&self, answer: Answer<Reading, Writing>) -> Option<Name> {
+    fn take(&self, answer: Answer<Reading, Writing>) -> Result<Name, Answer<Reading, Writing>> {
         match answer {
-            Answer::Made(name) => Some(name),
-            other => {
-                let_go(other);
-                None
-            }
+            Answer::Made(name) => Ok(name),
+            other => Err(other),
         }
     }
 }
@@ -74,58 +48,31 @@ pub(crate) struct Maps {
 }
 
 impl Form for Maps {
-    ghost use Rattle.std.specs.Prelude.{◌≡◌};
-    ghost use Rattle.crl_model.specs.declared.call.CallKind.TheVariants as kind;
-    ghost use Rattle.crl_protocol.specs.Node.{Mapped};
-
     type Out = Mapped;
 
-    ghost word = { λ _. kind.Map };
+    ghost gives = { λ form mapped answer. (mapped.name ≡ form.name) × (answer ≡ node.Mapped form.name mapped.size) };
 
-    ghost gives = { λ form mapped answer. (mapped.name ≡ form.name) × (answer ≡ Mapped form.name mapped.size) };
-
-    fn word(&self) -> CallKind {
-        CallKind::Map
-    }
-
-    fn take(&self, answer: Answer<Reading, Writing>) -> Option<Mapped> {
+    fn take(&self, answer: Answer<Reading, Writing>) -> Result<Mapped, Answer<Reading, Writing>> {
         match answer {
-            Answer::Mapped { name, size } if name == self.name => Some(Mapped { name, size }),
-            other => {
-                let_go(other);
-                None
-            }
+            Answer::Mapped { name, size } if name == self.name => Ok(Mapped { name, size }),
+            other => Err(other),
         }
     }
 }
 
 /// A delete, an unmap or a flush gives nothing.
 #[derive(Drop)]
-pub(crate) struct Does {
-    pub(crate) word: CallKind,
-}
+pub(crate) struct GivesNothing;
 
-impl Form for Does {
-    ghost use Rattle.std.specs.Prelude.{◌≡◌};
-    ghost use Rattle.crl_protocol.specs.Node.{Done};
-
+impl Form for GivesNothing {
     type Out = ();
 
-    ghost word = { λ form. form.word };
+    ghost gives = { λ _ _ answer. answer ≡ node.Done };
 
-    ghost gives = { λ _ _ answer. answer ≡ Done };
-
-    fn word(&self) -> CallKind {
-        self.word
-    }
-
-    fn take(&self, answer: Answer<Reading, Writing>) -> Option<()> {
+    fn take(&self, answer: Answer<Reading, Writing>) -> Result<(), Answer<Reading, Writing>> {
         match answer {
-            Answer::Done => Some(()),
-            other => {
-                let_go(other);
-                None
-            }
+            Answer::Done => Ok(()),
+            other => Err(other),
         }
     }
 }
@@ -137,34 +84,20 @@ pub(crate) struct StartsRead {
 }
 
 impl Form for StartsRead {
-    ghost use Rattle.std.specs.Prelude.{◌≡◌};
-    ghost use Rattle.crl_model.specs.declared.call.CallKind.TheVariants as kind;
-    ghost use Rattle.crl_protocol.specs.Node.{Reading};
-
     type Out = Reading;
 
-    ghost word = { λ _. kind.Read };
+    ghost gives = { λ form guard answer. (guard.name ≡ form.name) × (answer ≡ node.Reading guard) };
 
-    ghost gives = { λ form guard answer. (guard.name ≡ form.name) × (answer ≡ Reading guard) };
-
-    fn word(&self) -> CallKind {
-        CallKind::Read
-    }
-
-    fn take(&self, answer: Answer<Reading, Writing>) -> Option<Reading> {
+    fn take(&self, answer: Answer<Reading, Writing>) -> Result<Reading, Answer<Reading, Writing>> {
         match answer {
             Answer::Reading(guard) => {
                 if guard.name() == self.name {
-                    Some(guard)
+                    Ok(guard)
                 } else {
-                    guard.discard();
-                    None
+                    Err(Answer::Reading(guard))
                 }
             }
-            other => {
-                let_go(other);
-                None
-            }
+            other => Err(other),
         }
     }
 }
@@ -176,34 +109,20 @@ pub(crate) struct StartsWrite {
 }
 
 impl Form for StartsWrite {
-    ghost use Rattle.std.specs.Prelude.{◌≡◌};
-    ghost use Rattle.crl_model.specs.declared.call.CallKind.TheVariants as kind;
-    ghost use Rattle.crl_protocol.specs.Node.{Writing};
-
     type Out = Writing;
 
-    ghost word = { λ _. kind.Write };
+    ghost gives = { λ form guard answer. (guard.name ≡ form.name) × (answer ≡ node.Writing guard) };
 
-    ghost gives = { λ form guard answer. (guard.name ≡ form.name) × (answer ≡ Writing guard) };
-
-    fn word(&self) -> CallKind {
-        CallKind::Write
-    }
-
-    fn take(&self, answer: Answer<Reading, Writing>) -> Option<Writing> {
+    fn take(&self, answer: Answer<Reading, Writing>) -> Result<Writing, Answer<Reading, Writing>> {
         match answer {
             Answer::Writing(guard) => {
                 if guard.name() == self.name {
-                    Some(guard)
+                    Ok(guard)
                 } else {
-                    guard.discard();
-                    None
+                    Err(Answer::Writing(guard))
                 }
             }
-            other => {
-                let_go(other);
-                None
-            }
+            other => Err(other),
         }
     }
 }
@@ -213,31 +132,17 @@ impl Form for StartsWrite {
 pub(crate) struct Barriers;
 
 impl Form for Barriers {
-    ghost use Rattle.std.specs.Prelude.{◌≡◌, ℕ};
-    ghost use Rattle.crl_model.specs.declared.call.CallKind.TheVariants as kind;
-    ghost use Rattle.crl_model.specs.declared.collective.Fold.TheVariants as fold;
-    ghost use Rattle.crl_protocol.specs.Node.{Came};
-
     type Out = ();
 
-    ghost word = { λ _. kind.Barrier };
+    ghost gives = { λ _ _ answer. (round : ℕ) × (answer ≡ node.Came round fold.Barrier) };
 
-    ghost gives = { λ _ _ answer. (round : ℕ) × (answer ≡ Came round fold.Barrier) };
-
-    fn word(&self) -> CallKind {
-        CallKind::Barrier
-    }
-
-    fn take(&self, answer: Answer<Reading, Writing>) -> Option<()> {
+    fn take(&self, answer: Answer<Reading, Writing>) -> Result<(), Answer<Reading, Writing>> {
         match answer {
             Answer::Came {
                 round: _,
                 fold: Fold::Barrier,
-            } => Some(()),
-            other => {
-                let_go(other);
-                None
-            }
+            } => Ok(()),
+            other => Err(other),
         }
     }
 }
@@ -247,34 +152,17 @@ impl Form for Barriers {
 pub(crate) struct Sends;
 
 impl Form for Sends {
-    ghost use Rattle.std.specs.Prelude.{◌≡◌, ℕ, List};
-    ghost use Rattle.crl_model.specs.declared.call.CallKind.TheVariants as kind;
-    ghost use Rattle.crl_model.specs.declared.collective.Fold.TheVariants as fold;
-    ghost use Rattle.crl_protocol.specs.Node.{Came};
-
     type Out = ();
 
-    ghost word = { λ _. kind.Send };
+    ghost gives = { λ _ _ answer. (round : ℕ) × (sent : List ℕ) × (answer ≡ node.Came round (fold.Broadcast sent)) };
 
-    ghost gives = { λ _ _ answer. (round : ℕ) × (bytes : List ℕ) × (answer ≡ Came round (fold.Broadcast bytes)) };
-
-    fn word(&self) -> CallKind {
-        CallKind::Send
-    }
-
-    fn take(&self, answer: Answer<Reading, Writing>) -> Option<()> {
+    fn take(&self, answer: Answer<Reading, Writing>) -> Result<(), Answer<Reading, Writing>> {
         match answer {
             Answer::Came {
                 round: _,
-                fold: Fold::Broadcast(bytes),
-            } => {
-                drop(bytes);
-                Some(())
-            }
-            other => {
-                let_go(other);
-                None
-            }
+                fold: Fold::Broadcast(_),
+            } => Ok(()),
+            other => Err(other),
         }
     }
 }
@@ -284,31 +172,17 @@ impl Form for Sends {
 pub(crate) struct Receives;
 
 impl Form for Receives {
-    ghost use Rattle.std.specs.Prelude.{◌≡◌, ℕ};
-    ghost use Rattle.crl_model.specs.declared.call.CallKind.TheVariants as kind;
-    ghost use Rattle.crl_model.specs.declared.collective.Fold.TheVariants as fold;
-    ghost use Rattle.crl_protocol.specs.Node.{Came};
-
     type Out = Bytes;
 
-    ghost word = { λ _. kind.Receive };
+    ghost gives = { λ _ bytes answer. (round : ℕ) × (answer ≡ node.Came round (fold.Broadcast bytes)) };
 
-    ghost gives = { λ _ bytes answer. (round : ℕ) × (answer ≡ Came round (fold.Broadcast bytes)) };
-
-    fn word(&self) -> CallKind {
-        CallKind::Receive
-    }
-
-    fn take(&self, answer: Answer<Reading, Writing>) -> Option<Bytes> {
+    fn take(&self, answer: Answer<Reading, Writing>) -> Result<Bytes, Answer<Reading, Writing>> {
         match answer {
             Answer::Came {
                 round: _,
                 fold: Fold::Broadcast(bytes),
-            } => Some(bytes),
-            other => {
-                let_go(other);
-                None
-            }
+            } => Ok(bytes),
+            other => Err(other),
         }
     }
 }
@@ -318,99 +192,57 @@ impl Form for Receives {
 pub(crate) struct Sums;
 
 impl Form for Sums {
-    ghost use Rattle.std.specs.Prelude.{◌≡◌, ℕ};
-    ghost use Rattle.crl_model.specs.declared.call.CallKind.TheVariants as kind;
-    ghost use Rattle.crl_model.specs.declared.collective.Fold.TheVariants as fold;
-    ghost use Rattle.crl_protocol.specs.Node.{Came};
-
     type Out = i128;
 
-    ghost word = { λ _. kind.Sum };
+    ghost gives = { λ _ value answer. (round : ℕ) × (answer ≡ node.Came round (fold.Sum value)) };
 
-    ghost gives = { λ _ value answer. (round : ℕ) × (answer ≡ Came round (fold.Sum value)) };
-
-    fn word(&self) -> CallKind {
-        CallKind::Sum
-    }
-
-    fn take(&self, answer: Answer<Reading, Writing>) -> Option<i128> {
+    fn take(&self, answer: Answer<Reading, Writing>) -> Result<i128, Answer<Reading, Writing>> {
         match answer {
             Answer::Came {
                 round: _,
                 fold: Fold::Sum(value),
-            } => Some(value),
-            other => {
-                let_go(other);
-                None
-            }
+            } => Ok(value),
+            other => Err(other),
         }
     }
 }
 
 /// The least of the values.
 #[derive(Drop)]
-pub(crate) struct Mins;
+pub(crate) struct Leasts;
 
-impl Form for Mins {
-    ghost use Rattle.std.specs.Prelude.{◌≡◌, ℕ};
-    ghost use Rattle.crl_model.specs.declared.call.CallKind.TheVariants as kind;
-    ghost use Rattle.crl_model.specs.declared.collective.Fold.TheVariants as fold;
-    ghost use Rattle.crl_protocol.specs.Node.{Came};
-
+impl Form for Leasts {
     type Out = i64;
 
-    ghost word = { λ _. kind.Min };
+    ghost gives = { λ _ value answer. (round : ℕ) × (answer ≡ node.Came round (fold.Min value)) };
 
-    ghost gives = { λ _ value answer. (round : ℕ) × (answer ≡ Came round (fold.Min value)) };
-
-    fn word(&self) -> CallKind {
-        CallKind::Min
-    }
-
-    fn take(&self, answer: Answer<Reading, Writing>) -> Option<i64> {
+    fn take(&self, answer: Answer<Reading, Writing>) -> Result<i64, Answer<Reading, Writing>> {
         match answer {
             Answer::Came {
                 round: _,
                 fold: Fold::Min(value),
-            } => Some(value),
-            other => {
-                let_go(other);
-                None
-            }
+            } => Ok(value),
+            other => Err(other),
         }
     }
 }
 
 /// The greatest of the values.
 #[derive(Drop)]
-pub(crate) struct Maxs;
+pub(crate) struct Greatests;
 
-impl Form for Maxs {
-    ghost use Rattle.std.specs.Prelude.{◌≡◌, ℕ};
-    ghost use Rattle.crl_model.specs.declared.call.CallKind.TheVariants as kind;
-    ghost use Rattle.crl_model.specs.declared.collective.Fold.TheVariants as fold;
-    ghost use Rattle.crl_protocol.specs.Node.{Came};
-
+impl Form for Greatests {
     type Out = i64;
 
-    ghost word = { λ _. kind.Max };
+    ghost gives = { λ _ value answer. (round : ℕ) × (answer ≡ node.Came round (fold.Max value)) };
 
-    ghost gives = { λ _ value answer. (round : ℕ) × (answer ≡ Came round (fold.Max value)) };
-
-    fn word(&self) -> CallKind {
-        CallKind::Max
-    }
-
-    fn take(&self, answer: Answer<Reading, Writing>) -> Option<i64> {
+    fn take(&self, answer: Answer<Reading, Writing>) -> Result<i64, Answer<Reading, Writing>> {
         match answer {
             Answer::Came {
                 round: _,
                 fold: Fold::Max(value),
-            } => Some(value),
-            other => {
-                let_go(other);
-                None
-            }
+            } => Ok(value),
+            other => Err(other),
         }
     }
 }

@@ -15,33 +15,13 @@ use std::thread;
 pub(crate) struct Full;
 
 /// Whether an event fits. What else was in its way passes.
-fn full_if(answer: Result<(), TryFault>) -> Result<(), Full>
+pub(crate) fn full_if(answer: Result<(), TryFault>) -> Result<(), Full>
     ensures { OnErr result (answer ≡ Err (Step fault.Spent)) }
 {
     match answer {
         Err(TryFault::Step(StepFault::Spent)) => Err(Full),
         Ok(()) | Err(_) => Ok(()),
     }
-}
-
-/// The node handles the first piece of its inbox, if that can be done now.
-fn move_in<N: Member>(cluster: &Cluster<N, ()>, pass: &mut Pass, node: NodeNo) -> Result<(), Full>
-    requires here { IsOf cluster.now pass.old }
-    requires node { node < node_count cluster.now }
-    ensures here { IsOf cluster.now pass.new }
-    ensures told { MatchResult result (λ _. Moves (view_of pass.old) (view_of pass.new)) (λ _. MovesToTheEnd (view_of pass.old) (view_of pass.new)) }
-{
-    full_if(cluster.try_handle(pass, node, 0))
-}
-
-/// The first piece of the node's outbox is carried, if that can be done now.
-fn move_out<N: Member>(cluster: &Cluster<N, ()>, pass: &mut Pass, node: NodeNo) -> Result<(), Full>
-    requires here { IsOf cluster.now pass.old }
-    requires node { node < node_count cluster.now }
-    ensures here { IsOf cluster.now pass.new }
-    ensures told { MatchResult result (λ _. Moves (view_of pass.old) (view_of pass.new)) (λ _. MovesToTheEnd (view_of pass.old) (view_of pass.new)) }
-{
-    full_if(cluster.try_carry(pass, node, 0))
 }
 
 /// The first piece of each of the node's boxes goes on, where that can be done now.
@@ -51,8 +31,8 @@ fn move_at<N: Member>(cluster: &Cluster<N, ()>, pass: &mut Pass, node: NodeNo) -
     ensures here { IsOf cluster.now pass.new }
     ensures told { MatchResult result (λ _. Moves (view_of pass.old) (view_of pass.new)) (λ _. MovesToTheEnd (view_of pass.old) (view_of pass.new)) }
 {
-    match move_in(cluster, pass, node) {
-        Ok(()) => move_out(cluster, pass, node),
+    match full_if(cluster.try_handle(pass, node, 0)) {
+        Ok(()) => full_if(cluster.try_carry(pass, node, 0)),
         Err(Full) => Err(Full),
     }
 }

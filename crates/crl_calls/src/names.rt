@@ -1,14 +1,14 @@
 //! The calls about regions: they are made, mapped, flushed, unmapped and deleted.
-ghost use Rattle.std.specs.Prelude.{◌≡◌, MatchResult};
+ghost use Rattle.std.specs.Prelude.{◌≡◌};
 ghost use Rattle.crl_model.specs.declared.call.Call.TheVariants as call;
 ghost use Rattle.crl_protocol.specs.Node as node;
 ghost use Rattle.crl_cluster.specs.Clusters.{shape_of};
-ghost use Rattle.crl_calls.specs.Callers.{IsCallerOf, IsAnswered, IsFaulted};
+ghost use Rattle.crl_calls.specs.Callers.{IsCallerOf, Tells};
 
 use crate::asking::ask;
 use crate::caller::Caller;
 use crate::faults::CallFault;
-use crate::forms::{Creates, Does, Maps};
+use crate::forms::{Creates, GivesNothing, Maps};
 use crl_cluster::Cluster;
 use crl_member::Member;
 use crl_model::call::{Call, CallKind};
@@ -49,11 +49,10 @@ pub fn rgn_create<R: Wait, N: Member>(
 ) -> Result<Name, CallFault>
     requires caller { IsCallerOf cluster.now who.old }
     ensures caller { IsCallerOf cluster.now who.new }
-    ensures told { let s = shape_of cluster.now in
-        let c = call.Create size in
-        MatchResult result (λ name. IsAnswered s c who.old (λ _ answer. answer ≡ node.Made name) who.new) (λ why. IsFaulted s c who.old why who.new) }
+    ensures told { Tells (shape_of cluster.now) (call.Create size) who.old (λ name answer. answer ≡ node.Made name) result who.new }
 {
-    ask(rt, cluster, who, Call::Create { size }, Creates)
+    let call = Call::Create { size };
+    ask(rt, cluster, who, call, CallKind::Create, Creates)
 }
 
 /// Ends the region, and waits until no node has it in its cache.
@@ -69,14 +68,10 @@ pub fn rgn_delete<R: Wait, N: Member>(
 ) -> Result<(), CallFault>
     requires caller { IsCallerOf cluster.now who.old }
     ensures caller { IsCallerOf cluster.now who.new }
-    ensures told { let s = shape_of cluster.now in
-        let c = call.Delete name in
-        MatchResult result (λ _. IsAnswered s c who.old (λ _ answer. answer ≡ node.Done) who.new) (λ why. IsFaulted s c who.old why who.new) }
+    ensures told { Tells (shape_of cluster.now) (call.Delete name) who.old (λ _ answer. answer ≡ node.Done) result who.new }
 {
-    let form = Does {
-        word: CallKind::Delete,
-    };
-    ask(rt, cluster, who, Call::Delete { name }, form)
+    let call = Call::Delete { name };
+    ask(rt, cluster, who, call, CallKind::Delete, GivesNothing)
 }
 
 /// Lets the caller's node use the region. Maps are counted.
@@ -92,13 +87,10 @@ pub fn rgn_map<R: Wait, N: Member>(
 ) -> Result<Mapped, CallFault>
     requires caller { IsCallerOf cluster.now who.old }
     ensures caller { IsCallerOf cluster.now who.new }
-    ensures told { let s = shape_of cluster.now in
-        let c = call.Map name in
-        MatchResult result
-        (λ mapped. IsAnswered s c who.old (λ _ answer. (mapped.name ≡ name) × (answer ≡ node.Mapped name mapped.size)) who.new)
-        (λ why. IsFaulted s c who.old why who.new) }
+    ensures told { Tells (shape_of cluster.now) (call.Map name) who.old (λ mapped answer. (mapped.name ≡ name) × (answer ≡ node.Mapped name mapped.size)) result who.new }
 {
-    ask(rt, cluster, who, Call::Map { name }, Maps { name })
+    let call = Call::Map { name };
+    ask(rt, cluster, who, call, CallKind::Map, Maps { name })
 }
 
 /// Undoes one map.
@@ -114,14 +106,10 @@ pub fn rgn_unmap<R: Wait, N: Member>(
 ) -> Result<(), CallFault>
     requires caller { IsCallerOf cluster.now who.old }
     ensures caller { IsCallerOf cluster.now who.new }
-    ensures told { let s = shape_of cluster.now in
-        let c = call.Unmap name in
-        MatchResult result (λ _. IsAnswered s c who.old (λ _ answer. answer ≡ node.Done) who.new) (λ why. IsFaulted s c who.old why who.new) }
+    ensures told { Tells (shape_of cluster.now) (call.Unmap name) who.old (λ _ answer. answer ≡ node.Done) result who.new }
 {
-    let form = Does {
-        word: CallKind::Unmap,
-    };
-    ask(rt, cluster, who, Call::Unmap { name }, form)
+    let call = Call::Unmap { name };
+    ask(rt, cluster, who, call, CallKind::Unmap, GivesNothing)
 }
 
 /// Sends the node's copy of the region back to its home.
@@ -137,12 +125,8 @@ pub fn rgn_flush<R: Wait, N: Member>(
 ) -> Result<(), CallFault>
     requires caller { IsCallerOf cluster.now who.old }
     ensures caller { IsCallerOf cluster.now who.new }
-    ensures told { let s = shape_of cluster.now in
-        let c = call.Flush name in
-        MatchResult result (λ _. IsAnswered s c who.old (λ _ answer. answer ≡ node.Done) who.new) (λ why. IsFaulted s c who.old why who.new) }
+    ensures told { Tells (shape_of cluster.now) (call.Flush name) who.old (λ _ answer. answer ≡ node.Done) result who.new }
 {
-    let form = Does {
-        word: CallKind::Flush,
-    };
-    ask(rt, cluster, who, Call::Flush { name }, form)
+    let call = Call::Flush { name };
+    ask(rt, cluster, who, call, CallKind::Flush, GivesNothing)
 }

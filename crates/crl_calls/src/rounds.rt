@@ -1,20 +1,20 @@
 //! The collective calls: each caller comes to its next round, and waits until all have come.
-ghost use Rattle.std.specs.Prelude.{◌≡◌, ℕ, List, MatchResult};
+ghost use Rattle.std.specs.Prelude.{◌≡◌, ℕ, List};
 ghost use Rattle.crl_model.specs.declared.call.Call.TheVariants as call;
 ghost use Rattle.crl_model.specs.declared.collective.Part.TheVariants as part;
 ghost use Rattle.crl_model.specs.declared.collective.Fold.TheVariants as fold;
 ghost use Rattle.crl_protocol.specs.Node as node;
 ghost use Rattle.crl_cluster.specs.Clusters.{shape_of};
-ghost use Rattle.crl_calls.specs.Callers.{IsCallerOf, IsAnswered, IsFaulted};
+ghost use Rattle.crl_calls.specs.Callers.{IsCallerOf, Tells};
 
 use crate::asking::ask;
 use crate::caller::Caller;
 use crate::faults::CallFault;
-use crate::forms::{Barriers, Maxs, Mins, Receives, Sends, Sums};
+use crate::forms::{Barriers, Greatests, Leasts, Receives, Sends, Sums};
 use crl_cluster::Cluster;
 use crl_member::Member;
 use crl_model::bytes::Bytes;
-use crl_model::call::Call;
+use crl_model::call::{Call, CallKind};
 use crl_model::collective::Part;
 use std::sync::Wait;
 
@@ -30,19 +30,15 @@ pub fn rgn_barrier<R: Wait, N: Member>(
 ) -> Result<(), CallFault>
     requires caller { IsCallerOf cluster.now who.old }
     ensures caller { IsCallerOf cluster.now who.new }
-    ensures told { let s = shape_of cluster.now in
-        let c = call.Come part.Barrier in
-        MatchResult result
-        (λ _. IsAnswered s c who.old (λ _ answer. (round : ℕ) × (answer ≡ node.Came round fold.Barrier)) who.new)
-        (λ why. IsFaulted s c who.old why who.new) }
+    ensures told { Tells (shape_of cluster.now) (call.Come part.Barrier) who.old (λ _ answer. (round : ℕ) × (answer ≡ node.Came round fold.Barrier)) result who.new }
 {
+    let part = Part::Barrier;
     ask(
         rt,
         cluster,
         who,
-        Call::Come {
-            part: Part::Barrier,
-        },
+        Call::Come { part },
+        CallKind::Barrier,
         Barriers,
     )
 }
@@ -60,21 +56,10 @@ pub fn rgn_bcast_send<R: Wait, N: Member>(
 ) -> Result<(), CallFault>
     requires caller { IsCallerOf cluster.now who.old }
     ensures caller { IsCallerOf cluster.now who.new }
-    ensures told { let s = shape_of cluster.now in
-        let c = call.Come (part.Send bytes) in
-        MatchResult result
-        (λ _. IsAnswered s c who.old (λ _ answer. (round : ℕ) × (sent : List ℕ) × (answer ≡ node.Came round (fold.Broadcast sent))) who.new)
-        (λ why. IsFaulted s c who.old why who.new) }
+    ensures told { Tells (shape_of cluster.now) (call.Come (part.Send bytes)) who.old (λ _ answer. (round : ℕ) × (sent : List ℕ) × (answer ≡ node.Came round (fold.Broadcast sent))) result who.new }
 {
-    ask(
-        rt,
-        cluster,
-        who,
-        Call::Come {
-            part: Part::Send(bytes),
-        },
-        Sends,
-    )
+    let part = Part::Send(bytes);
+    ask(rt, cluster, who, Call::Come { part }, CallKind::Send, Sends)
 }
 
 /// Receives the bytes that one caller sends in this round.
@@ -89,19 +74,15 @@ pub fn rgn_bcast_recv<R: Wait, N: Member>(
 ) -> Result<Bytes, CallFault>
     requires caller { IsCallerOf cluster.now who.old }
     ensures caller { IsCallerOf cluster.now who.new }
-    ensures told { let s = shape_of cluster.now in
-        let c = call.Come part.Receive in
-        MatchResult result
-        (λ bytes. IsAnswered s c who.old (λ _ answer. (round : ℕ) × (answer ≡ node.Came round (fold.Broadcast bytes))) who.new)
-        (λ why. IsFaulted s c who.old why who.new) }
+    ensures told { Tells (shape_of cluster.now) (call.Come part.Receive) who.old (λ bytes answer. (round : ℕ) × (answer ≡ node.Came round (fold.Broadcast bytes))) result who.new }
 {
+    let part = Part::Receive;
     ask(
         rt,
         cluster,
         who,
-        Call::Come {
-            part: Part::Receive,
-        },
+        Call::Come { part },
+        CallKind::Receive,
         Receives,
     )
 }
@@ -119,21 +100,10 @@ pub fn rgn_reduce_sum<R: Wait, N: Member>(
 ) -> Result<i128, CallFault>
     requires caller { IsCallerOf cluster.now who.old }
     ensures caller { IsCallerOf cluster.now who.new }
-    ensures told { let s = shape_of cluster.now in
-        let c = call.Come (part.Sum value) in
-        MatchResult result
-        (λ given. IsAnswered s c who.old (λ _ answer. (round : ℕ) × (answer ≡ node.Came round (fold.Sum given))) who.new)
-        (λ why. IsFaulted s c who.old why who.new) }
+    ensures told { Tells (shape_of cluster.now) (call.Come (part.Sum value)) who.old (λ given answer. (round : ℕ) × (answer ≡ node.Came round (fold.Sum given))) result who.new }
 {
-    ask(
-        rt,
-        cluster,
-        who,
-        Call::Come {
-            part: Part::Sum(value),
-        },
-        Sums,
-    )
+    let part = Part::Sum(value);
+    ask(rt, cluster, who, Call::Come { part }, CallKind::Sum, Sums)
 }
 
 /// The least of all callers' values.
@@ -149,21 +119,10 @@ pub fn rgn_reduce_min<R: Wait, N: Member>(
 ) -> Result<i64, CallFault>
     requires caller { IsCallerOf cluster.now who.old }
     ensures caller { IsCallerOf cluster.now who.new }
-    ensures told { let s = shape_of cluster.now in
-        let c = call.Come (part.Min value) in
-        MatchResult result
-        (λ given. IsAnswered s c who.old (λ _ answer. (round : ℕ) × (answer ≡ node.Came round (fold.Min given))) who.new)
-        (λ why. IsFaulted s c who.old why who.new) }
+    ensures told { Tells (shape_of cluster.now) (call.Come (part.Min value)) who.old (λ given answer. (round : ℕ) × (answer ≡ node.Came round (fold.Min given))) result who.new }
 {
-    ask(
-        rt,
-        cluster,
-        who,
-        Call::Come {
-            part: Part::Min(value),
-        },
-        Mins,
-    )
+    let part = Part::Min(value);
+    ask(rt, cluster, who, Call::Come { part }, CallKind::Min, Leasts)
 }
 
 /// The greatest of all callers' values.
@@ -179,19 +138,15 @@ pub fn rgn_reduce_max<R: Wait, N: Member>(
 ) -> Result<i64, CallFault>
     requires caller { IsCallerOf cluster.now who.old }
     ensures caller { IsCallerOf cluster.now who.new }
-    ensures told { let s = shape_of cluster.now in
-        let c = call.Come (part.Max value) in
-        MatchResult result
-        (λ given. IsAnswered s c who.old (λ _ answer. (round : ℕ) × (answer ≡ node.Came round (fold.Max given))) who.new)
-        (λ why. IsFaulted s c who.old why who.new) }
+    ensures told { Tells (shape_of cluster.now) (call.Come (part.Max value)) who.old (λ given answer. (round : ℕ) × (answer ≡ node.Came round (fold.Max given))) result who.new }
 {
+    let part = Part::Max(value);
     ask(
         rt,
         cluster,
         who,
-        Call::Come {
-            part: Part::Max(value),
-        },
-        Maxs,
+        Call::Come { part },
+        CallKind::Max,
+        Greatests,
     )
 }

@@ -1,9 +1,9 @@
 //! The calls about sections: they are started, which gives a guard, and ended by the guard.
-ghost use Rattle.std.specs.Prelude.{◌≡◌, IfOk, MatchResult};
+ghost use Rattle.std.specs.Prelude.{◌≡◌, IfOk};
 ghost use Rattle.crl_model.specs.declared.call.Call.TheVariants as call;
 ghost use Rattle.crl_protocol.specs.Node as node;
 ghost use Rattle.crl_cluster.specs.Clusters.{shape_of};
-ghost use Rattle.crl_calls.specs.Callers.{knows, IsCallerOf, IsAnswered, IsFaulted, EndsSection, IsNotEnded, may_end_read, may_end_write};
+ghost use Rattle.crl_calls.specs.Callers.{knows, IsCallerOf, Tells, TellsEnd, may_end_read, may_end_write};
 ghost use Rattle.crl_calls.specs.Shown.{ShowsArray};
 
 use crate::asking::ask;
@@ -14,7 +14,7 @@ use crate::forms::{StartsRead, StartsWrite};
 use crl_cluster::Cluster;
 use crl_guard::{Reading, Writing};
 use crl_member::Member;
-use crl_model::call::Call;
+use crl_model::call::{Call, CallKind};
 use crl_model::name::Name;
 use std::sync::Wait;
 
@@ -31,20 +31,12 @@ pub fn rgn_start_read<R: Wait, N: Member>(
 ) -> Result<Reading, CallFault>
     requires caller { IsCallerOf cluster.now who.old }
     ensures caller { IsCallerOf cluster.now who.new }
-    ensures told { let s = shape_of cluster.now in
-        let c = call.StartRead name in
-        MatchResult result
-        (λ guard. IsAnswered s c who.old (λ _ answer. (guard.name ≡ name) × (answer ≡ node.Reading guard)) who.new)
-        (λ why. IsFaulted s c who.old why who.new) }
+    ensures told { Tells (shape_of cluster.now) (call.StartRead name) who.old (λ guard answer. (guard.name ≡ name) × (answer ≡ node.Reading guard)) result who.new }
     ensures shows { IfOk result (λ guard. ShowsArray (shape_of cluster.now) (knows who.new).front guard) }
 {
-    ask(
-        rt,
-        cluster,
-        who,
-        Call::StartRead { name },
-        StartsRead { name },
-    )
+    let call = Call::StartRead { name };
+    let form = StartsRead { name };
+    ask(rt, cluster, who, call, CallKind::Read, form)
 }
 
 /// Opens a write section, which excludes all other sections of the region. Its guard begins with the region's bytes.
@@ -60,20 +52,12 @@ pub fn rgn_start_write<R: Wait, N: Member>(
 ) -> Result<Writing, CallFault>
     requires caller { IsCallerOf cluster.now who.old }
     ensures caller { IsCallerOf cluster.now who.new }
-    ensures told { let s = shape_of cluster.now in
-        let c = call.StartWrite name in
-        MatchResult result
-        (λ guard. IsAnswered s c who.old (λ _ answer. (guard.name ≡ name) × (answer ≡ node.Writing guard)) who.new)
-        (λ why. IsFaulted s c who.old why who.new) }
+    ensures told { Tells (shape_of cluster.now) (call.StartWrite name) who.old (λ guard answer. (guard.name ≡ name) × (answer ≡ node.Writing guard)) result who.new }
     ensures shows { IfOk result (λ guard. ShowsArray (shape_of cluster.now) (knows who.new).front guard) }
 {
-    ask(
-        rt,
-        cluster,
-        who,
-        Call::StartWrite { name },
-        StartsWrite { name },
-    )
+    let call = Call::StartWrite { name };
+    let form = StartsWrite { name };
+    ask(rt, cluster, who, call, CallKind::Write, form)
 }
 
 /// Ends the newest read section of the guard's region. It takes no memory.
@@ -89,11 +73,7 @@ pub fn rgn_end_read<R: Wait, N: Member>(
 ) -> Result<(), EndFault<Reading>>
     requires caller { IsCallerOf cluster.now who.old }
     ensures caller { IsCallerOf cluster.now who.new }
-    ensures told { let s = shape_of cluster.now in
-        let c = call.EndRead guard.name in
-        MatchResult result
-        (λ _. EndsSection s c (λ n. may_end_read n guard) who.old who.new)
-        (λ back. (back.guard ≡ guard) × IsNotEnded s (λ n. may_end_read n guard) who.old back.why who.new) }
+    ensures told { TellsEnd (shape_of cluster.now) (call.EndRead guard.name) (λ n. may_end_read n guard) who.old guard result who.new }
 {
     end_at_last(rt, cluster, who, guard)
 }
@@ -111,11 +91,7 @@ pub fn rgn_end_write<R: Wait, N: Member>(
 ) -> Result<(), EndFault<Writing>>
     requires caller { IsCallerOf cluster.now who.old }
     ensures caller { IsCallerOf cluster.now who.new }
-    ensures told { let s = shape_of cluster.now in
-        let c = call.EndWrite guard.name guard.bytes in
-        MatchResult result
-        (λ _. EndsSection s c (λ n. may_end_write n guard) who.old who.new)
-        (λ back. (back.guard ≡ guard) × IsNotEnded s (λ n. may_end_write n guard) who.old back.why who.new) }
+    ensures told { TellsEnd (shape_of cluster.now) (call.EndWrite guard.name guard.bytes) (λ n. may_end_write n guard) who.old guard result who.new }
 {
     end_at_last(rt, cluster, who, guard)
 }

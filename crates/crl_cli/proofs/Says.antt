@@ -1,5 +1,5 @@
 -- What is said of the bytes that were read, from what is said of their parts.
-use Rattle.std.proofs.Common.{◌≡◌, ◌≤◌, ◌<◌, ◌+◌, ◌∙◌, refl, ℕ, suc, Bool, true, false, true≢false, if◌then◌else◌, List, [], ◌∷◌, length, sym, subst, ap, arith, length-append, Ok, Err}
+use Rattle.std.proofs.Common.{◌≡◌, ◌≤◌, ◌+◌, ◌∙◌, refl, ℕ, Bool, true, false, true≢false, if◌then◌else◌, List, [], length, sym, subst, ap, Ok, Err}
 use Rattle.std.specs.Prelude.{IfOk, Result, None, Some, unwrap_or}
 use Rattle.std.specs.declared.option.Option.{Option}
 use Rattle.std.specs.Io.KnownBytes.{Appends}

@@ -11,7 +11,7 @@ use Rattle.crl_cli.specs.declared.outcome.Outcome.{Outcome}
 use Rattle.crl_cli.specs.declared.status.Status.{Status}
 use Rattle.crl_cli.specs.declared.status.Status.TheVariants as status
 use Rattle.crl_cli.specs.Outcome.{Asked, asked, Comes, IsInput}
-use Rattle.crl_cli.specs.Runs.{IsRun}
+use Rattle.crl_cli.specs.Runs.{IsAccountOfScript}
 
 -- The text of the status was printed whole; a fault of the sink left a first part of the text of some
 -- status; without memory nothing is said here.
@@ -31,7 +31,7 @@ pub record IsHeadline (words : ℕ → ℕ) (stuck : Bool) (left later held held
   pub bytes : List ℕ
   pub text : List ℕ
   pub input : IsInput SCRIPT_LIMIT left later bytes
-  pub run : IsRun words stuck bytes text
+  pub run : IsAccountOfScript words stuck bytes text
   pub shown : Appends held held_later text
 
 -- It comes with status 0 of a run that isn't stuck, and with status 3 of one that is.

@@ -17,7 +17,7 @@ use Rattle.crl_commands.specs.declared.command.Recipe.{Recipe}
 use Rattle.crl_cli.specs.declared.TheConstants.{SCRIPT_LIMIT, ACCOUNT_LIMIT}
 use Rattle.crl_cli.specs.declared.status.Status.{Status}
 use Rattle.crl_cli.specs.declared.status.Status.TheVariants as status
-use Rattle.crl_cli.specs.Runs.{IsAccountOf, IsRun, IsMade, IsSummary}
+use Rattle.crl_cli.specs.Runs.{IsAccountOf, IsAccountOfScript, IsMade, IsSummary}
 use Rattle.crl_cli.specs.Texts.{usage_text, read_fault_text, bad_script_text, why_word, too_long_text, legal_text, illegal_text, bad_account_text}
 
 -- whether the command reads a text, and the most bytes that it may have
@@ -83,8 +83,8 @@ pub data IsBadAccount (bytes : List ℕ) : List ℕ → Type 0 where
 
 -- what a command says of the bytes that were read
 abbrev pub SaysOrder : (ℕ → ℕ) → Status → List ℕ → List ℕ → Type 0
-SaysOrder words status.Ok bytes text = IsRun words false bytes text
-SaysOrder words status.Stuck bytes text = IsRun words true bytes text
+SaysOrder words status.Ok bytes text = IsAccountOfScript words false bytes text
+SaysOrder words status.Stuck bytes text = IsAccountOfScript words true bytes text
 SaysOrder words status.BadScript bytes text = IsBadScript bytes text
 SaysOrder words _ bytes text = ⊥
 

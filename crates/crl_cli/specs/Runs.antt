@@ -32,7 +32,7 @@ pub record IsAccountOf (program : Program) (words : ℕ → ℕ) (stuck : Bool) 
   pub judged : IsAccount (lines_of text) report.entries
 
 -- The bytes are a script, and the text is its account.
-pub record IsRun (words : ℕ → ℕ) (stuck : Bool) (bytes text : List ℕ) : Type 0 where
+pub record IsAccountOfScript (words : ℕ → ℕ) (stuck : Bool) (bytes text : List ℕ) : Type 0 where
   pub program : Program
   pub within : length bytes ≤ SCRIPT_LIMIT
   pub reads : script_of bytes ≡ Ok program

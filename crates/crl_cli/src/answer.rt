@@ -39,7 +39,8 @@ pub fn quiet<S: Source, K: Sink>(
     ensures headline { (order : orders.Order) → command_of (map string_bytes words.now) ≡ Some (command.Order order)
         → HasHeadline order (S.left source.old) (S.left source.new) (K.held sink.old) (K.held sink.new) result }
 
-    // Each status comes exactly where the table of causes says, with its text.
+    // Each status but those of wanting memory and of a failed write comes for its cause, with its text; at a failed write a
+    // beginning of such a text is in the sink.
     ensures prints { let c = quietly (command_of (map string_bytes words.now)) in
         Prints (asked c (S.left source.old) (S.left source.new) (S.faults source.old) (S.faults source.new)) (K.held sink.old) (K.held sink.new) result }
     ensures write_fault { result ≡ Status.WriteFault → Rose (K.faults sink.old) (K.faults sink.new) }

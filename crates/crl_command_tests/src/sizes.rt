@@ -71,6 +71,35 @@ events 21 messages 7
     Ok(())
 }
 
+// A region has 1 to 16,777,216 bytes. The one of 16 MiB is deleted, so that the account is short.
+#[test]
+fn regions_have_all_their_sizes(rt: HostRuntime) -> Result<(), OutOfMemory> {
+    let alloc = rt.alloc();
+    let script =
+        "nodes 1\nnode 0\ncreate a 1\ncreate b 65536\ncreate c 0\ncreate d 65537\ncreate e 16777216\ndelete e\n";
+    let mut zeros = String::new(alloc);
+    push_often(&mut zeros, "00", 65_536)?;
+    let wanted = format!(in alloc;
+        "\
+0|
+0 create 0:1 1
+0 create 0:2 65536
+0 refused create 0:3 BadSize
+0 create 0:4 65537
+0 create 0:5 16777216
+0 deleting 0:5
+0 deleted 0:5
+region 0:1 00
+region 0:2 {zeros}
+region 0:4 {zeros}00
+events 6 messages 0
+"
+    )?;
+    let seen = answered(alloc, "order first", script.as_bytes())?;
+    assert!(rt; seen.as_str() == wanted.as_str());
+    Ok(())
+}
+
 // A broadcast has at most 65,536 bytes.
 #[test]
 fn broadcasts_have_a_largest_size(rt: HostRuntime) -> Result<(), OutOfMemory> {

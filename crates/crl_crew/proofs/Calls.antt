@@ -1,18 +1,13 @@
 -- What a statement leads to: a change of the drafts, or a call for it.
-use Rattle.std.proofs.Common.{◌≡◌, refl, ◌&&◌, true, false, Option, Some, None, ℕ, List, length}
-use Rattle.crl_model.specs.declared.name.Name.{Name}
-use Rattle.crl_model.specs.declared.call.Call.{Call}
-use Rattle.crl_model.specs.declared.call.Call.TheVariants as call
-use Rattle.crl_model.specs.declared.call.Refusal.{Refusal}
+use Rattle.std.proofs.Common.{◌≡◌, refl, ◌&&◌, true, None, List}
 use Rattle.crl_model.specs.declared.statement.Statement.{Statement}
 use Rattle.crl_model.specs.declared.statement.Statement.TheVariants as statement
 use Rattle.crl_protocol.specs.Node.{Node, Answer, Made, Mapped, Reading, Writing, Done, Came, Refused, Wait}
 use Rattle.crl_protocol.specs.Verdict.{verdict}
-use Rattle.crl_protocol.specs.Chosen.{Actor, draft_of, call_with, call_of, is_change, is_allowed, after_change, takes_guard}
-use Rattle.crl_talk.specs.Script.{Drafts, drafts_given, Changes, puts, adds, CallsFor, plain, leaves, cant_leave, cant_change}
+use Rattle.crl_protocol.specs.Chosen.{Actor, call_of, is_change, is_allowed, after_change, takes_guard}
+use Rattle.crl_talk.specs.Script.{Drafts, drafts_given, Changes, puts, adds}
 use Rattle.crl_run.specs.Actors.{asked_call}
 use Rattle.crl_deeds.proofs.Laws.{allowed}
-use Rattle.crl_talk.proofs.Laws.{end_of, plain_of, refused}
 
 -- An allowed change, and the drafts after it.
 pub record IsChange (n : Node) (a : Actor) (s : Statement) : Type 0 where

@@ -76,8 +76,14 @@ fn make_act<N: Member, T: Luggage, R: Wait>(
 {
     match act {
         Act::Call(call) => call_and_keep(rt, nodes, pass, held, player, call),
-        Act::EndRead(guard) => end_reading(rt, nodes, pass, held, guard),
-        Act::EndWrite(guard) => end_writing(rt, nodes, pass, held, guard),
+        Act::EndRead(guard) => {
+            end_reading(rt, nodes, pass, held, guard);
+            Ok(())
+        }
+        Act::EndWrite(guard) => {
+            end_writing(rt, nodes, pass, held, guard);
+            Ok(())
+        }
         Act::Inside => Ok(()),
     }
 }

@@ -2,7 +2,7 @@
 //!
 //! A script's run is shorter than 2^62 events, where a history takes no more; what couldn't be appended is tried again
 //! whatever the reason.
-ghost use Rattle.std.specs.Prelude.{◌≡◌, true, None, IfOk, OnOk};
+ghost use Rattle.std.specs.Prelude.{◌≡◌, true, None, IfOk};
 ghost use Rattle.crl_model.specs.declared.call.Call.TheVariants as call;
 ghost use Rattle.crl_model.specs.declared.event.Event.TheVariants as event;
 ghost use Rattle.crl_protocol.specs.Node.{Done};
@@ -56,73 +56,53 @@ pub(crate) fn make_call<N: Member, T: Luggage, R: Wait>(
     unreachable!()
 }
 
-/// The held node ends the newest read section of the guard's region.
-///
-/// # Errors
-///
-/// `OutOfMemory`; the guard is let go.
+/// The held node ends the newest read section of the guard's region. It takes no memory.
 pub(crate) fn end_reading<N: Member, T: Luggage, R: Wait>(
     rt: &R,
     nodes: &Cluster<N, T>,
     pass: &mut Pass,
     held: &mut Held<N, T>,
     guard: Reading,
-) -> Result<(), OutOfMemory>
+)
     requires here { IsOf nodes.now pass.old }
     requires held { IsHeld N.state (shape_of nodes.now) (view_of pass.old) held.old }
     requires free { is_free (N.state held.old.behind.node).activity ≡ true }
     requires fits { GuardFits held.old.number (N.state held.old.behind.node) (act.EndRead guard) }
     ensures here { IsOf nodes.now pass.new }
     ensures told { let e = event.Call held.old.number (call.EndRead guard.name) in
-        OnOk result (IsEventOf N.state (shape_of nodes.now) e (view_of pass.old) held.old Done (view_of pass.new) held.new) }
+        IsEventOf N.state (shape_of nodes.now) e (view_of pass.old) held.old Done (view_of pass.new) held.new }
 {
     let mut guard = guard;
     for _ in rt.forever() {
         match nodes.end_read(pass, held, guard) {
-            Ok(()) => return Ok(()),
-            Err(NotDone { why, back }) => {
-                if matches!(why, StepFault::OutOfMemory) {
-                    back.discard();
-                    return Err(OutOfMemory);
-                }
-                guard = back;
-            }
+            Ok(()) => return,
+            Err(NotDone { why: _, back }) => guard = back,
         }
     }
     unreachable!()
 }
 
-/// The held node ends the write section of the guard's region, which has the guard's bytes from then on.
-///
-/// # Errors
-///
-/// `OutOfMemory`; the guard is let go.
+/// The held node ends the write section of the guard's region, which has the guard's bytes from then on. It takes no memory.
 pub(crate) fn end_writing<N: Member, T: Luggage, R: Wait>(
     rt: &R,
     nodes: &Cluster<N, T>,
     pass: &mut Pass,
     held: &mut Held<N, T>,
     guard: Writing,
-) -> Result<(), OutOfMemory>
+)
     requires here { IsOf nodes.now pass.old }
     requires held { IsHeld N.state (shape_of nodes.now) (view_of pass.old) held.old }
     requires free { is_free (N.state held.old.behind.node).activity ≡ true }
     requires fits { GuardFits held.old.number (N.state held.old.behind.node) (act.EndWrite guard) }
     ensures here { IsOf nodes.now pass.new }
     ensures told { let e = event.Call held.old.number (call.EndWrite guard.name guard.bytes) in
-        OnOk result (IsEventOf N.state (shape_of nodes.now) e (view_of pass.old) held.old Done (view_of pass.new) held.new) }
+        IsEventOf N.state (shape_of nodes.now) e (view_of pass.old) held.old Done (view_of pass.new) held.new }
 {
     let mut guard = guard;
     for _ in rt.forever() {
         match nodes.end_write(pass, held, guard) {
-            Ok(()) => return Ok(()),
-            Err(NotDone { why, back }) => {
-                if matches!(why, StepFault::OutOfMemory) {
-                    back.discard();
-                    return Err(OutOfMemory);
-                }
-                guard = back;
-            }
+            Ok(()) => return,
+            Err(NotDone { why: _, back }) => guard = back,
         }
     }
     unreachable!()

@@ -1,4 +1,4 @@
-//! The largest texts, lines and regions.
+//! The longest texts and lines.
 
 use crl_cases::trial::{answered, run, shown, words_of};
 use crl_model::OutOfMemory;
@@ -9,7 +9,7 @@ use std::alloc::Global;
 /// The most bytes that a script may have.
 const MOST: usize = 16_777_216;
 
-/// The bytes of the region.
+/// The bytes of the region, which one line puts.
 const LARGEST: usize = 65_536;
 
 /// The answer of `order first` to these bytes.

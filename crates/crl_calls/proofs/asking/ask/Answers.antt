@@ -12,5 +12,5 @@ returns-clause-caller g c =
 
 pub returns-clause-told : goal.returns-clause-told
 returns-clause-told g c =
-    asked_told (shape_of c.args.cluster.now) c.args.call (g.F.Form.gives c.args.form) (g.F.Form.word c.args.form) c.args.who.now _ c.answer_to-answer.result c.given.result
+    asked_told (shape_of c.args.cluster.now) c.args.call (g.F.Form.gives c.args.form) c.args.word c.args.who.now _ c.answer_to-answer.result c.given.result
     c.requires.word c.if-who.false refl c.finds_full-who.ensures c.answer_to-answer.ensures.told c.given.ensures

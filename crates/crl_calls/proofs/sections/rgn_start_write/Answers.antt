@@ -4,4 +4,4 @@ use Rattle.crl_calls.proofs.Shows.{shown_write}
 use Rattle.crl_calls.proofs.sections.rgn_start_write.Goals as goal
 
 pub returns-clause-shows : goal.returns-clause-shows
-returns-clause-shows g c = shown_write (shape_of c.args.cluster.now) (call.StartWrite c.args.name) c.args.who.now c.ask.new.who c.args.name _ c.ask.result c.ask.ensures.told
+returns-clause-shows g c = shown_write (shape_of c.args.cluster.now) (call.StartWrite c.args.name) c.args.who.now c.ask.new.who c.args.name c.ask.result c.ask.ensures.told

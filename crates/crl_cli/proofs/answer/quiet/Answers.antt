@@ -1,6 +1,5 @@
-use Rattle.std.proofs.Common.{sym, ap, ◌∙◌}
-use Rattle.std.proofs.lemmas.Result.{IfOk-weaker}
-use Rattle.crl_cli.specs.Outcome.{quietly, reads_any}
+use Rattle.std.proofs.Common.{ap}
+use Rattle.crl_cli.specs.Outcome.{quietly}
 use Rattle.crl_cli.proofs.Says.{answered, asked_so, headline, quiet_order}
 use Rattle.crl_cli.proofs.answer.quiet.Goals as goal
 
