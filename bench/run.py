@@ -17,6 +17,7 @@ from typing import NamedTuple
 RUNS = 7  # each script is run so often, and the best time counts
 MEBIBYTE = 1 << 20
 PIECE = 32_768  # of a region's bytes in a message
+MOST_SHORT_LINES = 22_369_000  # in an account of 2^28 bytes
 
 # What `summary` prints of these words, behind the nodes and the regions. Of other words the first run says it.
 SUMMARIES = {
@@ -295,8 +296,8 @@ def bench_wide(bench):
 def bench_check(bench):
     run = bench.compare(shared_account, 155_000, 2.3, ("check", "64"))
     bench.within(run, 3, 1024)
-    (run,) = bench.measure(short_lines, [5_000_000], ("check", "64"))
-    bench.check(run.memory <= 2 * 12 * 5_000_000, "at most twice the account")
+    (run,) = bench.measure(short_lines, [MOST_SHORT_LINES], ("check", "64"))
+    bench.check(run.memory <= 2 * 2**28, "at most twice the account")
     (run,) = bench.measure(creates, [830_000], ("check", "64"))
     bench.within(run, 0.6, 300)
     (run,) = bench.measure(large_creates, [10_000], ("check", "64"))
